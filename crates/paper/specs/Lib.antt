@@ -1,0 +1,10 @@
+-- The definitions, in the order in which to read them; then what follows from them.
+pub mod Job
+pub mod Leaders
+pub mod Layouts
+pub mod Refusals
+pub mod Canvas
+pub mod Promises
+pub mod Runs
+pub mod Sheets
+pub mod laws

@@ -1,0 +1,110 @@
+-- DEFINITIONS. 01, "The calls": what each call promises for every input, by cases of its answer, and the number that C gets.
+-- A call is given a job, numbers, and a lent list that holds `before` at entry and `after` at exit.
+use mathlib.Core.Path.{_≡_}
+use mathlib.Core.List.{List, [], _∷_, _++_}
+use Prim.Native.Nat.{ℕ, _+_, _*_, _≤_}
+use lib.ListN.{length, getD, drop}
+use lib.IntN.{ℤ, pos, negsuc, negℤ}
+use lib.Ieee.{Float}
+use Rattle.paper.specs.declared.Refusal.{Refusal}
+use Rattle.paper.specs.declared.Answer.{Answer}
+use Rattle.paper.specs.declared.Answer.the-variants.{Total, End, Refused}
+use Rattle.paper.specs.declared.Two.{Two}
+use Rattle.paper.specs.declared.Three.{Three}
+use Rattle.paper.specs.declared.Drawn.{Drawn}
+use Rattle.paper.specs.declared.Drawn.the-variants.{Straight, Bent, Refused as NotDrawn}
+use Rattle.paper.specs.Job.{count}
+use Rattle.paper.specs.Layouts.{boardOf, held, leader, weighted, total, FirstBest, NextBest, LastBest}
+use Rattle.paper.specs.Refusals.{Passed, RefusedBy, firstTrials, measureTrials, nextTrials, drawTrials}
+use Rattle.paper.specs.Canvas.{DrawnStraight, DrawnBent}
+
+-- ---- C's number for each answer
+
+-- refusal r with record i as -(65,536 × r + i)
+abbrev pub refusalNumber : Refusal → ℤ
+refusalNumber r = negℤ (pos (65536 * r .reason + r .at))
+
+-- the total as itself, end as -1
+abbrev pub number : Answer → ℤ
+number (Total t) = pos t
+number End = negsuc 0
+number (Refused r) = refusalNumber r
+
+-- Draw's number of points
+abbrev pub pointCount : Drawn → ℤ
+pointCount (Straight d) = pos 2
+pointCount (Bent d) = pos 3
+pointCount (NotDrawn r) = refusalNumber r
+
+-- ---- lent lists
+
+-- Entries from n on are never changed.
+pub record Kept (n : ℕ) (before after : List ℕ) : Type 0 where
+  pub long : length after ≡ length before
+  pub rest : (k : ℕ) → n ≤ k → getD after k 0 ≡ getD before k 0
+
+-- The points' coordinates, x before y.
+abbrev pub coordinates : Drawn → List Float
+coordinates (Straight d) = d .pad .x ∷ d .pad .y ∷ d .port .x ∷ d .port .y ∷ []
+coordinates (Bent d) = d .pad .x ∷ d .pad .y ∷ d .bend .x ∷ d .bend .y ∷ d .port .x ∷ d .port .y ∷ []
+coordinates (NotDrawn r) = []
+
+-- They fill the first places, and the places after those keep their content.
+abbrev pub overwritten : List Float → List Float → List Float
+overwritten cs before = cs ++ drop (length cs) before
+
+-- ---- the promises
+
+-- The total of the layout that a list holds.
+abbrev pub totalOf : List ℕ → ℕ → ℕ → List ℕ → ℕ
+totalOf job lw bw list = total (boardOf job) (weighted (boardOf job) lw bw) (held list)
+
+-- FIRST: the earliest best layout fills the first n entries, and the answer is its total.
+abbrev pub FirstAnswers : List ℕ → ℕ → ℕ → List ℕ → Answer → List ℕ → Type 0
+FirstAnswers job lw bw before (Total t) after =
+    Passed (firstTrials job lw bw (length before))
+    × FirstBest (boardOf job) (weighted (boardOf job) lw bw) (held after)
+    × (t ≡ totalOf job lw bw after)
+    × Kept (count job) before after
+FirstAnswers job lw bw before End after = ⊥
+FirstAnswers job lw bw before (Refused r) after = RefusedBy (firstTrials job lw bw (length before)) r × (after ≡ before)
+
+-- NEXT: the earliest best layout after the given one replaces it, and the answer is its total; or no best layout comes after the given one, and
+-- the answer is end.
+abbrev pub NextAnswers : List ℕ → ℕ → ℕ → List ℕ → Answer → List ℕ → Type 0
+NextAnswers job lw bw before (Total t) after =
+    Passed (nextTrials job lw bw before)
+    × NextBest (boardOf job) (weighted (boardOf job) lw bw) (held before) (held after)
+    × (t ≡ totalOf job lw bw after)
+    × Kept (count job) before after
+NextAnswers job lw bw before End after =
+    Passed (nextTrials job lw bw before) × LastBest (boardOf job) (weighted (boardOf job) lw bw) (held before) × (after ≡ before)
+NextAnswers job lw bw before (Refused r) after = RefusedBy (nextTrials job lw bw before) r × (after ≡ before)
+
+-- MEASURE: the total of an untouching layout, best or not. Its list is only read.
+abbrev pub MeasureAnswers : List ℕ → ℕ → ℕ → List ℕ → Answer → Type 0
+MeasureAnswers job lw bw list (Total t) = Passed (measureTrials job lw bw list) × (t ≡ totalOf job lw bw list)
+MeasureAnswers job lw bw list End = ⊥
+MeasureAnswers job lw bw list (Refused r) = RefusedBy (measureTrials job lw bw list) r
+
+-- DRAW: the leader of the pad of record i to port q.
+abbrev pub DrawAnswers : List ℕ → ℕ → ℕ → List Float → Drawn → List Float → Type 0
+DrawAnswers job i q before (Straight d) after =
+    Passed (drawTrials job i q (length before)) × DrawnStraight (leader (boardOf job) i q) d × (after ≡ overwritten (coordinates (Straight d)) before)
+DrawAnswers job i q before (Bent d) after =
+    Passed (drawTrials job i q (length before)) × DrawnBent (leader (boardOf job) i q) d × (after ≡ overwritten (coordinates (Bent d)) before)
+DrawAnswers job i q before (NotDrawn r) after = RefusedBy (drawTrials job i q (length before)) r × (after ≡ before)
+
+-- ---- what C sees: the number of such an answer, and the list
+
+abbrev pub FirstPromise : List ℕ → ℕ → ℕ → List ℕ → ℤ → List ℕ → Type 0
+FirstPromise job lw bw before n after = (a : Answer) × FirstAnswers job lw bw before a after × (n ≡ number a)
+
+abbrev pub NextPromise : List ℕ → ℕ → ℕ → List ℕ → ℤ → List ℕ → Type 0
+NextPromise job lw bw before n after = (a : Answer) × NextAnswers job lw bw before a after × (n ≡ number a)
+
+abbrev pub MeasurePromise : List ℕ → ℕ → ℕ → List ℕ → ℤ → Type 0
+MeasurePromise job lw bw list n = (a : Answer) × MeasureAnswers job lw bw list a × (n ≡ number a)
+
+abbrev pub DrawPromise : List ℕ → ℕ → ℕ → List Float → ℤ → List Float → Type 0
+DrawPromise job i q before n after = (d : Drawn) × DrawAnswers job i q before d after × (n ≡ pointCount d)

@@ -1,0 +1,126 @@
+-- DEFINITIONS. 01, "Refusal numbers": what is at fault for each number, and each call's trials, in the order in which they run.
+use mathlib.Core.Path.{_≡_}
+use mathlib.Core.Logic.{_≢_, _⊎_}
+use mathlib.Core.List.{List, [], _∷_, _++_}
+use Prim.Native.Nat.{ℕ, _-_, _%_, _≤_, _<_}
+use lib.ListN.{length}
+use lib.IntN.{ℤ, natAbs}
+use lib.Signed.{_≤ℤ_}
+use Rattle.paper.specs.declared.Refusal.{Refusal}
+use Rattle.paper.specs.Job.{count, nameOf, reservedOf, xOf, yOf, portOf}
+use Rattle.paper.specs.Layouts.{boardOf, held, Touching, Untouching, weighted, Best}
+
+-- ---- trials
+
+-- A trial: its refusal number, how many records it is tried at, and what puts record i at fault.
+pub record Trial : Type 1 where
+  pub reason : ℕ
+  pub among : ℕ
+  pub fault : ℕ → Type 0
+
+-- A fault of the input as a whole has record number 0.
+abbrev pub whole : Type 0 → ℕ → Type 0
+whole P i = P
+
+-- No record is at fault; record i is the first at fault.
+abbrev pub Clean : Trial → Type 0
+Clean t = (i : ℕ) → i < t .among → ¬ t .fault i
+
+pub record FirstFault (t : Trial) (i : ℕ) : Type 0 where
+  pub inside : i < t .among
+  pub here : t .fault i
+  pub none-before : (j : ℕ) → j < i → ¬ t .fault j
+
+-- Each trial is over the whole job before the next. All are passed; or the first that is not passed gives its number and its first record.
+abbrev pub Passed : List Trial → Type 0
+Passed [] = Unit {0}
+Passed (t ∷ ts) = Clean t × Passed ts
+
+abbrev pub RefusedBy : List Trial → Refusal → Type 0
+RefusedBy [] r = ⊥
+RefusedBy (t ∷ ts) r = ((r .reason ≡ t .reason) × FirstFault t (r .at)) ⊎ (Clean t × RefusedBy ts r)
+
+-- ---- faults
+
+-- R holds of record i and an earlier one.
+abbrev pub Earlier : (ℕ → ℕ → Type 0) → ℕ → Type 0
+Earlier R i = (j : ℕ) × (j < i) × R i j
+
+-- 1: the byte count is 0, not a multiple of 16, or above 1,024
+abbrev pub BadSize : List ℕ → Type 0
+BadSize job = (length job ≡ 0) ⊎ (length job % 16 ≢ 0) ⊎ (1024 < length job)
+
+-- 2: a weight is above 1,000
+abbrev pub BadWeight : ℕ → ℕ → Type 0
+BadWeight lw bw = (1000 < lw) ⊎ (1000 < bw)
+
+-- 4: a field is outside its range
+abbrev pub Outside : ℤ → Type 0
+Outside h = 1000000 < natAbs h
+
+abbrev pub BadField : List ℕ → ℕ → Type 0
+BadField job i =
+    (reservedOf job i ≢ 0) ⊎ (xOf job i < 1) ⊎ (1000000 < xOf job i) ⊎ Outside (yOf job i) ⊎ Outside (portOf job i)
+
+-- 5: a port height is not above the one before
+abbrev pub NotAbove : List ℕ → ℕ → Type 0
+NotAbove job i = (0 < i) × (portOf job i ≤ℤ portOf job (i - 1))
+
+-- 6: a nonzero name stood in an earlier record
+abbrev pub SameName : List ℕ → ℕ → ℕ → Type 0
+SameName job i j = (nameOf job i ≢ 0) × (nameOf job i ≡ nameOf job j)
+
+-- 7: an x stood in an earlier record
+abbrev pub SameX : List ℕ → ℕ → ℕ → Type 0
+SameX job i j = xOf job i ≡ xOf job j
+
+-- 8: a given entry is n or more, or stood earlier
+abbrev pub BadEntry : ℕ → List ℕ → ℕ → Type 0
+BadEntry n list i = (n ≤ held list i) ⊎ Earlier (λ i j. held list i ≡ held list j) i
+
+-- ---- each call's trials
+
+-- 4 to 7: the job's records
+abbrev pub jobTrials : List ℕ → List Trial
+jobTrials job =
+    record { reason = 4; among = count job; fault = BadField job } ∷
+    record { reason = 5; among = count job; fault = NotAbove job } ∷
+    record { reason = 6; among = count job; fault = Earlier (SameName job) } ∷
+    record { reason = 7; among = count job; fault = Earlier (SameX job) } ∷
+    []
+
+-- First, with room for so many entries
+abbrev pub firstTrials : List ℕ → ℕ → ℕ → ℕ → List Trial
+firstTrials job lw bw room =
+    record { reason = 1; among = 1; fault = whole (BadSize job) } ∷
+    record { reason = 2; among = 1; fault = whole (BadWeight lw bw) } ∷
+    record { reason = 3; among = 1; fault = whole (room < count job) } ∷
+    jobTrials job
+
+-- Measure
+abbrev pub measureTrials : List ℕ → ℕ → ℕ → List ℕ → List Trial
+measureTrials job lw bw list =
+    firstTrials job lw bw (length list) ++
+    (record { reason = 8; among = count job; fault = BadEntry (count job) list } ∷
+    record { reason = 9; among = count job; fault = Earlier (Touching (boardOf job) (held list)) } ∷
+    [])
+
+-- Next
+abbrev pub nextTrials : List ℕ → ℕ → ℕ → List ℕ → List Trial
+nextTrials job lw bw list =
+    measureTrials job lw bw list ++
+    (record {
+      reason = 10;
+      among = 1;
+      fault = whole (Untouching (boardOf job) (held list) × ¬ Best (boardOf job) (weighted (boardOf job) lw bw) (held list));
+    } ∷
+    [])
+
+-- Draw, of record i to port q with room for so many floats
+abbrev pub drawTrials : List ℕ → ℕ → ℕ → ℕ → List Trial
+drawTrials job i q room =
+    record { reason = 1; among = 1; fault = whole (BadSize job) } ∷
+    record { reason = 3; among = 1; fault = whole (room < 6) } ∷
+    jobTrials job ++
+    (record { reason = 11; among = 1; fault = whole ((count job ≤ i) ⊎ (count job ≤ q)) } ∷
+    [])

@@ -1,0 +1,51 @@
+// The types of the calls' answers. What they mean is in specs/: start at docs/READING.md.
+
+// Why a call refuses, by its number in 01, and the record at fault.
+pub struct Refusal {
+    pub reason: u16,
+    pub at: u16,
+}
+
+// What First, Next and Measure answer.
+pub enum Answer {
+    Total(u64),
+    End,
+    Refused(Refusal),
+}
+
+// A point of the canvas.
+pub struct Point {
+    pub x: f32,
+    pub y: f32,
+}
+
+// The points of a leader without a bend, and of one with a bend.
+pub struct Two {
+    pub pad: Point,
+    pub port: Point,
+}
+
+pub struct Three {
+    pub pad: Point,
+    pub bend: Point,
+    pub port: Point,
+}
+
+// What Draw answers.
+pub enum Drawn {
+    Straight(Two),
+    Bent(Three),
+    Refused(Refusal),
+}
+
+// What a search for a record finds.
+pub enum Found {
+    At(u16),
+    Nowhere,
+}
+
+// What the checks come to.
+pub enum Verdict {
+    Sound,
+    Refused(Refusal),
+}
