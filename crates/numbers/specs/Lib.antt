@@ -1,2 +1,4 @@
 pub mod Whole
 pub mod Tests
+pub mod Signs
+pub mod Floats

@@ -3,9 +3,9 @@ use mathlib.Core.Path.{_≡_, refl, sym, subst}
 use mathlib.Core.Logic.{_⊎_, inl, inr, ⊎-elim, _↔_}
 use mathlib.Core.Bool.{Bool, true, false, not, _&&_, _||_}
 use Prim.Native.Nat.{ℕ, _≤_, _<_}
-use lib.Dec.{T, T-not, not-T, ltb, leb, ltb→lt, lt→ltb, leb→le, le→leb}
+use lib.Dec.{T, T-not, not-T, ltb, leb, eqb, eqb→eq, eqb-refl, ltb→lt, lt→ltb, leb→le, le→leb}
 use lib.IntN.{ℤ}
-use lib.Signed.{leZ, _≤ℤ_}
+use lib.Signed.{leZ, ltZ, _≤ℤ_, _<ℤ_}
 
 pub both : (a b : Bool) → T (a && b) ↔ (T a × T b)
 both true b = ((λ t. (tt, t)), (λ t. t .1))
@@ -38,3 +38,10 @@ not-iff a f = ((λ t x. T-not a t (f .1 x)), (λ n. not-T a (λ t. n (f .0 t))))
 pub true-iff : {A : Type 0} (a : Bool) → T a ↔ A → (a ≡ true) ↔ A
 true-iff true f = ((λ e. f .0 tt), (λ x. refl))
 true-iff false f = ((λ e. f .0 (subst T (sym e) tt)), (λ x. absurd (f .1 x)))
+
+-- Equal numbers; a smaller whole number.
+pub eqb-iff : (a b : ℕ) → T (eqb a b) ↔ (a ≡ b)
+eqb-iff a b = (eqb→eq a b, λ e. subst (λ (c : ℕ). T (eqb a c)) e (eqb-refl a))
+
+pub lt-iff : (z w : ℤ) → T (ltZ z w) ↔ (z <ℤ w)
+lt-iff z w = ((λ t. record { lt = t }), (λ h. h .lt))

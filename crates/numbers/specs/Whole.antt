@@ -1,14 +1,14 @@
 -- Whole numbers for `omega`, which reads naturals alone. The integer z is up z - dn z; `omega whole` reads z ≤ w, z < w, z = w and |z - w| among the hypotheses and
 -- proves them as goals. Assumes nothing.
-use mathlib.Core.Path.{_≡_, refl, sym, ap, subst}
-use mathlib.Core.Logic.{_≢_, _⊎_, inl, inr, ⊎-elim, _↔_}
-use mathlib.Core.Bool.{Bool, true, false, cond, not, _&&_, _||_}
+use mathlib.Core.Path.{_≡_, refl, ap}
+use mathlib.Core.Logic.{_≢_, _⊎_, inl, inr}
+use mathlib.Core.Bool.{Bool, true, false, cond, not}
 use Prim.Native.Nat.{ℕ, zero, suc, _+_, _*_, _-_, _≤_, _<_}
 use native.Mathlib.Decide.{decLe, decLt}
 use native.Mathlib.Omega.{arith}
-use lib.Dec.{T, T-not, not-T, ltb, leb, ltb→lt, lt→ltb, nltb→le, leb→le, le→leb}
+use lib.Dec.{T, ltb, ltb→lt, lt→ltb, nltb→le, leb→le, le→leb}
 use lib.IntN.{ℤ, pos, negsuc, natAbs, negℤ, _-ℤ_, _+ℤ_, _*ℤ_, subℕ}
-use lib.Signed.{leZ, _≤ℤ_, _<ℤ_}
+use lib.Signed.{_≤ℤ_, _<ℤ_}
 
 -- how far apart two whole numbers are
 abbrev pub apart : ℤ → ℤ → ℕ
@@ -167,4 +167,3 @@ times-neg k z =
     num-eq (negℤ (pos k *ℤ negℤ z)) (pos k *ℤ z)
     (rw (neg-nums (pos k *ℤ negℤ z) .0, neg-nums (pos k *ℤ negℤ z) .1, times-up k (negℤ z), times-dn k (negℤ z), times-up k z, times-dn k z, neg-nums z .0, neg-nums z .1)
     refl)
-

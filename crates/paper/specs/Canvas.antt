@@ -6,7 +6,7 @@ use mathlib.Core.Bool.{Bool, true, false}
 use Prim.Native.Nat.{ℕ}
 use lib.Dec.{T}
 use lib.IntN.{ℤ, pos, negsuc, natAbs, negℤ}
-use lib.Ieee.{Float, Format, binary32, fits}
+use lib.Ieee.{Float, binary32, fits}
 use lib.Ieee.Exact.{HasValue}
 use Rattle.paper.specs.declared.Point.{Point}
 use Rattle.paper.specs.declared.Two.{Two}

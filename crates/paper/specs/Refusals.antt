@@ -80,47 +80,43 @@ BadEntry n list i = (n ≤ held list i) ⊎ Earlier (λ i j. held list i ≡ hel
 
 -- ---- each call's trials
 
+-- A trial of each of the job's records, and one of the input as a whole.
+abbrev pub ofEach : ℕ → List ℕ → (ℕ → Type 0) → Trial
+ofEach r job fault = record { reason = r; among = count job; fault = fault }
+
+abbrev pub ofWhole : ℕ → Type 0 → Trial
+ofWhole r P = record { reason = r; among = 1; fault = whole P }
+
 -- 4 to 7: the job's records
 abbrev pub jobTrials : List ℕ → List Trial
 jobTrials job =
-    record { reason = 4; among = count job; fault = BadField job } ∷
-    record { reason = 5; among = count job; fault = NotAbove job } ∷
-    record { reason = 6; among = count job; fault = Earlier (SameName job) } ∷
-    record { reason = 7; among = count job; fault = Earlier (SameX job) } ∷
-    []
+    ofEach 4 job (BadField job) ∷ ofEach 5 job (NotAbove job) ∷ ofEach 6 job (Earlier (SameName job)) ∷ ofEach 7 job (Earlier (SameX job)) ∷ []
 
--- First, with room for so many entries
+-- 8 and 9: the layout that the list holds. 9: a leader touches that of an earlier record
+abbrev pub layoutTrials : List ℕ → List ℕ → List Trial
+layoutTrials job list = ofEach 8 job (BadEntry (count job) list) ∷ ofEach 9 job (Earlier (Touching (boardOf job) (held list))) ∷ []
+
+-- 10: the given layout has no touching pair but isn't best
+abbrev pub bestTrial : List ℕ → ℕ → ℕ → List ℕ → Trial
+bestTrial job lw bw list =
+    ofWhole 10 (Untouching (boardOf job) (held list) × ¬ Best (boardOf job) (weighted (boardOf job) lw bw) (held list))
+
+-- 11: Draw's record or port number is n or more
+abbrev pub numberTrial : List ℕ → ℕ → ℕ → Trial
+numberTrial job i q = ofWhole 11 ((count job ≤ i) ⊎ (count job ≤ q))
+
+-- First, with room for so many entries: 1, 2 and 3 to 7
 abbrev pub firstTrials : List ℕ → ℕ → ℕ → ℕ → List Trial
-firstTrials job lw bw room =
-    record { reason = 1; among = 1; fault = whole (BadSize job) } ∷
-    record { reason = 2; among = 1; fault = whole (BadWeight lw bw) } ∷
-    record { reason = 3; among = 1; fault = whole (room < count job) } ∷
-    jobTrials job
+firstTrials job lw bw room = ofWhole 1 (BadSize job) ∷ ofWhole 2 (BadWeight lw bw) ∷ ofWhole 3 (room < count job) ∷ jobTrials job
 
--- Measure
+-- Measure: 1 to 9
 abbrev pub measureTrials : List ℕ → ℕ → ℕ → List ℕ → List Trial
-measureTrials job lw bw list =
-    firstTrials job lw bw (length list) ++
-    (record { reason = 8; among = count job; fault = BadEntry (count job) list } ∷
-    record { reason = 9; among = count job; fault = Earlier (Touching (boardOf job) (held list)) } ∷
-    [])
+measureTrials job lw bw list = firstTrials job lw bw (length list) ++ layoutTrials job list
 
--- Next
+-- Next: 1 to 10
 abbrev pub nextTrials : List ℕ → ℕ → ℕ → List ℕ → List Trial
-nextTrials job lw bw list =
-    measureTrials job lw bw list ++
-    (record {
-      reason = 10;
-      among = 1;
-      fault = whole (Untouching (boardOf job) (held list) × ¬ Best (boardOf job) (weighted (boardOf job) lw bw) (held list));
-    } ∷
-    [])
+nextTrials job lw bw list = measureTrials job lw bw list ++ (bestTrial job lw bw list ∷ [])
 
--- Draw, of record i to port q with room for so many floats
+-- Draw, of record i to port q with room for so many floats: 1, 3 to 7 and 11
 abbrev pub drawTrials : List ℕ → ℕ → ℕ → ℕ → List Trial
-drawTrials job i q room =
-    record { reason = 1; among = 1; fault = whole (BadSize job) } ∷
-    record { reason = 3; among = 1; fault = whole (room < 6) } ∷
-    jobTrials job ++
-    (record { reason = 11; among = 1; fault = whole ((count job ≤ i) ⊎ (count job ≤ q)) } ∷
-    [])
+drawTrials job i q room = ofWhole 1 (BadSize job) ∷ ofWhole 3 (room < 6) ∷ jobTrials job ++ (numberTrial job i q ∷ [])

@@ -1,4 +1,31 @@
--- What follows from the definitions. No definition of the paper is here.
+-- What follows from the definitions; no definition of the paper is here.
+-- The code's tests and verdicts:
 pub mod Search
 pub mod Tests
 pub mod Verdicts
+-- Touching, totals, layouts and their order:
+pub mod Proper
+pub mod Touching
+pub mod Plane
+pub mod Totals
+pub mod Boards
+pub mod Order
+-- The refusals:
+pub mod Trials
+pub mod Judged
+pub mod Accepted
+pub mod Numbers
+-- Drawn points:
+pub mod Quarter
+pub mod Drawn
+-- Existence, by straightening and by trying every assignment:
+pub mod Existence
+pub mod Trying
+pub mod Rank
+pub mod Earliest
+pub mod Kept
+-- THE THEOREMS: determinacy, each promise can be met, demand 3, the sheets P1 to P12.
+pub mod Determined
+pub mod Met
+pub mod Demand
+pub mod Worked

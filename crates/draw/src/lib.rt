@@ -1,0 +1,91 @@
+// One leader for the canvas, in 32-bit floats, and its points in the list that a C program lends.
+use paper::Drawn;
+use paper::Point;
+use paper::Refusal;
+use paper::Three;
+use paper::Two;
+ghost use mathlib.Core.Path.{_≡_};
+ghost use Prim.Native.Nat.{_≤_};
+ghost use lib.ListN.{length};
+ghost use lib.IntN.{negℤ, natAbs};
+ghost use Rattle.paper.specs.Promises.{refusalNumber, pointCount, coordinates, overwritten};
+ghost use Rattle.paper.specs.laws.Quarter.{quarter};
+ghost use Rattle.paper.specs.laws.Drawn.{OnSheet, canvas, leaderDrawn};
+
+// A quarter of a whole number: a quarter of a canvas unit is one job unit. Exact below 2^24.
+fn quarter_of(v: i64) -> f32
+    requires { ⌜ natAbs v ≤ 1000000 ⌝ }
+    ensures { λ r. ⌜ r ≡ quarter v ⌝ }
+{
+    v as f32 * 0.25
+}
+
+// A height on the canvas, where y grows downward.
+fn downward(y: i64) -> i64
+    requires { ⌜ natAbs y ≤ 1000000 ⌝ }
+    ensures { λ r. ⌜ (r ≡ negℤ y) × (natAbs r ≤ 1000000) ⌝ }
+{
+    -y
+}
+
+// The point (x, y) of the sheet on the canvas. The height is reversed before the cast: after it,
+// height 0 would be drawn as -0.
+fn on_canvas(x: u32, y: i64) -> Point
+    requires { ⌜ (x ≤ 1000000) × (natAbs y ≤ 1000000) ⌝ }
+    ensures { λ r. ⌜ r ≡ canvas x y ⌝ }
+{
+    let down = downward(y);
+    Point {
+        x: quarter_of(x as i64),
+        y: quarter_of(down),
+    }
+}
+
+// The leader of a pad (x, y) to a port of height q.
+pub fn lead(x: u32, y: i64, q: i64) -> Drawn
+    requires { ⌜ OnSheet (record { x = x; y = y; port = q }) ⌝ }
+    ensures { λ r. ⌜ r ≡ leaderDrawn (record { x = x; y = y; port = q }) ⌝ }
+{
+    let pad = on_canvas(x, y);
+    let port = on_canvas(0, q);
+    if y == q {
+        Drawn::Straight(Two { pad, port })
+    } else {
+        let bend = on_canvas(x, q);
+        Drawn::Bent(Three { pad, bend, port })
+    }
+}
+
+// C's number of a refusal.
+pub fn refusal_number(f: Refusal) -> i64
+    ensures { λ r. ⌜ r ≡ refusalNumber f ⌝ }
+{
+    let n = 65536 * (f.reason as u64) + (f.at as u64);
+    -(n as i64)
+}
+
+// Writes the points' coordinates, x before y, and answers their number, or the refusal's.
+pub fn put(d: Drawn, out: &mut [f32]) -> i64
+    requires { ⌜ length (coordinates d) ≤ length (now out) ⌝ }
+    ensures { λ r. ⌜ (r ≡ pointCount d) × (now (out .exit) ≡ overwritten (coordinates d) (now (out .entry))) ⌝ }
+{
+    match d {
+        Drawn::Straight(p) => {
+            out[0] = p.pad.x;
+            out[1] = p.pad.y;
+            out[2] = p.port.x;
+            out[3] = p.port.y;
+            2
+        }
+        Drawn::Bent(p) => {
+            out[0] = p.pad.x;
+            out[1] = p.pad.y;
+            out[2] = p.bend.x;
+            out[3] = p.bend.y;
+            out[4] = p.port.x;
+            out[5] = p.port.y;
+            3
+        }
+        Drawn::Refused(f) => refusal_number(f),
+    }
+}

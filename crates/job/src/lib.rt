@@ -1,0 +1,101 @@
+// A job's bytes, read as numbers. The fields are those of paper's Job.antt; record numbers are 16 bits wide.
+ghost use mathlib.Core.Path.{_≡_};
+ghost use Prim.Native.Nat.{_+_, _*_, _<_, _≤_};
+ghost use lib.ListN.{length};
+ghost use lib.IntN.{natAbs};
+ghost use lib.Signed.{mag};
+ghost use Rattle.paper.specs.Job.{u16At, u32At, twos, count, nameOf, reservedOf, xOf, yOf, portOf};
+ghost use Rattle.paper.specs.Leaders.{distance};
+
+fn wide(x: u8) -> u16
+    ensures { λ r. ⌜ (r ≡ x) × (r < 256) ⌝ }
+{
+    x as u16
+}
+
+// The 2 bytes at k as a number.
+fn half(job: &[u8], k: usize) -> u16
+    requires { ⌜ k + 1 < length (now job) ⌝ }
+    ensures { λ r. ⌜ r ≡ u16At (now (job .entry)) k ⌝ }
+{
+    wide(job[k]) + 256 * wide(job[k + 1])
+}
+
+// The 4 bytes at k as a number.
+fn word(job: &[u8], k: usize) -> u32
+    requires { ⌜ k + 3 < length (now job) ⌝ }
+    ensures { λ r. ⌜ r ≡ u32At (now (job .entry)) k ⌝ }
+{
+    (half(job, k) as u32) + 65536 * (half(job, k + 2) as u32)
+}
+
+// A number of 32 bits, read as two's complement.
+fn signed(n: u32) -> i64
+    ensures { λ r. ⌜ (r ≡ twos n) × (mag r < 2147483648) ⌝ }
+{
+    if n < 2147483648 {
+        n as i64
+    } else {
+        (n as i64) - 4294967296
+    }
+}
+
+// A difference of heights without its sign.
+fn size(d: i64) -> u64
+    requires { ⌜ natAbs d < 4294967296 ⌝ }
+    ensures { λ r. ⌜ r ≡ natAbs d ⌝ }
+{
+    if d < 0 { (0 - d) as u64 } else { d as u64 }
+}
+
+// How far apart two heights are: the length of a hand from y to q.
+pub fn distance(y: i64, q: i64) -> u64
+    requires { ⌜ (mag y < 2147483648) × (mag q < 2147483648) ⌝ }
+    ensures { λ r. ⌜ (r ≡ distance y q) × (r < 4294967296) ⌝ }
+{
+    size(y - q)
+}
+
+// How many records the job has.
+pub fn records(job: &[u8]) -> u16
+    requires { ⌜ length (now job) ≤ 65536 ⌝ }
+    ensures { λ r. ⌜ r ≡ count (now (job .entry)) ⌝ }
+{
+    (job.len() / 16) as u16
+}
+
+// The fields of record i. A height fits 32 bits, so that the difference of two fits 64.
+pub fn name(job: &[u8], i: u16) -> u16
+    requires { ⌜ i < count (now job) ⌝ }
+    ensures { λ r. ⌜ r ≡ nameOf (now (job .entry)) i ⌝ }
+{
+    half(job, 16 * (i as usize))
+}
+
+pub fn reserved(job: &[u8], i: u16) -> u16
+    requires { ⌜ i < count (now job) ⌝ }
+    ensures { λ r. ⌜ r ≡ reservedOf (now (job .entry)) i ⌝ }
+{
+    half(job, 16 * (i as usize) + 2)
+}
+
+pub fn x(job: &[u8], i: u16) -> u32
+    requires { ⌜ i < count (now job) ⌝ }
+    ensures { λ r. ⌜ r ≡ xOf (now (job .entry)) i ⌝ }
+{
+    word(job, 16 * (i as usize) + 4)
+}
+
+pub fn y(job: &[u8], i: u16) -> i64
+    requires { ⌜ i < count (now job) ⌝ }
+    ensures { λ r. ⌜ (r ≡ yOf (now (job .entry)) i) × (mag r < 2147483648) ⌝ }
+{
+    signed(word(job, 16 * (i as usize) + 8))
+}
+
+pub fn port(job: &[u8], i: u16) -> i64
+    requires { ⌜ i < count (now job) ⌝ }
+    ensures { λ r. ⌜ (r ≡ portOf (now (job .entry)) i) × (mag r < 2147483648) ⌝ }
+{
+    signed(word(job, 16 * (i as usize) + 12))
+}

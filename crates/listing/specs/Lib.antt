@@ -1,0 +1,3 @@
+-- Calls: the definitions. Listing: the theorem.
+pub mod Calls
+pub mod Listing

@@ -1,0 +1,143 @@
+-- What a call may go by once its trials are passed.
+use mathlib.Core.Path.{_≡_, refl}
+use mathlib.Core.Logic.{_≢_, _⊎_, inl, inr, Dec·not-not}
+use mathlib.Core.List.{List, [], _∷_}
+use Prim.Native.Nat.{ℕ, zero, suc, _*_, _%_, _-_, _≤_, _<_}
+use native.Mathlib.Nat.{lt-of-not-le, le-of-suc-le-suc, not-suc-le-zero, eq-or-lt-of-le}
+use native.Mathlib.Decide.{ℕ-discrete}
+use native.Mathlib.Omega.{arith}
+use lib.ListN.{length}
+use lib.IntN.{natAbs}
+use lib.Signed.{_<ℤ_}
+use Rattle.numbers.specs.Whole.{whole, nle-num}
+use Rattle.paper.specs.declared.Refusal.{Refusal}
+use Rattle.paper.specs.Job.{count, reservedOf, xOf, yOf, portOf}
+use Rattle.paper.specs.Layouts.{boardOf, held, weighted, total, Layout, Untouching, Best}
+use Rattle.paper.specs.Refusals.{BadSize, BadEntry, Passed, RefusedBy, jobTrials, firstTrials, measureTrials, nextTrials, drawTrials, layoutTrials, bestTrial, numberTrial}
+use Rattle.paper.specs.laws.Proper.{Differ, Rising, Proper}
+use Rattle.paper.specs.laws.Trials.{passed-append, append-passed, refused-left, refused-right}
+use Rattle.paper.specs.laws.Judged.{passed-differ}
+use Rattle.paper.specs.laws.Totals.{total-bound}
+
+not-lt : {a b : ℕ} → ¬ (a < b) → b ≤ a
+not-lt n = omega arith
+
+-- An accepted job: 1 to 64 records, their fields in range, ports that rise and pads whose x differ.
+pub record Accepted (job : List ℕ) : Type 0 where
+  pub size : length job ≤ 1024
+  pub some : 0 < count job
+  pub few : count job ≤ 64
+  pub whole : 16 * count job ≡ length job
+  pub reserved : (i : ℕ) → i < count job → reservedOf job i ≡ 0
+  pub right : (i : ℕ) → i < count job → 1 ≤ xOf job i
+  pub width : (i : ℕ) → i < count job → xOf job i ≤ 1000000
+  pub pad : (i : ℕ) → i < count job → natAbs (yOf job i) ≤ 1000000
+  pub port : (i : ℕ) → i < count job → natAbs (portOf job i) ≤ 1000000
+  pub proper : Proper (boardOf job)
+
+-- 1 is passed: at most 64 records.
+pub few-records : (job : List ℕ) → ¬ BadSize job → count job ≤ 64
+few-records job size = let long = not-lt (λ l. size (inr (inr l))) in omega arith
+
+-- 5 is passed: port heights rise.
+pub passed-rising : (job : List ℕ) → Passed (jobTrials job) → Rising (boardOf job)
+passed-rising job passed a zero l k = absurd (not-suc-le-zero l)
+passed-rising job passed a (suc c) l k = go (passed-rising job passed a c) (eq-or-lt-of-le (le-of-suc-le-suc l))
+  where
+    above : portOf job c <ℤ portOf job (suc c)
+    above =
+        let e : suc c - 1 ≡ c = omega arith in
+        omega (whole, nle-num (portOf job (suc c)) (portOf job c) (λ h. passed .1 .0 (suc c) k (omega arith, rw e h)))
+
+    go : (a < c → c < count job → portOf job a <ℤ portOf job c) → (a ≡ c) ⊎ (a < c) → portOf job a <ℤ portOf job (suc c)
+    go before (inl e) = rw e above
+    go before (inr h) = omega (whole, before h (omega arith), above)
+
+job-accepted : (job : List ℕ) → ¬ BadSize job → Passed (jobTrials job) → Accepted job
+job-accepted job size passed =
+    let none : length job ≢ 0 = λ e. size (inl e) in
+    let rest = Dec·not-not (ℕ-discrete (length job % 16) 0) .0 (λ n. size (inr (inl n))) in
+    record {
+      size = not-lt (λ l. size (inr (inr l)));
+      some = omega arith;
+      few = few-records job size;
+      whole = omega arith;
+      reserved = λ i l. Dec·not-not (ℕ-discrete (reservedOf job i) 0) .0 (λ n. passed .0 i l (inl n));
+      right = λ i l. not-lt (λ h. passed .0 i l (inr (inl h)));
+      width = λ i l. not-lt (λ h. passed .0 i l (inr (inr (inl h))));
+      pad = λ i l. not-lt (λ h. passed .0 i l (inr (inr (inr (inl h)))));
+      port = λ i l. not-lt (λ h. passed .0 i l (inr (inr (inr (inr h)))));
+      proper = record { enough = omega arith; differ = passed-differ job passed; rising = passed-rising job passed };
+    }
+
+-- First's trials are passed: an accepted job, weights in range, and room for the layout.
+pub first-accepted : (job : List ℕ) (lw bw room : ℕ) → Passed (firstTrials job lw bw room)
+    → Accepted job × (lw ≤ 1000) × (bw ≤ 1000) × (count job ≤ room)
+first-accepted job lw bw room (c1, (c2, (c3, passed))) = (
+  job-accepted job (c1 0 (omega arith)) passed,
+  not-lt (λ h. c2 0 (omega arith) (inl h)),
+  not-lt (λ h. c2 0 (omega arith) (inr h)),
+  not-lt (c3 0 (omega arith)),
+)
+
+-- Draw's are passed: an accepted job, room for three points, and numbers of a record and of a port.
+pub draw-accepted : (job : List ℕ) (i q room : ℕ) → Passed (drawTrials job i q room) → Accepted job × (6 ≤ room) × (i < count job) × (q < count job)
+draw-accepted job i q room (c1, (c3, rest)) =
+    let (passed, (c11, _)) = append-passed (jobTrials job) (numberTrial job i q ∷ []) rest in (
+      job-accepted job (c1 0 (omega arith)) passed,
+      not-lt (c3 0 (omega arith)),
+      lt-of-not-le (λ h. c11 0 (omega arith) (inl h)),
+      lt-of-not-le (λ h. c11 0 (omega arith) (inr h)),
+    )
+
+-- 01: a total is at most 192,000,064,000.
+pub accepted-bound : (job : List ℕ) (lw bw : ℕ) → Accepted job → lw ≤ 1000 → bw ≤ 1000 → (f : ℕ → ℕ) → Layout (boardOf job) f
+    → total (boardOf job) (weighted (boardOf job) lw bw) f ≤ 192000064000
+accepted-bound job lw bw a h k f l = total-bound (boardOf job) lw bw h k (a .width) (a .pad) (a .port) f (a .few) (l .inside)
+
+module _ (job : List ℕ) (lw bw : ℕ) (list : List ℕ) where
+  -- Measure's are exactly if First's are and the list holds an untouching layout.
+  pub measure-accepted : Passed (measureTrials job lw bw list) → Passed (firstTrials job lw bw (length list)) × Untouching (boardOf job) (held list)
+  measure-accepted p =
+      let (passed, (c8, (c9, _))) = append-passed (firstTrials job lw bw (length list)) (layoutTrials job list) p in (
+        passed,
+        record {
+          layout = record { inside = λ i l. lt-of-not-le (λ h. c8 i l (inl h)); own = λ i j l k e. c8 i k (inr (j, l, e)) };
+          apart = λ i j l k t. c9 i k (j, l, t);
+        },
+      )
+
+  pub untouching-passed : Passed (firstTrials job lw bw (length list)) → Untouching (boardOf job) (held list) → Passed (measureTrials job lw bw list)
+  untouching-passed p u =
+      passed-append (firstTrials job lw bw (length list)) (layoutTrials job list) p (entries, ((λ i l (j, k, t). u .apart i j k l t), tt))
+    where
+      entries : (i : ℕ) → i < count job → ¬ BadEntry (count job) list i
+      entries i l (inl h) = omega (arith, u .layout .inside i l)
+      entries i l (inr (j, k, e)) = u .layout .own i j k l e
+
+  -- Next's are exactly if Measure's are and the list holds a best layout;
+  pub next-accepted : Dec (Best (boardOf job) (weighted (boardOf job) lw bw) (held list)) → Passed (nextTrials job lw bw list)
+      → Passed (measureTrials job lw bw list) × Best (boardOf job) (weighted (boardOf job) lw bw) (held list)
+  next-accepted d p =
+      let (passed, (c10, _)) = append-passed (measureTrials job lw bw list) (bestTrial job lw bw list ∷ []) p in
+      (passed, Dec·not-not d .0 (λ n. c10 0 (omega arith) (measure-accepted passed .1, n)))
+
+  pub best-passed : Passed (measureTrials job lw bw list) → Best (boardOf job) (weighted (boardOf job) lw bw) (held list) → Passed (nextTrials job lw bw list)
+  best-passed p b = passed-append (measureTrials job lw bw list) (bestTrial job lw bw list ∷ []) p ((λ i l (u, n). n b), tt)
+
+  -- if the layout is not a best one, Next refuses by 10.
+  pub not-best-refused : Passed (measureTrials job lw bw list) → ¬ Best (boardOf job) (weighted (boardOf job) lw bw) (held list)
+      → RefusedBy (nextTrials job lw bw list) (record { reason = 10; at = 0 })
+  not-best-refused p n =
+      refused-right (measureTrials job lw bw list) (bestTrial job lw bw list ∷ []) (record { reason = 10; at = 0 }) p
+      (inl (refl, record { inside = omega arith; here = (measure-accepted p .1, n); none-before = λ j l. absurd (omega arith) }))
+
+  -- What Measure refuses, Next refuses alike.
+  pub measure-refused : (r : Refusal) → RefusedBy (measureTrials job lw bw list) r → RefusedBy (nextTrials job lw bw list) r
+  measure-refused r = refused-left (measureTrials job lw bw list) (bestTrial job lw bw list ∷ []) r
+
+  -- Where Next's trials are passed, the x of all pads differ.
+  pub next-differ : Passed (nextTrials job lw bw list) → Differ (boardOf job)
+  next-differ p =
+      let (passed, _) = append-passed (measureTrials job lw bw list) (bestTrial job lw bw list ∷ []) p in
+      first-accepted job lw bw (length list) (measure-accepted passed .0) .0 .proper .differ

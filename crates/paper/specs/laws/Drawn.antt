@@ -1,0 +1,179 @@
+-- What is drawn of a leader: `leaderDrawn` satisfies the paper's words (`drawn-is`), and nothing else does (`drawn-only`). Assumes nothing.
+use mathlib.Core.Path.{_≡_, refl, ap}
+use mathlib.Core.Logic.{inl, inr}
+use mathlib.Core.Bool.{Bool, true, false, cond}
+use mathlib.Core.List.{List}
+use Prim.Native.Nat.{ℕ, _^_, _≤_, _<_, zero-le}
+use native.Mathlib.Nat.{le-trans, le-of-eq, lt-of-le-of-lt, le-of-suc-le-suc, lt-of-not-le}
+use borrow.Author.Tests.{eq-eqb, ne-eqb}
+use lib.Dec.{lit<, eqb}
+use lib.ListN.{length}
+use lib.IntN.{pos, negsuc, negℤ, natAbs, ℤ, ℤ-discrete}
+use lib.Ieee.{Float, fin, round}
+use Rattle.numbers.specs.Signs.{natAbs-neg, apart-zero, zero-apart}
+use Rattle.paper.specs.declared.Point.{Point}
+use Rattle.paper.specs.declared.Two.{Two}
+use Rattle.paper.specs.declared.Three.{Three}
+use Rattle.paper.specs.declared.Drawn.{Drawn}
+use Rattle.paper.specs.declared.Drawn.the-variants.{Straight, Bent, Refused as NotDrawn}
+use Rattle.paper.specs.Job.{xOf, yOf, portOf, twos}
+use Rattle.paper.specs.Leaders.{Leader, distance}
+use Rattle.paper.specs.Layouts.{boardOf, leader}
+use Rattle.paper.specs.Refusals.{BadField, Passed, drawTrials}
+use Rattle.paper.specs.Promises.{coordinates, overwritten, DrawAnswers}
+use Rattle.paper.specs.Canvas.{StandsFor, DrawnStraight, DrawnBent}
+use Rattle.paper.specs.Sheets.{J5}
+use Rattle.paper.specs.laws.Quarter.{quarter, quarter-is, four-times-one}
+
+-- The point (x, y) of the sheet on the canvas.
+unfoldable pub canvas : ℕ → ℤ → Point
+canvas x y = record { x = quarter (pos x); y = quarter (negℤ y) }
+
+-- The points of a leader without a bend, and of one with a bend.
+abbrev pub twoOf : Leader → Two
+twoOf l = record { pad = canvas (l .x) (l .y); port = canvas 0 (l .port) }
+
+abbrev pub threeOf : Leader → Three
+threeOf l = record { pad = canvas (l .x) (l .y); bend = canvas (l .x) (l .port); port = canvas 0 (l .port) }
+
+-- The leader as it is drawn: straight where the heights are equal, else bent.
+unfoldable pub leaderDrawn : Leader → Drawn
+leaderDrawn l = cond (eqb (distance (l .y) (l .port)) 0) (Straight (twoOf l)) (Bent (threeOf l))
+
+-- Which of the two it is.
+pub level-drawn : (l : Leader) → l .y ≡ l .port → leaderDrawn l ≡ Straight (twoOf l)
+unfolding leaderDrawn
+level-drawn l e = ap (λ (b : Bool). cond b (Straight (twoOf l)) (Bent (threeOf l))) (eq-eqb (distance (l .y) (l .port)) 0 (zero-apart (l .y) (l .port) e))
+
+pub bend-drawn : (l : Leader) → (l .y ≡ l .port → ⊥) → leaderDrawn l ≡ Bent (threeOf l)
+unfolding leaderDrawn
+bend-drawn l n =
+    ap (λ (b : Bool). cond b (Straight (twoOf l)) (Bent (threeOf l))) (ne-eqb (distance (l .y) (l .port)) 0 (λ e. n (apart-zero (l .y) (l .port) e)))
+
+-- ---- the paper's words
+
+-- A leader within the ranges of the job.
+pub record OnSheet (l : Leader) : Type 0 where
+  pub right : l .x ≤ 1000000
+  pub pad : natAbs (l .y) ≤ 1000000
+  pub port : natAbs (l .port) ≤ 1000000
+
+-- The answer d draws the leader l, in the paper's words.
+abbrev pub Draws : Leader → Drawn → Type 0
+Draws l (Straight d) = DrawnStraight l d
+Draws l (Bent d) = DrawnBent l d
+Draws l (NotDrawn r) = ⊥
+
+small : {n : ℕ} → n ≤ 1000000 → n < 2 ^ 24
+small h = lt-of-le-of-lt h (lit< tt)
+
+canvas-is : (x : ℕ) (y : ℤ) → x ≤ 1000000 → natAbs y ≤ 1000000 → StandsFor (canvas x y) x y
+unfolding canvas
+canvas-is x y h k = record { across = quarter-is (pos x) (small h); down = quarter-is (negℤ y) (small (le-trans (le-of-eq (natAbs-neg y)) k)) }
+
+-- What is drawn of a leader draws it.
+pub drawn-is : (l : Leader) → OnSheet l → Draws l (leaderDrawn l)
+drawn-is l h = go (ℤ-discrete (l .y) (l .port))
+  where
+    pad : StandsFor (canvas (l .x) (l .y)) (l .x) (l .y)
+    pad = canvas-is (l .x) (l .y) (h .right) (h .pad)
+
+    port : StandsFor (canvas 0 (l .port)) 0 (l .port)
+    port = canvas-is 0 (l .port) zero-le (h .port)
+
+    go : Dec (l .y ≡ l .port) → Draws l (leaderDrawn l)
+    go (yes e) = rw (level-drawn l e) (record { level = e; pad = pad; port = port })
+    go (no n) = rw (bend-drawn l n) (record { bends = n; pad = pad; bend = canvas-is (l .x) (l .port) (h .right) (h .port); port = port })
+
+-- ---- they leave one answer
+
+-- Two points that stand for one point of the sheet are one.
+pub point-one : {a b : Point} (x : ℕ) (y : ℤ) → StandsFor a x y → StandsFor b x y → a ≡ b
+point-one x y p q =
+    let across = four-times-one (pos x) (p .across) (q .across) in
+    let down = four-times-one (negℤ y) (p .down) (q .down) in
+    λ i. record { x = across i; y = down i }
+
+-- Two that draw a leader straight are one, and so are two that draw it bent.
+pub straight-one : (l : Leader) {d e : Two} → DrawnStraight l d → DrawnStraight l e → d ≡ e
+straight-one l p q =
+    let pad = point-one (l .x) (l .y) (p .pad) (q .pad) in
+    let port = point-one 0 (l .port) (p .port) (q .port) in
+    λ i. record { pad = pad i; port = port i }
+
+pub bent-one : (l : Leader) {d e : Three} → DrawnBent l d → DrawnBent l e → d ≡ e
+bent-one l p q =
+    let pad = point-one (l .x) (l .y) (p .pad) (q .pad) in
+    let bend = point-one (l .x) (l .port) (p .bend) (q .bend) in
+    let port = point-one 0 (l .port) (p .port) (q .port) in
+    λ i. record { pad = pad i; bend = bend i; port = port i }
+
+-- No leader is drawn straight and bent.
+pub not-straight-and-bent : (l : Leader) {d : Two} {e : Three} → DrawnStraight l d → DrawnBent l e → ⊥
+not-straight-and-bent l p q = q .bends (p .level)
+
+-- Two answers that draw one leader are one.
+pub drawn-one : (l : Leader) (d e : Drawn) → Draws l d → Draws l e → d ≡ e
+drawn-one l (Straight d) (Straight e) p q = ap Straight (straight-one l p q)
+drawn-one l (Straight d) (Bent e) p q = absurd (not-straight-and-bent l p q)
+drawn-one l (Bent d) (Straight e) p q = absurd (not-straight-and-bent l q p)
+drawn-one l (Bent d) (Bent e) p q = ap Bent (bent-one l p q)
+
+-- What draws a leader is `leaderDrawn`.
+pub drawn-only : (l : Leader) (d : Drawn) → OnSheet l → Draws l d → d ≡ leaderDrawn l
+drawn-only l d h p = drawn-one l d (leaderDrawn l) p (drawn-is l h)
+
+-- ---- the call Draw
+
+not-above : {a n : ℕ} → ¬ (a < n) → n ≤ a
+not-above h = le-of-suc-le-suc (lt-of-not-le h)
+
+-- The leader of a record without a bad field to the port of another is within the ranges.
+pub on-sheet : (job : List ℕ) (i q : ℕ) → ¬ BadField job i → ¬ BadField job q → OnSheet (leader (boardOf job) i q)
+on-sheet job i q h k = record {
+  right = not-above (λ l. h (inr (inr (inl l))));
+  pad = not-above (λ l. h (inr (inr (inr (inl l)))));
+  port = not-above (λ l. k (inr (inr (inr (inr l)))));
+}
+
+module _ (job : List ℕ) (i q room : ℕ) (passed : Passed (drawTrials job i q room)) where
+  -- A Draw that passes its trials has room for six floats,
+  pub passed-room : 6 ≤ room
+  passed-room = not-above (passed .1 .0 0 (lit< tt))
+
+  -- and a leader within the ranges.
+  pub passed-on-sheet : OnSheet (leader (boardOf job) i q)
+  passed-on-sheet =
+      let fields = passed .1 .1 .0 in
+      let numbers = passed .1 .1 .1 .1 .1 .1 .0 0 (lit< tt) in
+      on-sheet job i q (fields i (lt-of-not-le (λ l. numbers (inl l)))) (fields q (lt-of-not-le (λ l. numbers (inr l))))
+
+-- What draws the leader is Draw's answer, with its coordinates in the lent list.
+pub draw-answers : (job : List ℕ) (i q : ℕ) (before : List Float) (d : Drawn) → Passed (drawTrials job i q (length before))
+    → Draws (leader (boardOf job) i q) d → DrawAnswers job i q before d (overwritten (coordinates d) before)
+draw-answers job i q before (Straight d) p w = (p, w, refl)
+draw-answers job i q before (Bent d) p w = (p, w, refl)
+
+-- ---- the paper's two sheets
+
+abbrev at : Float → Float → Point
+at x y = record { x = x; y = y }
+
+-- +0, and 2.5 and 7.5 with a sign
+abbrev nought : Float
+nought = fin false 0 (pos 0)
+
+abbrev halves : Bool → ℕ → Float
+halves s n = fin s n (negsuc 0)
+
+-- J5, record 2 to port 0: (7.5, -7.5), (7.5, 0), (0, 0)
+pub bent-sheet : leaderDrawn (leader (boardOf J5) 2 0)
+    ≡ Bent (record { pad = at (halves false 15) (halves true 15); bend = at (halves false 15) nought; port = at nought nought })
+unfolding leaderDrawn canvas quarter round xOf yOf portOf twos
+bent-sheet = refl
+
+-- J5, record 0 to port 1: (2.5, -2.5), (0, -2.5)
+pub straight-sheet : leaderDrawn (leader (boardOf J5) 0 1)
+    ≡ Straight (record { pad = at (halves false 5) (halves true 5); port = at nought (halves true 5) })
+unfolding leaderDrawn canvas quarter round xOf yOf portOf twos
+straight-sheet = refl

@@ -1,0 +1,78 @@
+-- Where there is an untouching layout there is a best one, an earliest best one, and after each best one the next, or it is the last.
+use mathlib.Core.Path.{_≡_, ap, _∙_}
+use mathlib.Core.Logic.{_⊎_, inl, inr}
+use mathlib.Core.List.{List, _++_}
+use Prim.Native.Nat.{ℕ, zero, suc, _+_, _-_, _<_, _≤_}
+use native.Mathlib.Omega.{arith}
+use lib.ListN.{length, getD, drop, length-append, length-drop, List·getD-append}
+use lib.Seq.{getD-append-add, getD-drop}
+use Rattle.paper.specs.Layouts.{Board, Untouching, total, Best, Before, FirstBest, NextBest, LastBest}
+use Rattle.paper.specs.Promises.{Kept}
+use Rattle.paper.specs.laws.Proper.{Differ}
+use Rattle.paper.specs.laws.Rank.{rank, rank-rises}
+use Rattle.paper.specs.laws.Trying.{row, row-length, row-at, Tells, laterTest}
+use Rattle.paper.specs.laws.Trying.{some-word-dec, some-less-dec, untouching-tells, cheaper-tells, before-tells, best-tells, later-tells}
+
+-- From a function with the property P one comes to a least one, if a lesser one can be found or denied, and a number falls from each to a lesser one.
+module _ {P : (ℕ → ℕ) → Type 0} {Less : (ℕ → ℕ) → (ℕ → ℕ) → Type 0} (size : (ℕ → ℕ) → ℕ)
+    (falls : (g f : ℕ → ℕ) → P g → Less g f → size g < size f) (try : (f : ℕ → ℕ) → Dec ((g : ℕ → ℕ) × (Less g f × P g))) where
+  least-within : (k : ℕ) (f : ℕ → ℕ) → P f → size f ≤ k → (g : ℕ → ℕ) × P g × ((h : ℕ → ℕ) → P h → ¬ Less h g)
+  least-within zero f p l = (f, p, λ h q r. omega (arith, falls h f q r))
+  least-within (suc k) f p l = go (try f) (least-within k)
+    where
+      Least : Type 0
+      Least = (g : ℕ → ℕ) × P g × ((h : ℕ → ℕ) → P h → ¬ Less h g)
+
+      go : Dec ((g : ℕ → ℕ) × (Less g f × P g)) → ((g : ℕ → ℕ) → P g → size g ≤ k → Least) → Least
+      go (yes (g, (r, q))) ih = ih g q (omega (arith, falls g f q r))
+      go (no n) ih = (f, p, λ h q r. n (h, (r, q)))
+
+  least-exists : (f : ℕ → ℕ) → P f → (g : ℕ → ℕ) × P g × ((h : ℕ → ℕ) → P h → ¬ Less h g)
+  least-exists f p = least-within (size f) f p (omega arith)
+
+module _ (b : Board) (cost : ℕ → ℕ → ℕ) (differ : Differ b) where
+  -- Where there is an untouching layout there is a best one,
+  pub best-exists : (f : ℕ → ℕ) → Untouching b f → (g : ℕ → ℕ) × Best b cost g
+  best-exists f u =
+      let r = least-exists (total b cost) (λ g f v l. l) (some-less-dec b (cheaper-tells b cost) (untouching-tells b differ) (λ g v. v)) f u in
+      (r .0, record { untouching = r .1; least = λ g v. omega (arith, r .2 g v) })
+
+  rank-falls : (g f : ℕ → ℕ) → Best b cost g → Before b g f → rank b g < rank b f
+  rank-falls g f s h = rank-rises b differ g f (s .untouching .layout .inside) h
+
+  -- and an earliest best one;
+  pub first-exists : (f : ℕ → ℕ) → Untouching b f → (g : ℕ → ℕ) × FirstBest b cost g
+  first-exists f u =
+      let s = best-exists f u in
+      let r = least-exists (rank b) rank-falls (some-less-dec b (before-tells b) (best-tells b cost differ) (λ g t. t .untouching)) (s .0) (s .1) in
+      (r .0, record { best = r .1; earliest = r .2 })
+
+  -- after a best one there is the next, or it is the last.
+  pub next-or-last : (l : ℕ → ℕ) → Best b cost l → ((g : ℕ → ℕ) × NextBest b cost l g) ⊎ LastBest b cost l
+  next-or-last l s = go (some-word-dec b later (λ g t. t .1 .untouching))
+    where
+      later : Tells b (laterTest b cost l) (λ g. Before b l g × Best b cost g)
+      later = later-tells b cost differ l
+
+      go : Dec ((f : ℕ → ℕ) × (Before b l f × Best b cost f)) → ((g : ℕ → ℕ) × NextBest b cost l g) ⊎ LastBest b cost l
+      go (no n) = inr (λ g t h. n (g, (h, t)))
+      go (yes (f, k)) =
+          let r = least-exists (rank b) (λ g f t. rank-falls g f (t .1)) (some-less-dec b (before-tells b) later (λ g t. t .1 .untouching)) f k in
+          inl (r .0, record { best = r .1 .1; later = r .1 .0; earliest = λ g t h. r .2 g (h, t) })
+
+-- A list that holds f in its first n entries and keeps the rest.
+pub listed : (n : ℕ) (f : ℕ → ℕ) (before : List ℕ) → n ≤ length before → (after : List ℕ) × ((i : ℕ) → i < n → getD after i 0 ≡ f i) × Kept n before after
+listed n f before l = (row n f ++ drop n before, entry, record { long = long; rest = rest })
+  where
+    entry : (i : ℕ) → i < n → getD (row n f ++ drop n before) i 0 ≡ f i
+    entry i h = List·getD-append (row n f) (drop n before) 0 i (omega (arith, row-length n f)) ∙ row-at n f i h
+
+    long : length (row n f ++ drop n before) ≡ length before
+    long = omega (arith, length-append (row n f) (drop n before), row-length n f, length-drop n before)
+
+    rest : (k : ℕ) → n ≤ k → getD (row n f ++ drop n before) k 0 ≡ getD before k 0
+    rest k h =
+        let e : k ≡ length (row n f) + (k - n) = omega (arith, row-length n f) in
+        let d : n + (k - n) ≡ k = omega arith in
+        ap (λ (m : ℕ). getD (row n f ++ drop n before) m 0) e ∙ getD-append-add (row n f) (drop n before) (k - n) 0
+        ∙ getD-drop n before (k - n) 0 ∙ ap (λ (m : ℕ). getD before m 0) d

@@ -1,0 +1,142 @@
+-- 01's order is a strict total order on layouts, so that each call has one best layout to answer.
+use mathlib.Core.Path.{_≡_, refl, sym, _∙_}
+use mathlib.Core.Logic.{_≢_, _⊎_, inl, inr}
+use Prim.Native.Nat.{ℕ, zero, suc, _<_}
+use native.Mathlib.Decide.{decLt, ℕ-discrete}
+use native.Mathlib.Omega.{arith}
+use Rattle.paper.specs.Layouts.{Board, Before, FirstBest, NextBest, LastBest}
+use Rattle.paper.specs.laws.Proper.{Differ, Same}
+use Rattle.paper.specs.laws.Boards.{best-same}
+
+-- No layout comes before itself.
+pub before-irrefl : (b : Board) (f : ℕ → ℕ) → ¬ Before b f f
+before-irrefl b f h = omega arith
+
+-- Only the ports of the board's pads count.
+pub before-same : (b : Board) (f g f′ g′ : ℕ → ℕ) → Same b f f′ → Same b g g′ → Before b f g → Before b f′ g′
+before-same b f g f′ g′ d e h =
+    record {
+      pad = h .pad;
+      inside = h .inside;
+      smaller = omega (arith, d (h .pad) (h .inside), e (h .pad) (h .inside));
+      alike = λ j l k. sym (d j l) ∙ h .alike j l k ∙ e j l;
+    }
+
+module _ (b : Board) (differ : Differ b) where
+  -- pads of one x are one pad
+  one-pad : (i j : ℕ) → i < b .pads → j < b .pads → b .x i ≡ b .x j → i ≡ j
+  one-pad i j h k e = go (decLt j i) (decLt i j)
+    where
+      go : Dec (j < i) → Dec (i < j) → i ≡ j
+      go (yes l) d = absurd (differ i j l h e)
+      go (no l) (yes d) = absurd (differ j i d k (sym e))
+      go (no l) (no d) = omega arith
+
+  -- What comes before a layout comes before all that this one is before.
+  pub before-trans : (f g h : ℕ → ℕ) → Before b f g → Before b g h → Before b f h
+  before-trans f g h s t = go (decLt (b .x (s .pad)) (b .x (t .pad))) (decLt (b .x (t .pad)) (b .x (s .pad)))
+    where
+      go : Dec (b .x (s .pad) < b .x (t .pad)) → Dec (b .x (t .pad) < b .x (s .pad)) → Before b f h
+      go (yes l) d =
+          record {
+            pad = t .pad;
+            inside = t .inside;
+            smaller = omega (arith, s .alike (t .pad) (t .inside) l);
+            alike = λ j k m. s .alike j k (omega arith) ∙ t .alike j k m;
+          }
+      go (no l) (yes d) =
+          record {
+            pad = s .pad;
+            inside = s .inside;
+            smaller = omega (arith, t .alike (s .pad) (s .inside) d);
+            alike = λ j k m. s .alike j k m ∙ t .alike j k (omega arith);
+          }
+      go (no l) (no d) =
+          let e : s .pad ≡ t .pad = one-pad (s .pad) (t .pad) (s .inside) (t .inside) (omega arith) in
+          let u : f (t .pad) < g (t .pad) = rw e at (s .smaller) in
+          record {
+            pad = t .pad;
+            inside = t .inside;
+            smaller = omega arith;
+            alike = λ j k m. s .alike j k (omega arith) ∙ t .alike j k m;
+          }
+
+  -- Of two layouts at most one comes before the other.
+  pub before-asym : (f g : ℕ → ℕ) → Before b f g → ¬ Before b g f
+  before-asym f g h k = before-irrefl b f (before-trans f g f h k)
+
+-- The rightmost of the first n pads at which two layouts differ; or they differ at none.
+record Rightmost (x f g : ℕ → ℕ) (n : ℕ) : Type 0 where
+  pad : ℕ
+  inside : pad < n
+  differ : f pad ≢ g pad
+  alike : (j : ℕ) → j < n → x pad < x j → f j ≡ g j
+
+below-suc : {P : ℕ → Type 0} (n : ℕ) → ((i : ℕ) → i < n → P i) → P n → (i : ℕ) → i < suc n → P i
+below-suc {P} n h k i l = go (decLt i n)
+  where
+    go : Dec (i < n) → P i
+    go (yes d) = h i d
+    go (no d) = let e : i ≡ n = omega arith in rw e k
+
+rightmost : (x f g : ℕ → ℕ) (n : ℕ) → Rightmost x f g n ⊎ ((i : ℕ) → i < n → f i ≡ g i)
+rightmost x f g zero = inr (λ i h. absurd (omega arith))
+rightmost x f g (suc n) = go (ℕ-discrete (f n) (g n)) (rightmost x f g n)
+  where
+    go : Dec (f n ≡ g n) → Rightmost x f g n ⊎ ((i : ℕ) → i < n → f i ≡ g i) → Rightmost x f g (suc n) ⊎ ((i : ℕ) → i < suc n → f i ≡ g i)
+    go (yes e) (inr h) = inr (below-suc n h e)
+    go (no d) (inr h) = inl (record { pad = n; inside = omega arith; differ = d; alike = below-suc n (λ j l k. h j l) (λ k. absurd (omega arith)) })
+    go (yes e) (inl r) = inl (record { pad = r .pad; inside = omega arith; differ = r .differ; alike = below-suc n (r .alike) (λ k. e) })
+    go (no d) (inl r) = side (decLt (x (r .pad)) (x n))
+      where
+        side : Dec (x (r .pad) < x n) → Rightmost x f g (suc n) ⊎ ((i : ℕ) → i < suc n → f i ≡ g i)
+        side (yes l) = inl (record { pad = n; inside = omega arith; differ = d; alike = below-suc n (λ j k m. r .alike j k (omega arith)) (λ k. absurd (omega arith)) })
+        side (no l) = inl (record { pad = r .pad; inside = omega arith; differ = r .differ; alike = below-suc n (r .alike) (λ k. absurd (omega arith)) })
+
+-- Of two layouts one comes before the other, or they are the same.
+pub before-total : (b : Board) (f g : ℕ → ℕ) → Before b f g ⊎ Same b f g ⊎ Before b g f
+before-total b f g = go (rightmost (b .x) f g (b .pads))
+  where
+    go : Rightmost (b .x) f g (b .pads) ⊎ Same b f g → Before b f g ⊎ Same b f g ⊎ Before b g f
+    go (inr h) = inr (inl h)
+    go (inl r) = order (decLt (f (r .pad)) (g (r .pad)))
+      where
+        order : Dec (f (r .pad) < g (r .pad)) → Before b f g ⊎ Same b f g ⊎ Before b g f
+        order (yes l) = inl (record { pad = r .pad; inside = r .inside; smaller = l; alike = r .alike })
+        order (no l) = inr (inr (record { pad = r .pad; inside = r .inside; smaller = omega arith; alike = λ j u k. sym (r .alike j u k) }))
+
+-- Layouts of which neither comes before the other are the same.
+pub neither-before : (b : Board) (f g : ℕ → ℕ) → ¬ Before b f g → ¬ Before b g f → Same b f g
+neither-before b f g m n = go (before-total b f g)
+  where
+    go : Before b f g ⊎ Same b f g ⊎ Before b g f → Same b f g
+    go (inl h) = absurd (m h)
+    go (inr (inl h)) = h
+    go (inr (inr h)) = absurd (n h)
+
+module _ (b : Board) (cost : ℕ → ℕ → ℕ) where
+  -- There is one earliest best layout,
+  pub first-best-one : (f g : ℕ → ℕ) → FirstBest b cost f → FirstBest b cost g → Same b f g
+  first-best-one f g s t = neither-before b f g (t .earliest f (s .best)) (s .earliest g (t .best))
+
+  -- one earliest best layout after a given one,
+  pub next-best-one : (l f g : ℕ → ℕ) → NextBest b cost l f → NextBest b cost l g → Same b f g
+  next-best-one l f g s t = neither-before b f g (t .earliest f (s .best) (s .later)) (s .earliest g (t .best) (t .later))
+
+  -- and none after the last.
+  pub next-not-last : (l f : ℕ → ℕ) → NextBest b cost l f → LastBest b cost l → ⊥
+  next-not-last l f s last = last f (s .best) (s .later)
+
+  -- Being the earliest, or the earliest after l, depends only on the pads' ports.
+  pub first-best-same : (f g : ℕ → ℕ) → Same b f g → FirstBest b cost f → FirstBest b cost g
+  first-best-same f g same s = record {
+    best = best-same b cost f g same (s .best);
+    earliest = λ h t k. s .earliest h t (before-same b h g h f (λ i l. refl) (λ i l. sym (same i l)) k);
+  }
+
+  pub next-best-same : (l f g : ℕ → ℕ) → Same b f g → NextBest b cost l f → NextBest b cost l g
+  next-best-same l f g same s = record {
+    best = best-same b cost f g same (s .best);
+    later = before-same b l f l g (λ i k. refl) same (s .later);
+    earliest = λ h t u k. s .earliest h t u (before-same b h g h f (λ i l. refl) (λ i l. sym (same i l)) k);
+  }

@@ -1,0 +1,116 @@
+-- A whole number of the job is drawn as the 32-bit float that is a quarter of it. Below 2 ^ 24 this float is exact (`quarter-is`), no other is
+-- (`quarter-only`), and it tells the number (`quarter-injective`). Assumes nothing.
+use mathlib.Core.Path.{_≡_, refl, sym, ap, _∙_, subst}
+use Prim.Native.Nat.{ℕ, _*_, _^_, _≤_, _<_}
+use native.Mathlib.Nat.{lt-of-lt-of-le, mul-assoc, mul-one, eq-of-mul-eq-mul-right, zero-lt-suc, zero-mul, mul-pos, lt-irrefl, suc-inj}
+use mathlib.Core.Bool.{true, false, true≢false, false≢true}
+use lib.Dec.{lit<, lit≤}
+use lib.Pow.{shl-lt}
+use lib.IntN.{ℤ, pos, negsuc, natAbs, negℤ}
+use lib.Ieee.{Float, fin, binary32, up, down, round, ofInt, mul, neg}
+use lib.Ieee.Exact.{HasValue, round-exact}
+use lib.Ieee.Back.{round-whole}
+use lib.Ieee.Fits.{round-fits, down-pos}
+use lib.Ieee.Scale.{round-same}
+use Rattle.numbers.specs.Floats.{value-unique, scaled}
+use Rattle.paper.specs.Canvas.{negative, FourTimesIs}
+
+-- The 32-bit float nearest to v / 4. It is negative only where v is, so that of 0 is +0.
+unfoldable pub quarter : ℤ → Float
+quarter v = round binary32 (negative v) (natAbs v) 4
+
+-- ---- the quarter is exact, and nothing else is
+
+-- Four times the quarter of v is exactly v.
+pub quarter-is : (v : ℤ) → natAbs v < 2 ^ 24 → FourTimesIs (quarter v) v
+unfolding quarter
+quarter-is v h = record {
+  single = round-fits binary32 (negative v) (natAbs v) 4;
+  exact =
+      round-exact binary32 (negative v) (natAbs v) 4 (natAbs v) 147 (lit< tt) h
+      (lt-of-lt-of-le (shl-lt 24 147 h) (lit≤ tt))
+      (sym (mul-assoc (natAbs v) (2 ^ 147) 4));
+}
+
+-- The words "four times it is exactly v" leave one 32-bit float, for any v.
+pub four-times-one : {a b : Float} (v : ℤ) → FourTimesIs a v → FourTimesIs b v → a ≡ b
+four-times-one {a} {b} v p q =
+    value-unique binary32 a b (negative v) (natAbs v) 4 (zero-lt-suc 3) (p .single) (q .single) (p .exact) (q .exact)
+
+-- It is the quarter.
+pub quarter-only : {a : Float} (v : ℤ) → natAbs v < 2 ^ 24 → FourTimesIs a v → a ≡ quarter v
+quarter-only v h p = four-times-one v p (quarter-is v h)
+
+-- ---- what is drawn tells the number
+
+sign-size : (v w : ℤ) → negative v ≡ negative w → natAbs v ≡ natAbs w → v ≡ w
+sign-size (pos m) (pos n) s e = ap pos e
+sign-size (pos m) (negsuc n) s e = absurd (false≢true s)
+sign-size (negsuc m) (pos n) s e = absurd (true≢false s)
+sign-size (negsuc m) (negsuc n) s e = ap negsuc (suc-inj e)
+
+one-number : (a : Float) (v w : ℤ) → HasValue a (negative v) (natAbs v) 4 → HasValue a (negative w) (natAbs w) 4 → v ≡ w
+one-number (fin s m e) v w p q =
+    sign-size v w (sym (p .0) ∙ q .0)
+    (eq-of-mul-eq-mul-right (down e) (down-pos e) (natAbs v) (natAbs w) (sym (p .1) ∙ q .1))
+
+-- Four times one float is one number.
+pub four-times-tells : {a : Float} (v w : ℤ) → FourTimesIs a v → FourTimesIs a w → v ≡ w
+four-times-tells {a} v w p q = one-number a v w (p .exact) (q .exact)
+
+-- Different numbers have different quarters.
+pub quarter-injective : (v w : ℤ) → natAbs v < 2 ^ 24 → natAbs w < 2 ^ 24 → quarter v ≡ quarter w → v ≡ w
+quarter-injective v w h k e = four-times-tells v w (quarter-is v h) (subst (λ (a : Float). FourTimesIs a w) (sym e) (quarter-is w k))
+
+-- ---- zero
+
+-- The quarter of 0 is +0.
+pub quarter-zero : quarter (pos 0) ≡ fin false 0 (pos 0)
+unfolding quarter round
+quarter-zero = refl
+
+not-minus-zero : (v : ℤ) (e : ℤ) → HasValue (fin true 0 e) (negative v) (natAbs v) 4 → ⊥
+not-minus-zero (pos n) e p = true≢false (p .0)
+not-minus-zero (negsuc n) e p =
+    lt-irrefl 0
+    (subst (λ (x : ℕ). 0 < x) (sym (p .1) ∙ ap (λ (y : ℕ). y * 4) (zero-mul (up e)) ∙ zero-mul 4) (mul-pos (zero-lt-suc n) (down-pos e)))
+
+-- No quarter is -0.
+pub quarter-not-minus-zero : (v : ℤ) (e : ℤ) → natAbs v < 2 ^ 24 → quarter v ≡ fin true 0 e → ⊥
+quarter-not-minus-zero v e h z = not-minus-zero v e (subst (λ (a : Float). FourTimesIs a v) z (quarter-is v h) .exact)
+
+-- Reversed after the change to a float, height 0 is drawn as -0,
+pub negated-after : neg (quarter (pos 0)) ≡ fin true 0 (pos 0)
+unfolding neg quarter round
+negated-after = refl
+
+-- which is not the quarter of the height reversed before.
+pub negated-after-differs : neg (quarter (pos 0)) ≡ quarter (negℤ (pos 0)) → ⊥
+negated-after-differs e = quarter-not-minus-zero (pos 0) (pos 0) (lit< tt) (sym e ∙ negated-after)
+
+-- ---- as the machine computes
+
+cast-is : (v : ℤ) → ofInt binary32 v ≡ round binary32 (negative v) (natAbs v) 1
+unfolding ofInt
+cast-is (pos n) = refl
+cast-is (negsuc n) = refl
+
+-- An integer up to 2 ^ 24, cast to a float and multiplied by 0.25 (1 * 2 ^ -2), is the quarter.
+pub quarter-of-cast : (v : ℤ) → natAbs v ≤ 2 ^ 24 → mul binary32 (ofInt binary32 v) (fin false 1 (negsuc 1)) ≡ quarter v
+unfolding quarter
+quarter-of-cast v h =
+    ap (λ (a : Float). mul binary32 a (fin false 1 (negsuc 1))) (cast-is v)
+    ∙ scaled binary32 (round binary32 (negative v) (natAbs v) 1) (negative v) (natAbs v) 1 (negsuc 1) (zero-lt-suc 0)
+    (round-whole binary32 (negative v) (natAbs v) h)
+    ∙ ap (λ (n : ℕ). round binary32 (negative v) n 4) (mul-one (natAbs v))
+
+-- Where four times a is exactly v, the machine's product of a and 4 (1 * 2 ^ 2) is v cast to a float.
+pub four-times-mul : {a : Float} (v : ℤ) → FourTimesIs a v → mul binary32 a (fin false 1 (pos 2)) ≡ ofInt binary32 v
+four-times-mul {a} v p =
+    scaled binary32 a (negative v) (natAbs v) 4 (pos 2) (zero-lt-suc 3) (p .exact)
+    ∙ round-same binary32 (negative v) (natAbs v * 4) 4 (natAbs v) 1 (zero-lt-suc 3) (zero-lt-suc 0) (mul-one (natAbs v * 4))
+    ∙ sym (cast-is v)
+
+-- So is the machine's product of the quarter of v and 4.
+pub four-quarters : (v : ℤ) → natAbs v < 2 ^ 24 → mul binary32 (quarter v) (fin false 1 (pos 2)) ≡ ofInt binary32 v
+four-quarters v h = four-times-mul v (quarter-is v h)

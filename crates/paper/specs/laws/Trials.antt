@@ -1,0 +1,139 @@
+-- Trials in general: an input has one verdict; trials put one after the other; and computed findings that judge the trials they are made for.
+use mathlib.Core.Path.{_≡_, refl, sym, ap, subst, _∙_}
+use mathlib.Core.Logic.{inl, inr, _↔_}
+use mathlib.Core.Bool.{Bool, true, false}
+use mathlib.Core.List.{List, [], _∷_, _++_}
+use Prim.Native.Nat.{ℕ, _<_}
+use native.Mathlib.Decide.{decLt}
+use native.Mathlib.Omega.{arith}
+use lib.Dec.{T}
+use Rattle.numbers.specs.Tests.{true-iff}
+use Rattle.paper.specs.declared.Refusal.{Refusal}
+use Rattle.paper.specs.declared.Found.{Found}
+use Rattle.paper.specs.declared.Found.the-variants.{At, Nowhere}
+use Rattle.paper.specs.declared.Verdict.{Verdict}
+use Rattle.paper.specs.declared.Verdict.the-variants.{Sound, Refused}
+use Rattle.paper.specs.Refusals.{Trial, whole, Clean, FirstFault, Passed, RefusedBy}
+use Rattle.paper.specs.laws.Search.{first, at-is, none-at}
+use Rattle.paper.specs.laws.Verdicts.{Finding, outcome, next, run, run-append, run-stopped, atWhole}
+
+-- ---- one verdict
+
+-- The verdict v is right for these trials.
+abbrev pub Judged : Verdict → List Trial → Type 0
+Judged Sound ts = Passed ts
+Judged (Refused r) ts = RefusedBy ts r
+
+fault-one : (t : Trial) (i j : ℕ) → FirstFault t i → FirstFault t j → i ≡ j
+fault-one t i j a b = go (decLt i j) (decLt j i)
+  where
+    go : Dec (i < j) → Dec (j < i) → i ≡ j
+    go (yes l) k = absurd (b .none-before i l (a .here))
+    go (no l) (yes k) = absurd (a .none-before j k (b .here))
+    go (no l) (no k) = omega arith
+
+-- No input is passed and refused;
+pub not-both : (ts : List Trial) (r : Refusal) → Passed ts → RefusedBy ts r → ⊥
+not-both [] r p a = a
+not-both (t ∷ ts) r p (inl a) = p .0 (r .at) (a .1 .inside) (a .1 .here)
+not-both (t ∷ ts) r p (inr a) = not-both ts r (p .1) (a .1)
+
+-- it is refused in one way;
+pub refused-one : (ts : List Trial) (r s : Refusal) → RefusedBy ts r → RefusedBy ts s → r ≡ s
+refused-one [] r s a b = absurd a
+refused-one (t ∷ ts) r s (inl a) (inl b) =
+    let same = fault-one t (r .at) (s .at) (a .1) (b .1) in
+    let number = a .0 ∙ sym (b .0) in
+    λ i. record { reason = number i; at = same i }
+refused-one (t ∷ ts) r s (inl a) (inr b) = absurd (b .0 (r .at) (a .1 .inside) (a .1 .here))
+refused-one (t ∷ ts) r s (inr a) (inl b) = absurd (a .0 (s .at) (b .1 .inside) (b .1 .here))
+refused-one (t ∷ ts) r s (inr a) (inr b) = refused-one ts r s (a .1) (b .1)
+
+-- so that there is one right verdict.
+pub judged-one : (ts : List Trial) (v w : Verdict) → Judged v ts → Judged w ts → v ≡ w
+judged-one ts Sound Sound a b = refl
+judged-one ts Sound (Refused s) a b = absurd (not-both ts s a b)
+judged-one ts (Refused r) Sound a b = absurd (not-both ts r b a)
+judged-one ts (Refused r) (Refused s) a b = ap Refused (refused-one ts r s a b)
+
+-- ---- one list of trials after another
+
+-- Both lists are passed exactly if the two together are.
+pub passed-append : (ts us : List Trial) → Passed ts → Passed us → Passed (ts ++ us)
+passed-append [] us p q = q
+passed-append (t ∷ ts) us p q = (p .0, passed-append ts us (p .1) q)
+
+pub append-passed : (ts us : List Trial) → Passed (ts ++ us) → Passed ts × Passed us
+append-passed [] us p = (tt, p)
+append-passed (t ∷ ts) us p = let q = append-passed ts us (p .1) in ((p .0, q .0), q .1)
+
+-- A refusal by the first list stands; one by the second stands where the first is passed.
+pub refused-left : (ts us : List Trial) (r : Refusal) → RefusedBy ts r → RefusedBy (ts ++ us) r
+refused-left [] us r a = absurd a
+refused-left (t ∷ ts) us r (inl a) = inl a
+refused-left (t ∷ ts) us r (inr a) = inr (a .0, refused-left ts us r (a .1))
+
+pub refused-right : (ts us : List Trial) (r : Refusal) → Passed ts → RefusedBy us r → RefusedBy (ts ++ us) r
+refused-right [] us r p a = a
+refused-right (t ∷ ts) us r p a = inr (p .0, refused-right ts us r (p .1) a)
+
+judged-right : (v : Verdict) (ts us : List Trial) → Passed ts → Judged v us → Judged v (ts ++ us)
+judged-right Sound ts us p a = passed-append ts us p a
+judged-right (Refused r) ts us p a = refused-right ts us r p a
+
+-- v is right for ts, and where ts are passed the findings are right for us: going on from v, the findings are right for both.
+pub judged-run : (v : Verdict) (fs : List Finding) (ts us : List Trial) → Judged v ts → (Passed ts → Judged (run Sound fs) us) → Judged (run v fs) (ts ++ us)
+judged-run Sound fs ts us a k = judged-right (run Sound fs) ts us a (k a)
+judged-run (Refused r) fs ts us a k = rw (run-stopped r fs) (refused-left ts us r a)
+
+-- ---- a finding for each trial
+
+-- The first record at fault is found, or none is at fault.
+pub data Finds (t : Trial) : Found → Type 0 where
+  faulty : {i : ℕ} → FirstFault t i → Finds t (At i)
+  clean : Clean t → Finds t Nowhere
+
+-- The first record at which a test holds, where the test says what the fault says;
+pub finds-first : (t : Trial) (p : ℕ → Bool) → ((i : ℕ) → i < t .among → T (p i) ↔ t .fault i) → Finds t (first p (t .among))
+finds-first t p says = go (first p (t .among)) refl
+  where
+    go : (f : Found) → first p (t .among) ≡ f → Finds t f
+    go (At i) e =
+        let (l, here, before) = at-is p (t .among) i e in
+        faulty
+        (record {
+          inside = l;
+          here = true-iff (p i) (says i l) .0 here;
+          none-before = λ j k x. subst T (none-at p i before j k) (says j (omega arith) .1 x);
+        })
+    go Nowhere e = clean (λ i l x. subst T (none-at p (t .among) e i l) (says i l .1 x))
+
+-- and 0 for a test of the whole input.
+pub finds-whole : (r : ℕ) (P : Type 0) (b : Bool) → T b ↔ P → Finds (record { reason = r; among = 1; fault = whole P }) (atWhole b)
+finds-whole r P true says = faulty {i = 0} (record { inside = omega arith; here = says .0 tt; none-before = λ j l. absurd (omega arith) })
+finds-whole r P false says = clean (λ i l x. says .1 x)
+
+-- Such a finding gives the right verdict.
+pub trial-judged : (t : Trial) (f : Found) → Finds t f → Judged (outcome (t .reason) f) (t ∷ [])
+trial-judged t (At i) (faulty a) = inl (refl, a)
+trial-judged t Nowhere (clean c) = (c, tt)
+
+-- The findings fs are right for the trials ts: their run gives the right verdict.
+pub record Tried (fs : List Finding) (ts : List Trial) : Type 0 where
+  pub judged : Judged (run Sound fs) ts
+
+-- No findings for no trials.
+pub tried-none : Tried [] []
+tried-none = record { judged = tt }
+
+-- One finding more in front; those after it may go by its trial being clean.
+pub tried-more : {t : Trial} {f : Found} {fs : List Finding} {ts : List Trial} → Finds t f → (Clean t → Tried fs ts) → Tried ((t .reason, f) ∷ fs) (t ∷ ts)
+tried-more {t} {f} {fs} {ts} a k = record { judged = judged-run (outcome (t .reason) f) fs (t ∷ []) ts (trial-judged t f a) (λ p. k (p .0) .judged) }
+
+-- One list of findings after another; the second may go by the first list's trials being passed.
+pub tried-append : {fs gs : List Finding} {ts us : List Trial} → Tried fs ts → (Passed ts → Tried gs us) → Tried (fs ++ gs) (ts ++ us)
+tried-append {fs} {gs} {ts} {us} a k = record { judged = rw (run-append Sound fs gs) (judged-run (run Sound fs) gs ts us (a .judged) (λ p. k p .judged)) }
+
+-- One finding more after a verdict; it may go by the trials before being passed.
+pub judged-next : (v : Verdict) (ts : List Trial) (t : Trial) (f : Found) → Judged v ts → (Passed ts → Finds t f) → Judged (next v (t .reason, f)) (ts ++ (t ∷ []))
+judged-next v ts t f a k = judged-run v ((t .reason, f) ∷ []) ts (t ∷ []) a (λ p. trial-judged t f (k p))

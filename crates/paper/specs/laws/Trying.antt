@@ -1,0 +1,316 @@
+-- Trying every assignment of ports to pads, as a program would: tests that tell whether a layout is best, the first, the next or the last.
+use mathlib.Core.Path.{_≡_, refl, sym, ap, subst}
+use mathlib.Core.Logic.{_⊎_, inl, inr, ⊎-elim, _↔_}
+use mathlib.Core.Bool.{Bool, true, false, not, _&&_, _||_}
+use mathlib.Core.List.{List, [], _∷_, _++_, map, Memᴰ·append-left, Memᴰ·append-right, Memᴰ·map, Memᴰ·of-map}
+use mathlib.Core.List.{List·Memᴰ, List·Memᴰ·head, List·Memᴰ·not-nil, List·Memᴰ·cases-cons, List·Memᴰ·append-cases, List·Memᴰ·eq-of-singleton}
+use Prim.Native.Nat.{ℕ, zero, suc, _<_, _≤_, suc-le-suc}
+use native.Mathlib.Decide.{decLt, ℕ-discrete}
+use native.Mathlib.Nat.{le-of-suc-le-suc, not-suc-le-zero, zero-lt-suc}
+use native.Mathlib.Omega.{arith}
+use lib.Dec.{T, leb, ltb, eqb}
+use lib.ListN.{length}
+use Rattle.numbers.specs.Tests.{either, and-iff, or-iff, not-iff, leb-iff, ltb-iff, eqb-iff}
+use Rattle.paper.specs.Layouts.{Board, held, Touching, Untouching, total, Best, Before, FirstBest, NextBest, LastBest}
+use Rattle.paper.specs.Refusals.{Earlier}
+use Rattle.paper.specs.laws.Proper.{Differ, Same}
+use Rattle.paper.specs.laws.Search.{some}
+use Rattle.paper.specs.laws.Tests.{earlier, touch}
+use Rattle.paper.specs.laws.Boards.{untouching-of, untouching-same, total-same, best-same}
+use Rattle.paper.specs.laws.Judged.{some-iff, touch-earlier-iff}
+use Rattle.paper.specs.laws.Order.{before-same}
+
+-- ---- all assignments
+
+-- All lists of n entries below p: those that begin with a number below p and go on with a list of n - 1.
+unfoldable pub heads : ℕ → List (List ℕ) → List (List ℕ)
+heads zero ws = []
+heads (suc q) ws = heads q ws ++ map (λ w. q ∷ w) ws
+
+unfoldable pub words : ℕ → ℕ → List (List ℕ)
+words zero p = [] ∷ []
+words (suc n) p = heads p (words n p)
+
+-- The list of f 0 to f (n - 1), its length and its entries.
+unfoldable pub row : ℕ → (ℕ → ℕ) → List ℕ
+row zero f = []
+row (suc n) f = f 0 ∷ row n (λ i. f (suc i))
+
+pub row-length : (n : ℕ) (f : ℕ → ℕ) → length (row n f) ≡ n
+unfolding row
+row-length zero f = refl
+row-length (suc n) f = ap suc (row-length n (λ i. f (suc i)))
+
+pub row-at : (n : ℕ) (f : ℕ → ℕ) (i : ℕ) → i < n → held (row n f) i ≡ f i
+unfolding row
+row-at zero f i l = absurd (not-suc-le-zero l)
+row-at (suc n) f zero l = refl
+row-at (suc n) f (suc i) l = row-at n (λ i. f (suc i)) i (le-of-suc-le-suc l)
+
+heads-all : (p : ℕ) (ws : List (List ℕ)) (q : ℕ) (w : List ℕ) → q < p → List·Memᴰ w ws → List·Memᴰ (q ∷ w) (heads p ws)
+unfolding heads
+heads-all zero ws q w l m = absurd (not-suc-le-zero l)
+heads-all (suc p) ws q w l m = go (decLt q p) (λ d. heads-all p ws q w d m)
+  where
+    go : Dec (q < p) → (q < p → List·Memᴰ (q ∷ w) (heads p ws)) → List·Memᴰ (q ∷ w) (heads p ws ++ map (λ v. p ∷ v) ws)
+    go (yes d) ih = Memᴰ·append-left (map (λ v. p ∷ v) ws) (ih d)
+    go (no d) ih = let e : q ≡ p = omega arith in rw e (Memᴰ·append-right (heads p ws) (Memᴰ·map (λ v. p ∷ v) m))
+
+-- Every function with values below p is among them, as its row,
+pub words-all : (n p : ℕ) (f : ℕ → ℕ) → ((i : ℕ) → i < n → f i < p) → List·Memᴰ (row n f) (words n p)
+unfolding words row
+words-all zero p f h = List·Memᴰ·head refl
+words-all (suc n) p f h =
+    heads-all p (words n p) (f 0) (row n (λ i. f (suc i))) (h 0 (zero-lt-suc n)) (words-all n p (λ i. f (suc i)) (λ i l. h (suc i) (suc-le-suc l)))
+
+heads-only : (p : ℕ) (ws : List (List ℕ)) (Q : List ℕ → Type 0) → ((q : ℕ) (v : List ℕ) → q < p → List·Memᴰ v ws → Q (q ∷ v))
+    → (w : List ℕ) → List·Memᴰ w (heads p ws) → Q w
+unfolding heads
+heads-only zero ws Q h w m = absurd (List·Memᴰ·not-nil m)
+heads-only (suc p) ws Q h w m =
+    ⊎-elim
+    (heads-only p ws Q (λ q v l. h q v (omega arith)) w)
+    (λ k. let r = Memᴰ·of-map (λ v. p ∷ v) ws k in subst Q (r .2) (h p (r .0) (omega arith) (r .1)))
+    (List·Memᴰ·append-cases (heads p ws) m)
+
+-- and nothing else is.
+pub words-only : (n p : ℕ) (w : List ℕ) → List·Memᴰ w (words n p) → (length w ≡ n) × ((i : ℕ) → i < n → held w i < p)
+unfolding words
+words-only zero p w m = (ap length (List·Memᴰ·eq-of-singleton m), λ i l. absurd (not-suc-le-zero l))
+words-only (suc n) p w m = heads-only p (words n p) Word (λ q v l k. longer q v l (words-only n p v k)) w m
+  where
+    Word : List ℕ → Type 0
+    Word w = (length w ≡ suc n) × ((i : ℕ) → i < suc n → held w i < p)
+
+    longer : (q : ℕ) (v : List ℕ) → q < p → (length v ≡ n) × ((i : ℕ) → i < n → held v i < p) → Word (q ∷ v)
+    longer q v l s = (ap suc (s .0), entry)
+      where
+        entry : (i : ℕ) → i < suc n → held (q ∷ v) i < p
+        entry zero d = l
+        entry (suc i) d = s .1 i (le-of-suc-le-suc d)
+
+-- ---- tests, and what they say
+
+-- What a test tells can be decided.
+pub dec-iff : {A : Type 0} (a : Bool) → T a ↔ A → Dec A
+dec-iff true f = yes (f .0 tt)
+dec-iff false f = no (f .1)
+
+-- Some list of ws passes.
+unfoldable pub any : (List ℕ → Bool) → List (List ℕ) → Bool
+any t [] = false
+any t (w ∷ ws) = t w || any t ws
+
+any-found : (t : List ℕ → Bool) (ws : List (List ℕ)) → T (any t ws) → (w : List ℕ) × T (t w)
+unfolding any
+any-found t [] e = absurd e
+any-found t (w ∷ ws) e = ⊎-elim (λ h. (w, h)) (any-found t ws) (either (t w) (any t ws) .0 e)
+
+any-here : (t : List ℕ → Bool) (ws : List (List ℕ)) (w : List ℕ) → List·Memᴰ w ws → T (t w) → T (any t ws)
+unfolding any
+any-here t [] w m h = absurd (List·Memᴰ·not-nil m)
+any-here t (v ∷ ws) w m h = either (t v) (any t ws) .1 (⊎-elim (λ e. inl (rw e at h)) (λ k. inr (any-here t ws w k h)) (List·Memᴰ·cases-cons m))
+
+-- ---- a test of layouts, tried on every assignment
+
+-- The test t tells whether a layout has the property P, which depends on the ports of the board's pads alone.
+pub record Tells (b : Board) (t : (ℕ → ℕ) → Bool) (P : (ℕ → ℕ) → Type 0) : Type 0 where
+  pub iff : (f : ℕ → ℕ) → T (t f) ↔ P f
+  pub same : (f g : ℕ → ℕ) → Same b f g → P f → P g
+
+and-tells : (b : Board) {s t : (ℕ → ℕ) → Bool} {P Q : (ℕ → ℕ) → Type 0} → Tells b s P → Tells b t Q → Tells b (λ f. s f && t f) (λ f. P f × Q f)
+and-tells b {s} {t} p q =
+    record { iff = λ f. and-iff (s f) (t f) (p .iff f) (q .iff f); same = λ f g e h. (p .same f g e (h .0), q .same f g e (h .1)) }
+
+-- Some assignment passes t.
+unfoldable pub someWord : Board → ((ℕ → ℕ) → Bool) → Bool
+someWord b t = any (λ w. t (held w)) (words (b .pads) (b .ports))
+
+-- THEOREM. Where only untouching layouts pass, some assignment passes exactly if some function at all has the property; so one is found, or none has it.
+module _ (b : Board) {t : (ℕ → ℕ) → Bool} {P : (ℕ → ℕ) → Type 0} (tells : Tells b t P) (only : (f : ℕ → ℕ) → P f → Untouching b f) where
+  pub some-word-iff : T (someWord b t) ↔ ((f : ℕ → ℕ) × P f)
+  unfolding someWord
+  some-word-iff = (there, back)
+    where
+      all : List (List ℕ)
+      all = words (b .pads) (b .ports)
+
+      there : T (any (λ w. t (held w)) all) → (f : ℕ → ℕ) × P f
+      there e = let r = any-found (λ w. t (held w)) all e in (held (r .0), tells .iff (held (r .0)) .0 (r .1))
+
+      back : (f : ℕ → ℕ) × P f → T (any (λ w. t (held w)) all)
+      back (f, h) =
+          let w = row (b .pads) f in
+          any-here (λ w. t (held w)) all w (words-all (b .pads) (b .ports) f (only f h .layout .inside))
+          (tells .iff (held w) .1 (tells .same f (held w) (λ i l. sym (row-at (b .pads) f i l)) h))
+
+  pub some-word-dec : Dec ((f : ℕ → ℕ) × P f)
+  some-word-dec = dec-iff (someWord b t) some-word-iff
+
+-- f passes t, and no assignment that passes t is less.
+unfoldable pub leastTest : Board → ((ℕ → ℕ) → (ℕ → ℕ) → Bool) → ((ℕ → ℕ) → Bool) → (ℕ → ℕ) → Bool
+leastTest b less t f = t f && not (someWord b (λ g. less g f && t g))
+
+module _ (b : Board) {less : (ℕ → ℕ) → (ℕ → ℕ) → Bool} {Less : (ℕ → ℕ) → (ℕ → ℕ) → Type 0} {t : (ℕ → ℕ) → Bool} {P : (ℕ → ℕ) → Type 0}
+    (smaller : (f : ℕ → ℕ) → Tells b (λ g. less g f) (λ g. Less g f)) (tells : Tells b t P) (only : (f : ℕ → ℕ) → P f → Untouching b f) where
+  -- A lesser one is found, or there is none.
+  pub some-less-dec : (f : ℕ → ℕ) → Dec ((g : ℕ → ℕ) × (Less g f × P g))
+  some-less-dec f = some-word-dec b (and-tells b (smaller f) tells) (λ g h. only g (h .1))
+
+  -- THEOREM. The test tells the least.
+  pub least-iff : (f : ℕ → ℕ) → T (leastTest b less t f) ↔ (P f × ((g : ℕ → ℕ) → P g → ¬ Less g f))
+  unfolding leastTest
+  least-iff f = ((λ e. let r = parts .0 e in (r .0, λ g h l. r .1 (g, (l, h)))), (λ (h, n). parts .1 (h, λ (g, (l, k)). n g k l)))
+    where
+      lesser : Bool
+      lesser = someWord b (λ g. less g f && t g)
+
+      parts : T (t f && not lesser) ↔ (P f × ¬ ((g : ℕ → ℕ) × (Less g f × P g)))
+      parts = and-iff (t f) (not lesser) (tells .iff f) (not-iff lesser (some-word-iff b (and-tells b (smaller f) tells) (λ g h. only g (h .1))))
+
+-- ---- untouching, and before
+
+-- Pad i's port is none of the board's, or its leader touches that of an earlier pad. (On one port two leaders touch: no pad's port is another's.)
+unfoldable pub misled : Board → (ℕ → ℕ) → ℕ → Bool
+misled b f i = leb (b .ports) (f i) || earlier (touch b f) i
+
+-- No pad is misled.
+unfoldable pub untouchingTest : Board → (ℕ → ℕ) → Bool
+untouchingTest b f = not (some (misled b f) (b .pads))
+
+module _ (b : Board) (differ : Differ b) where
+  -- THEOREM. The test tells whether a layout is untouching.
+  pub untouching-iff : (f : ℕ → ℕ) → T (untouchingTest b f) ↔ Untouching b f
+  unfolding untouchingTest misled
+  untouching-iff f = ((λ e. there (parts .0 e)), (λ u. parts .1 (back u)))
+    where
+      Misled : ℕ → Type 0
+      Misled i = (b .ports ≤ f i) ⊎ Earlier (Touching b f) i
+
+      parts : T (not (some (misled b f) (b .pads))) ↔ (¬ ((i : ℕ) × (i < b .pads) × Misled i))
+      parts = not-iff (some (misled b f) (b .pads)) (some-iff (misled b f) Misled (b .pads) (λ i l.
+          or-iff (leb (b .ports) (f i)) (earlier (touch b f) i) (leb-iff (b .ports) (f i)) (touch-earlier-iff b f i (λ j k. differ i j k l))))
+
+      there : ¬ ((i : ℕ) × (i < b .pads) × Misled i) → Untouching b f
+      there n =
+          untouching-of b f (λ i l. let k : ¬ (b .ports ≤ f i) = λ k. n (i, l, inl k) in omega arith) (λ i j k l t. n (i, l, inr (j, k, t)))
+
+      back : Untouching b f → ¬ ((i : ℕ) × (i < b .pads) × Misled i)
+      back u (i, l, inl k) = omega (arith, u .layout .inside i l)
+      back u (i, l, inr (j, k, t)) = u .apart i j k l t
+
+  pub untouching-tells : Tells b (untouchingTest b) (Untouching b)
+  untouching-tells = record { iff = untouching-iff; same = untouching-same b }
+
+  pub untouching-dec : (f : ℕ → ℕ) → Dec (Untouching b f)
+  untouching-dec f = dec-iff (untouchingTest b f) (untouching-iff f)
+
+-- At some pad f has the smaller port number, and at no pad to the right of it do f and g differ.
+unfoldable pub differRight : Board → (ℕ → ℕ) → (ℕ → ℕ) → ℕ → ℕ → Bool
+differRight b f g i j = ltb (b .x i) (b .x j) && not (eqb (f j) (g j))
+
+unfoldable pub decidedAt : Board → (ℕ → ℕ) → (ℕ → ℕ) → ℕ → Bool
+decidedAt b f g i = ltb (f i) (g i) && not (some (differRight b f g i) (b .pads))
+
+unfoldable pub beforeTest : Board → (ℕ → ℕ) → (ℕ → ℕ) → Bool
+beforeTest b f g = some (decidedAt b f g) (b .pads)
+
+-- THEOREM. The test tells whether f comes before g.
+pub before-iff : (b : Board) (f g : ℕ → ℕ) → T (beforeTest b f g) ↔ Before b f g
+unfolding beforeTest decidedAt differRight
+before-iff b f g = ((λ e. there (parts .0 e)), (λ h. parts .1 (h .pad, h .inside, (h .smaller, λ (j, l, (k, d)). d (h .alike j l k)))))
+  where
+    Differ-right : ℕ → ℕ → Type 0
+    Differ-right i j = (b .x i < b .x j) × ¬ (f j ≡ g j)
+
+    Decided-at : ℕ → Type 0
+    Decided-at i = (f i < g i) × ¬ ((j : ℕ) × (j < b .pads) × Differ-right i j)
+
+    parts : T (some (decidedAt b f g) (b .pads)) ↔ ((i : ℕ) × (i < b .pads) × Decided-at i)
+    parts = some-iff (decidedAt b f g) Decided-at (b .pads) (λ i l.
+        and-iff (ltb (f i) (g i)) (not (some (differRight b f g i) (b .pads))) (ltb-iff (f i) (g i))
+        (not-iff (some (differRight b f g i) (b .pads)) (some-iff (differRight b f g i) (Differ-right i) (b .pads) (λ j k.
+        and-iff (ltb (b .x i) (b .x j)) (not (eqb (f j) (g j))) (ltb-iff (b .x i) (b .x j)) (not-iff (eqb (f j) (g j)) (eqb-iff (f j) (g j)))))))
+
+    there : (i : ℕ) × (i < b .pads) × Decided-at i → Before b f g
+    there (i, l, (k, n)) = record { pad = i; inside = l; smaller = k; alike = λ j m r. go j m r (ℕ-discrete (f j) (g j)) }
+      where
+        go : (j : ℕ) → j < b .pads → b .x i < b .x j → Dec (f j ≡ g j) → f j ≡ g j
+        go j m r (yes e) = e
+        go j m r (no d) = absurd (n (j, m, (r, d)))
+
+pub before-tells : (b : Board) (f : ℕ → ℕ) → Tells b (λ g. beforeTest b g f) (λ g. Before b g f)
+before-tells b f = record { iff = λ g. before-iff b g f; same = λ g h e. before-same b g f h f e (λ i l. refl) }
+
+after-tells : (b : Board) (l : ℕ → ℕ) → Tells b (beforeTest b l) (Before b l)
+after-tells b l = record { iff = before-iff b l; same = λ g h e. before-same b l g l h (λ i k. refl) e }
+
+-- ---- best, first, next and last
+
+-- g's total is smaller than f's.
+unfoldable pub cheaper : Board → (ℕ → ℕ → ℕ) → (ℕ → ℕ) → (ℕ → ℕ) → Bool
+cheaper b cost g f = ltb (total b cost g) (total b cost f)
+
+pub cheaper-tells : (b : Board) (cost : ℕ → ℕ → ℕ) (f : ℕ → ℕ) → Tells b (λ g. cheaper b cost g f) (λ g. total b cost g < total b cost f)
+unfolding cheaper
+cheaper-tells b cost f = record { iff = λ g. ltb-iff (total b cost g) (total b cost f); same = λ g h e l. omega (arith, total-same b cost g h e) }
+
+-- Untouching and of the least total; the earliest such.
+unfoldable pub bestTest : Board → (ℕ → ℕ → ℕ) → (ℕ → ℕ) → Bool
+bestTest b cost = leastTest b (cheaper b cost) (untouchingTest b)
+
+unfoldable pub firstTest : Board → (ℕ → ℕ → ℕ) → (ℕ → ℕ) → Bool
+firstTest b cost = leastTest b (beforeTest b) (bestTest b cost)
+
+-- Best and after l; the earliest such; there is none such.
+unfoldable pub laterTest : Board → (ℕ → ℕ → ℕ) → (ℕ → ℕ) → (ℕ → ℕ) → Bool
+laterTest b cost l f = beforeTest b l f && bestTest b cost f
+
+unfoldable pub nextTest : Board → (ℕ → ℕ → ℕ) → (ℕ → ℕ) → (ℕ → ℕ) → Bool
+nextTest b cost l = leastTest b (beforeTest b) (laterTest b cost l)
+
+unfoldable pub lastTest : Board → (ℕ → ℕ → ℕ) → (ℕ → ℕ) → Bool
+lastTest b cost l = not (someWord b (laterTest b cost l))
+
+module _ (b : Board) (cost : ℕ → ℕ → ℕ) (differ : Differ b) where
+  -- THEOREM. The tests tell whether a layout is best,
+  pub best-iff : (f : ℕ → ℕ) → T (bestTest b cost f) ↔ Best b cost f
+  unfolding bestTest
+  best-iff f =
+      let parts = least-iff b (cheaper-tells b cost) (untouching-tells b differ) (λ g u. u) f in (
+        (λ e. let r = parts .0 e in record { untouching = r .0; least = λ g u. omega (arith, r .1 g u) }),
+        (λ s. parts .1 (s .untouching, λ g u. omega (arith, s .least g u))),
+      )
+
+  pub best-dec : (f : ℕ → ℕ) → Dec (Best b cost f)
+  best-dec f = dec-iff (bestTest b cost f) (best-iff f)
+
+  pub best-tells : Tells b (bestTest b cost) (Best b cost)
+  best-tells = record { iff = best-iff; same = λ f g e. best-same b cost f g e }
+
+  pub later-tells : (l : ℕ → ℕ) → Tells b (laterTest b cost l) (λ g. Before b l g × Best b cost g)
+  unfolding laterTest
+  later-tells l = and-tells b (after-tells b l) best-tells
+
+  -- whether it is the earliest best one,
+  pub first-iff : (f : ℕ → ℕ) → T (firstTest b cost f) ↔ FirstBest b cost f
+  unfolding firstTest
+  first-iff f =
+      let parts = least-iff b (before-tells b) best-tells (λ g s. s .untouching) f in
+      ((λ e. let r = parts .0 e in record { best = r .0; earliest = r .1 }), (λ s. parts .1 (s .best, s .earliest)))
+
+  -- whether it is the earliest best one after l,
+  pub next-iff : (l f : ℕ → ℕ) → T (nextTest b cost l f) ↔ NextBest b cost l f
+  unfolding nextTest
+  next-iff l f =
+      let parts = least-iff b (before-tells b) (later-tells l) (λ g s. s .1 .untouching) f in (
+        (λ e. let r = parts .0 e in record { best = r .0 .1; later = r .0 .0; earliest = λ g s k. r .1 g (k, s) }),
+        (λ s. parts .1 ((s .later, s .best), λ g (k, t). s .earliest g t k)),
+      )
+
+  -- and whether no best one comes after l.
+  pub last-iff : (l : ℕ → ℕ) → T (lastTest b cost l) ↔ LastBest b cost l
+  unfolding lastTest
+  last-iff l =
+      let none = not-iff (someWord b (laterTest b cost l)) (some-word-iff b (later-tells l) (λ g s. s .1 .untouching)) in
+      ((λ e g s k. none .0 e (g, (k, s))), (λ n. none .1 (λ (g, (k, s)). n g s k)))

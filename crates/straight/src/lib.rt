@@ -1,0 +1,1 @@
+// No code: the theorems are in specs/.
