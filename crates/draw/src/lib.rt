@@ -1,14 +1,13 @@
 // One leader for the canvas, in 32-bit floats, and its points in the list that a C program lends.
 use paper::Drawn;
 use paper::Point;
-use paper::Refusal;
 use paper::Three;
 use paper::Two;
 ghost use mathlib.Core.Path.{_≡_};
 ghost use Prim.Native.Nat.{_≤_};
 ghost use lib.ListN.{length};
 ghost use lib.IntN.{negℤ, natAbs};
-ghost use Rattle.paper.specs.Promises.{refusalNumber, pointCount, coordinates, overwritten};
+ghost use Rattle.paper.specs.Promises.{coordinates, overwritten};
 ghost use Rattle.paper.specs.laws.Quarter.{quarter};
 ghost use Rattle.paper.specs.laws.Drawn.{OnSheet, canvas, leaderDrawn};
 
@@ -56,18 +55,10 @@ pub fn lead(x: u32, y: i64, q: i64) -> Drawn
     }
 }
 
-// C's number of a refusal.
-pub fn refusal_number(f: Refusal) -> i64
-    ensures { λ r. ⌜ r ≡ refusalNumber f ⌝ }
-{
-    let n = 65536 * (f.reason as u64) + (f.at as u64);
-    -(n as i64)
-}
-
-// Writes the points' coordinates, x before y, and answers their number, or the refusal's.
-pub fn put(d: Drawn, out: &mut [f32]) -> i64
+// Writes the points' coordinates, x before y. A refusal has none.
+pub fn put(d: Drawn, out: &mut [f32])
     requires { ⌜ length (coordinates d) ≤ length (now out) ⌝ }
-    ensures { λ r. ⌜ (r ≡ pointCount d) × (now (out .exit) ≡ overwritten (coordinates d) (now (out .entry))) ⌝ }
+    ensures { λ r. ⌜ now (out .exit) ≡ overwritten (coordinates d) (now (out .entry)) ⌝ }
 {
     match d {
         Drawn::Straight(p) => {
@@ -75,7 +66,6 @@ pub fn put(d: Drawn, out: &mut [f32]) -> i64
             out[1] = p.pad.y;
             out[2] = p.port.x;
             out[3] = p.port.y;
-            2
         }
         Drawn::Bent(p) => {
             out[0] = p.pad.x;
@@ -84,8 +74,7 @@ pub fn put(d: Drawn, out: &mut [f32]) -> i64
             out[3] = p.bend.y;
             out[4] = p.port.x;
             out[5] = p.port.y;
-            3
         }
-        Drawn::Refused(f) => refusal_number(f),
+        Drawn::Refused(_) => {}
     }
 }

@@ -1,6 +1,6 @@
 -- Signed numbers in code. A signed local holds bits; a height is small, so what is read back from its bits is the height.
 -- The difference of two heights fits too, and a cast to u64 takes it without its sign.
-use Prim.Native.Nat.{suc, _<_, _≤_, _^_}
+use Prim.Native.Nat.{suc, _<_, _≤_}
 use mathlib.Core.Path.{_≡_}
 use mathlib.Core.Bool.{true, false, true≢false}
 use native.Mathlib.Omega.{arith}
@@ -8,18 +8,7 @@ use borrow.Author.Tests.{ltb-true}
 use lib.Dec.{T}
 use lib.IntN.{ℤ, pos, negsuc, natAbs, _-ℤ_}
 use lib.Signed.{mag, ltZ, nonNeg}
-use mir.Syntax.{w64}
-use mir.Val.{toZ, ofZ}
-use mir.Facts.{toZ-ofZ}
 use Rattle.numbers.specs.Whole.{up, dn, apart-num}
-
--- A number that fits 64 bits is read back from its bits.
-pub read-back : (z : ℤ) → mag z < 2 ^ 63 → toZ w64 (ofZ w64 z) ≡ z
-read-back z h = toZ-ofZ {w = w64} (record { sfits = h })
-
-pub mag-le : (z : ℤ) → mag z ≤ natAbs z
-mag-le (pos n) = omega arith
-mag-le (negsuc n) = omega arith
 
 mag-num : (z : ℤ) → (up z ≤ mag z) × (dn z ≤ suc (mag z))
 mag-num (pos n) = (omega arith, omega arith)
@@ -34,10 +23,12 @@ pub record Negated (d e : ℤ) : Type 0 where
   pub plain : T (nonNeg e)
   pub same : natAbs e ≡ natAbs d
 
+-- The negative of a number below 0 is such.
 pub negated : (d : ℤ) → ltZ d (pos 0) ≡ true → Negated d (pos 0 -ℤ d)
 negated (pos n) t = absurd (omega (arith, ltb-true n 0 t))
 negated (negsuc n) t = record { plain = tt; same = omega arith }
 
+-- A number that is not below 0 has no sign.
 pub not-below-zero : (d : ℤ) → ltZ d (pos 0) ≡ false → T (nonNeg d)
 not-below-zero (pos n) t = tt
 not-below-zero (negsuc n) t = absurd (true≢false t)

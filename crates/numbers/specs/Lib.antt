@@ -1,4 +1,6 @@
+-- Whole: whole numbers for `omega`. Tests: what a Bool test says. Signs: signs and magnitudes. Floats: IEEE 754. Bits: signed numbers in the machine.
 pub mod Whole
 pub mod Tests
 pub mod Signs
 pub mod Floats
+pub mod Bits

@@ -17,6 +17,7 @@ abbrev pub negative : ℤ → Bool
 negative (pos n) = false
 negative (negsuc n) = true
 
+-- `HasValue a s n d` of the kit: a is finite, has the sign s, and is n / d in size.
 -- Four times the 32-bit float a is exactly v: a is finite, its size is |v| / 4, and its sign is v's, so that a drawn zero is positive zero.
 pub record FourTimesIs (a : Float) (v : ℤ) : Type 0 where
   pub single : T (fits binary32 a)

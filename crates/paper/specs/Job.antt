@@ -1,4 +1,5 @@
--- DEFINITIONS. 01, "The job: records of 16 bytes, no header": a job is the list of its bytes; record i brings one pad and one port.
+-- DEFINITIONS. 01, "The job: records of 16 bytes, no header": a job is the list of its bytes, each 0 to 255; record i
+-- brings one pad and one port.
 use mathlib.Core.Bool.{cond}
 use mathlib.Core.List.{List}
 use Prim.Native.Nat.{ℕ, _+_, _*_, _/_}

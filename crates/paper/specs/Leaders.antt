@@ -1,7 +1,7 @@
 -- DEFINITIONS. 01, "Leaders, touching and totals": a leader is a set of points of the sheet.
 -- A point is (x, y): x counts from the label edge to the right, y is a height. No leader has a point left of the edge.
--- Whole points are enough: the sides lie along the axes and the corners are whole, so that leaders that share any point of the plane share a
--- whole one (laws/Plane, `touch-plane`).
+-- Whole points are enough: the sides lie along the axes and the corners are whole, so that leaders of pads with different x that share any point
+-- of the plane share a whole one (laws/Plane, `touch-plane`).
 use mathlib.Core.Path.{_≡_}
 use mathlib.Core.Logic.{_⊎_}
 use mathlib.Core.Bool.{cond}
@@ -10,6 +10,7 @@ use lib.Dec.{eqb}
 use lib.IntN.{ℤ, natAbs, _-ℤ_}
 use lib.Signed.{_≤ℤ_}
 
+-- A point of the sheet. (`Point` is one of the canvas.)
 pub record Spot : Type 0 where
   pub x : ℕ
   pub y : ℤ
@@ -43,7 +44,8 @@ Touch l m = (p : Spot) × On l p × On m p
 abbrev pub distance : ℤ → ℤ → ℕ
 distance a b = natAbs (a -ℤ b)
 
--- Its length is x plus the distance of y and the port's height. It has 0 bends if these are the same, else 1.
+-- Its length is x plus the distance of y and the port's height. It has 0 bends if these are the same, so that
+-- their distance is 0, else 1 (`bends-iff`).
 unfoldable pub lengthOf : Leader → ℕ
 lengthOf l = l .x + distance (l .y) (l .port)
 

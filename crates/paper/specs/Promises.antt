@@ -11,9 +11,8 @@ use Rattle.paper.specs.declared.Answer.{Answer}
 use Rattle.paper.specs.declared.Answer.the-variants.{Total, End, Refused}
 use Rattle.paper.specs.declared.Drawn.{Drawn}
 use Rattle.paper.specs.declared.Drawn.the-variants.{Straight, Bent, Refused as NotDrawn}
-use Rattle.paper.specs.Job.{count}
-use Rattle.paper.specs.Layouts.{boardOf, held, leader, weighted, total, FirstBest, NextBest, LastBest}
-use Rattle.paper.specs.Refusals.{Passed, RefusedBy, firstTrials, measureTrials, nextTrials, drawTrials}
+use Rattle.paper.specs.Layouts.{Board, boardOf, held, leader, weighted, total, FirstBest, NextBest, LastBest}
+use Rattle.paper.specs.Refusals.{Trial, Passed, RefusedBy, firstTrials, measureTrials, nextTrials, drawTrials}
 use Rattle.paper.specs.Canvas.{DrawnStraight, DrawnBent}
 
 -- ---- C's number for each answer
@@ -28,11 +27,11 @@ number (Total t) = pos t
 number End = negsuc 0
 number (Refused r) = refusalNumber r
 
--- Draw's number of points
-abbrev pub pointCount : Drawn → ℤ
-pointCount (Straight d) = pos 2
-pointCount (Bent d) = pos 3
-pointCount (NotDrawn r) = refusalNumber r
+-- Draw's: its number of points as itself, or the refusal's
+abbrev pub drawnNumber : Drawn → ℤ
+drawnNumber (Straight d) = pos 2
+drawnNumber (Bent d) = pos 3
+drawnNumber (NotDrawn r) = refusalNumber r
 
 -- ---- lent lists
 
@@ -53,37 +52,41 @@ overwritten cs before = cs ++ drop (length cs) before
 
 -- ---- the promises
 
--- The total of the layout that a list holds.
-abbrev pub totalOf : List ℕ → ℕ → ℕ → List ℕ → ℕ
-totalOf job lw bw list = total (boardOf job) (weighted (boardOf job) lw bw) (held list)
+-- Each is said for any trials, board and cost, and then for 01's: lw and bw are the length weight and the bend weight.
 
 -- FIRST: the earliest best layout fills the first n entries, and the answer is its total.
+abbrev pub FirstOver : List Trial → Board → (ℕ → ℕ → ℕ) → List ℕ → Answer → List ℕ → Type 0
+FirstOver trials b cost before (Total t) after =
+    Passed trials × FirstBest b cost (held after) × (t ≡ total b cost (held after)) × Kept (b .pads) before after
+FirstOver trials b cost before End after = ⊥
+FirstOver trials b cost before (Refused r) after = RefusedBy trials r × (after ≡ before)
+
 abbrev pub FirstAnswers : List ℕ → ℕ → ℕ → List ℕ → Answer → List ℕ → Type 0
-FirstAnswers job lw bw before (Total t) after =
-    Passed (firstTrials job lw bw (length before))
-    × FirstBest (boardOf job) (weighted (boardOf job) lw bw) (held after)
-    × (t ≡ totalOf job lw bw after)
-    × Kept (count job) before after
-FirstAnswers job lw bw before End after = ⊥
-FirstAnswers job lw bw before (Refused r) after = RefusedBy (firstTrials job lw bw (length before)) r × (after ≡ before)
+FirstAnswers job lw bw before = FirstOver (firstTrials job lw bw (length before)) (boardOf job) (weighted (boardOf job) lw bw) before
 
 -- NEXT: the earliest best layout after the given one replaces it, and the answer is its total; or no best layout comes after the given one, and
 -- the answer is end.
+abbrev pub NextOver : List Trial → Board → (ℕ → ℕ → ℕ) → List ℕ → Answer → List ℕ → Type 0
+NextOver trials b cost before (Total t) after =
+    Passed trials × NextBest b cost (held before) (held after) × (t ≡ total b cost (held after)) × Kept (b .pads) before after
+NextOver trials b cost before End after = Passed trials × LastBest b cost (held before) × (after ≡ before)
+NextOver trials b cost before (Refused r) after = RefusedBy trials r × (after ≡ before)
+
 abbrev pub NextAnswers : List ℕ → ℕ → ℕ → List ℕ → Answer → List ℕ → Type 0
-NextAnswers job lw bw before (Total t) after =
-    Passed (nextTrials job lw bw before)
-    × NextBest (boardOf job) (weighted (boardOf job) lw bw) (held before) (held after)
-    × (t ≡ totalOf job lw bw after)
-    × Kept (count job) before after
-NextAnswers job lw bw before End after =
-    Passed (nextTrials job lw bw before) × LastBest (boardOf job) (weighted (boardOf job) lw bw) (held before) × (after ≡ before)
-NextAnswers job lw bw before (Refused r) after = RefusedBy (nextTrials job lw bw before) r × (after ≡ before)
+NextAnswers job lw bw before = NextOver (nextTrials job lw bw before) (boardOf job) (weighted (boardOf job) lw bw) before
 
 -- MEASURE: the total of an untouching layout, best or not. Its list is only read.
+abbrev pub MeasureOver : List Trial → Board → (ℕ → ℕ → ℕ) → List ℕ → Answer → Type 0
+MeasureOver trials b cost list (Total t) = Passed trials × (t ≡ total b cost (held list))
+MeasureOver trials b cost list End = ⊥
+MeasureOver trials b cost list (Refused r) = RefusedBy trials r
+
 abbrev pub MeasureAnswers : List ℕ → ℕ → ℕ → List ℕ → Answer → Type 0
-MeasureAnswers job lw bw list (Total t) = Passed (measureTrials job lw bw list) × (t ≡ totalOf job lw bw list)
-MeasureAnswers job lw bw list End = ⊥
-MeasureAnswers job lw bw list (Refused r) = RefusedBy (measureTrials job lw bw list) r
+MeasureAnswers job lw bw list = MeasureOver (measureTrials job lw bw list) (boardOf job) (weighted (boardOf job) lw bw) list
+
+-- The total of the layout that a list holds.
+abbrev pub totalOf : List ℕ → ℕ → ℕ → List ℕ → ℕ
+totalOf job lw bw list = total (boardOf job) (weighted (boardOf job) lw bw) (held list)
 
 -- DRAW: the leader of the pad of record i to port q.
 abbrev pub DrawAnswers : List ℕ → ℕ → ℕ → List Float → Drawn → List Float → Type 0
@@ -93,16 +96,16 @@ DrawAnswers job i q before (Bent d) after =
     Passed (drawTrials job i q (length before)) × DrawnBent (leader (boardOf job) i q) d × (after ≡ overwritten (coordinates (Bent d)) before)
 DrawAnswers job i q before (NotDrawn r) after = RefusedBy (drawTrials job i q (length before)) r × (after ≡ before)
 
--- ---- what C sees: the number of such an answer, and the list
+-- ---- what C sees: the number c of such an answer, and the list
 
 abbrev pub FirstPromise : List ℕ → ℕ → ℕ → List ℕ → ℤ → List ℕ → Type 0
-FirstPromise job lw bw before n after = (a : Answer) × FirstAnswers job lw bw before a after × (n ≡ number a)
+FirstPromise job lw bw before c after = (a : Answer) × FirstAnswers job lw bw before a after × (c ≡ number a)
 
 abbrev pub NextPromise : List ℕ → ℕ → ℕ → List ℕ → ℤ → List ℕ → Type 0
-NextPromise job lw bw before n after = (a : Answer) × NextAnswers job lw bw before a after × (n ≡ number a)
+NextPromise job lw bw before c after = (a : Answer) × NextAnswers job lw bw before a after × (c ≡ number a)
 
 abbrev pub MeasurePromise : List ℕ → ℕ → ℕ → List ℕ → ℤ → Type 0
-MeasurePromise job lw bw list n = (a : Answer) × MeasureAnswers job lw bw list a × (n ≡ number a)
+MeasurePromise job lw bw list c = (a : Answer) × MeasureAnswers job lw bw list a × (c ≡ number a)
 
 abbrev pub DrawPromise : List ℕ → ℕ → ℕ → List Float → ℤ → List Float → Type 0
-DrawPromise job i q before n after = (d : Drawn) × DrawAnswers job i q before d after × (n ≡ pointCount d)
+DrawPromise job i q before c after = (d : Drawn) × DrawAnswers job i q before d after × (c ≡ drawnNumber d)

@@ -8,7 +8,7 @@ use lib.IntN.{ℤ, natAbs}
 use lib.Signed.{_≤ℤ_}
 use Rattle.paper.specs.declared.Refusal.{Refusal}
 use Rattle.paper.specs.Job.{count, nameOf, reservedOf, xOf, yOf, portOf}
-use Rattle.paper.specs.Layouts.{boardOf, held, Touching, Untouching, weighted, Best}
+use Rattle.paper.specs.Layouts.{Board, boardOf, held, Touching, Untouching, weighted, Best}
 
 -- ---- trials
 
@@ -18,10 +18,6 @@ pub record Trial : Type 1 where
   pub among : ℕ
   pub fault : ℕ → Type 0
 
--- A fault of the input as a whole has record number 0.
-abbrev pub whole : Type 0 → ℕ → Type 0
-whole P i = P
-
 -- No record is at fault; record i is the first at fault.
 abbrev pub Clean : Trial → Type 0
 Clean t = (i : ℕ) → i < t .among → ¬ t .fault i
@@ -30,6 +26,10 @@ pub record FirstFault (t : Trial) (i : ℕ) : Type 0 where
   pub inside : i < t .among
   pub here : t .fault i
   pub none-before : (j : ℕ) → j < i → ¬ t .fault j
+
+-- Refusal r with record i.
+abbrev pub refusal : ℕ → ℕ → Refusal
+refusal r i = record { reason = r; at = i }
 
 -- Each trial is over the whole job before the next. All are passed; or the first that is not passed gives its number and its first record.
 abbrev pub Passed : List Trial → Type 0
@@ -54,7 +54,7 @@ BadSize job = (length job ≡ 0) ⊎ (length job % 16 ≢ 0) ⊎ (1024 < length 
 abbrev pub BadWeight : ℕ → ℕ → Type 0
 BadWeight lw bw = (1000 < lw) ⊎ (1000 < bw)
 
--- 4: a field is outside its range
+-- 4: a field is outside its range; a height is if it is below -1,000,000 or above 1,000,000
 abbrev pub Outside : ℤ → Type 0
 Outside h = 1000000 < natAbs h
 
@@ -63,8 +63,8 @@ BadField job i =
     (reservedOf job i ≢ 0) ⊎ (xOf job i < 1) ⊎ (1000000 < xOf job i) ⊎ Outside (yOf job i) ⊎ Outside (portOf job i)
 
 -- 5: a port height is not above the one before
-abbrev pub NotAbove : List ℕ → ℕ → Type 0
-NotAbove job i = (0 < i) × (portOf job i ≤ℤ portOf job (i - 1))
+abbrev pub NotAbove : (ℕ → ℤ) → ℕ → Type 0
+NotAbove port i = (0 < i) × (port i ≤ℤ port (i - 1))
 
 -- 6: a nonzero name stood in an earlier record
 abbrev pub SameName : List ℕ → ℕ → ℕ → Type 0
@@ -74,49 +74,55 @@ SameName job i j = (nameOf job i ≢ 0) × (nameOf job i ≡ nameOf job j)
 abbrev pub SameX : List ℕ → ℕ → ℕ → Type 0
 SameX job i j = xOf job i ≡ xOf job j
 
--- 8: a given entry is n or more, or stood earlier
+-- 8: a given entry is n or more, n being the number of ports, or stood earlier
 abbrev pub BadEntry : ℕ → List ℕ → ℕ → Type 0
 BadEntry n list i = (n ≤ held list i) ⊎ Earlier (λ i j. held list i ≡ held list j) i
 
 -- ---- each call's trials
 
--- A trial of each of the job's records, and one of the input as a whole.
-abbrev pub ofEach : ℕ → List ℕ → (ℕ → Type 0) → Trial
-ofEach r job fault = record { reason = r; among = count job; fault = fault }
+-- A trial of each of n records, and one of the input as a whole, whose record number is 0.
+abbrev pub ofEach : ℕ → ℕ → (ℕ → Type 0) → Trial
+ofEach r n fault = record { reason = r; among = n; fault = fault }
 
 abbrev pub ofWhole : ℕ → Type 0 → Trial
-ofWhole r P = record { reason = r; among = 1; fault = whole P }
+ofWhole r P = record { reason = r; among = 1; fault = λ i. P }
 
 -- 4 to 7: the job's records
 abbrev pub jobTrials : List ℕ → List Trial
 jobTrials job =
-    ofEach 4 job (BadField job) ∷ ofEach 5 job (NotAbove job) ∷ ofEach 6 job (Earlier (SameName job)) ∷ ofEach 7 job (Earlier (SameX job)) ∷ []
+    ofEach 4 (count job) (BadField job) ∷
+    ofEach 5 (count job) (NotAbove (portOf job)) ∷
+    ofEach 6 (count job) (Earlier (SameName job)) ∷
+    ofEach 7 (count job) (Earlier (SameX job)) ∷
+    []
 
 -- 8 and 9: the layout that the list holds. 9: a leader touches that of an earlier record
-abbrev pub layoutTrials : List ℕ → List ℕ → List Trial
-layoutTrials job list = ofEach 8 job (BadEntry (count job) list) ∷ ofEach 9 job (Earlier (Touching (boardOf job) (held list))) ∷ []
+abbrev pub layoutTrials : Board → List ℕ → List Trial
+layoutTrials b list =
+    ofEach 8 (b .pads) (BadEntry (b .ports) list) ∷
+    ofEach 9 (b .pads) (Earlier (Touching b (held list))) ∷
+    []
 
 -- 10: the given layout has no touching pair but isn't best
-abbrev pub bestTrial : List ℕ → ℕ → ℕ → List ℕ → Trial
-bestTrial job lw bw list =
-    ofWhole 10 (Untouching (boardOf job) (held list) × ¬ Best (boardOf job) (weighted (boardOf job) lw bw) (held list))
+abbrev pub bestTrial : Board → (ℕ → ℕ → ℕ) → List ℕ → Trial
+bestTrial b cost list = ofWhole 10 (Untouching b (held list) × ¬ Best b cost (held list))
 
 -- 11: Draw's record or port number is n or more
 abbrev pub numberTrial : List ℕ → ℕ → ℕ → Trial
 numberTrial job i q = ofWhole 11 ((count job ≤ i) ⊎ (count job ≤ q))
 
--- First, with room for so many entries: 1, 2 and 3 to 7
+-- First, with room for so many entries: 1, 2 and 3 to 7. 3: the layout list has fewer than n entries
 abbrev pub firstTrials : List ℕ → ℕ → ℕ → ℕ → List Trial
 firstTrials job lw bw room = ofWhole 1 (BadSize job) ∷ ofWhole 2 (BadWeight lw bw) ∷ ofWhole 3 (room < count job) ∷ jobTrials job
 
 -- Measure: 1 to 9
 abbrev pub measureTrials : List ℕ → ℕ → ℕ → List ℕ → List Trial
-measureTrials job lw bw list = firstTrials job lw bw (length list) ++ layoutTrials job list
+measureTrials job lw bw list = firstTrials job lw bw (length list) ++ layoutTrials (boardOf job) list
 
 -- Next: 1 to 10
 abbrev pub nextTrials : List ℕ → ℕ → ℕ → List ℕ → List Trial
-nextTrials job lw bw list = measureTrials job lw bw list ++ (bestTrial job lw bw list ∷ [])
+nextTrials job lw bw list = measureTrials job lw bw list ++ (bestTrial (boardOf job) (weighted (boardOf job) lw bw) list ∷ [])
 
--- Draw, of record i to port q with room for so many floats: 1, 3 to 7 and 11
+-- Draw, of record i to port q with room for so many floats: 1, 3 to 7 and 11. 3: the float list has fewer than six
 abbrev pub drawTrials : List ℕ → ℕ → ℕ → ℕ → List Trial
 drawTrials job i q room = ofWhole 1 (BadSize job) ∷ ofWhole 3 (room < 6) ∷ jobTrials job ++ (numberTrial job i q ∷ [])

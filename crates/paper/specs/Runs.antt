@@ -35,7 +35,7 @@ pub record Once (b : Board) (f : ℕ → ℕ) (ls : List (List ℕ)) : Type 0 wh
   pub nowhere-else : (k : ℕ) → k < length ls → ((i : ℕ) → i < b .pads → held (getD ls k []) i ≡ f i) → k ≡ place
 
 pub record Demand3 (job : List ℕ) (lw bw : ℕ) (list : List ℕ) : Type 0 where
-  -- The end comes, however far one has asked;
+  -- The end comes, and it comes however far one has asked;
   pub ends : (ls : List (List ℕ)) × Run job lw bw list ls
   pub goes-on : (ls : List (List ℕ)) → SoFar job lw bw list ls → (ms : List (List ℕ)) × Run job lw bw list (ls ++ ms)
   -- there is one run only;

@@ -1,34 +1,36 @@
 -- DEFINITIONS. 01, "Sheets worked by hand": the jobs as bytes, and the sheets P1 to P12, each with its call, its input and its whole reply.
+-- After P10 stands Measure's sheet for "its total is 85".
 use mathlib.Core.Path.{_≡_}
 use mathlib.Core.List.{List, [], _∷_, _++_}
 use Prim.Native.Nat.{ℕ, _/_, _%_}
+use Rattle.paper.specs.Refusals.{refusal}
 use Rattle.paper.specs.declared.Answer.{Answer}
 use Rattle.paper.specs.declared.Answer.the-variants.{Total, End, Refused}
 use Rattle.paper.specs.Promises.{number, FirstPromise, NextPromise, MeasurePromise}
 
--- 4 bytes, lowest first; a record of a name, a pad (x, y) and a port height
+-- 4 bytes, lowest first; a record of a name (with the reserved field, 0), a pad (x, y) and a port height
 abbrev pub bytes4 : ℕ → List ℕ
 bytes4 n = n % 256 ∷ n / 256 % 256 ∷ n / 65536 % 256 ∷ n / 16777216 ∷ []
 
-abbrev pub entry : ℕ → ℕ → ℕ → ℕ → List ℕ
-entry name x y port = bytes4 name ++ bytes4 x ++ bytes4 y ++ bytes4 port
+abbrev pub padAndPort : ℕ → ℕ → ℕ → ℕ → List ℕ
+padAndPort name x y port = bytes4 name ++ bytes4 x ++ bytes4 y ++ bytes4 port
 
 abbrev pub J1 : List ℕ
-J1 = entry 101 5 3 3
+J1 = padAndPort 101 5 3 3
 
 abbrev pub J2 : List ℕ
-J2 = entry 101 10 0 10 ++ entry 102 20 30 20
+J2 = padAndPort 101 10 0 10 ++ padAndPort 102 20 30 20
 
 abbrev pub J3 : List ℕ
-J3 = entry 101 10 15 10 ++ entry 102 20 15 20
+J3 = padAndPort 101 10 15 10 ++ padAndPort 102 20 15 20
 
 abbrev pub J4 : List ℕ
-J4 = entry 101 10 15 10 ++ entry 102 20 60 20
+J4 = padAndPort 101 10 15 10 ++ padAndPort 102 20 60 20
 
 abbrev pub J5 : List ℕ
-J5 = entry 101 10 10 0 ++ entry 102 20 20 10 ++ entry 103 30 30 20
+J5 = padAndPort 101 10 10 0 ++ padAndPort 102 20 20 10 ++ padAndPort 103 30 30 20
 
--- A sheet: call, job, weights, the list at entry, the answer, the list at exit.
+-- A sheet: call, job, weights, the list at padAndPort, the answer, the list at exit.
 pub data Call : Type 0 where
   First Next Measure : Call
 
@@ -41,33 +43,39 @@ pub record Sheet : Type 0 where
   pub answer : Answer
   pub after : List ℕ
 
-abbrev pub Kept-to : Call → Sheet → Type 0
-Kept-to First s = FirstPromise (s .job) (s .lw) (s .bw) (s .before) (number (s .answer)) (s .after)
-Kept-to Next s = NextPromise (s .job) (s .lw) (s .bw) (s .before) (number (s .answer)) (s .after)
-Kept-to Measure s = MeasurePromise (s .job) (s .lw) (s .bw) (s .before) (number (s .answer)) × (s .after ≡ s .before)
+abbrev pub AllowedBy : Call → Sheet → Type 0
+AllowedBy First s = FirstPromise (s .job) (s .lw) (s .bw) (s .before) (number (s .answer)) (s .after)
+AllowedBy Next s = NextPromise (s .job) (s .lw) (s .bw) (s .before) (number (s .answer)) (s .after)
+AllowedBy Measure s = MeasurePromise (s .job) (s .lw) (s .bw) (s .before) (number (s .answer)) × (s .after ≡ s .before)
 
 -- The call's promise allows this reply.
 abbrev pub Allowed : Sheet → Type 0
-Allowed s = Kept-to (s .call) s
+Allowed s = AllowedBy (s .call) s
+
+-- Each of these sheets is such a reply.
+abbrev pub Each : List Sheet → Type 0
+Each [] = Unit {0}
+Each (s ∷ ss) = Allowed s × Each ss
 
 abbrev pub sheet : Call → List ℕ → ℕ → ℕ → List ℕ → Answer → List ℕ → Sheet
 sheet call job lw bw before answer after = record { call = call; job = job; lw = lw; bw = bw; before = before; answer = answer; after = after }
 
-abbrev pub refusal : ℕ → ℕ → Answer
-refusal r i = Refused (record { reason = r; at = i })
+abbrev pub refused : ℕ → ℕ → Answer
+refused r i = Refused (refusal r i)
 
 abbrev pub sheets : List Sheet
 sheets =
     sheet First J1 1 0 (9 ∷ []) (Total 5) (0 ∷ []) ∷
     sheet First J1 0 1 (9 ∷ []) (Total 0) (0 ∷ []) ∷
     sheet First J2 1 0 (9 ∷ 9 ∷ []) (Total 50) (0 ∷ 1 ∷ []) ∷
-    sheet Next J2 1 0 (1 ∷ 0 ∷ []) (refusal 9 1) (1 ∷ 0 ∷ []) ∷
+    sheet Next J2 1 0 (1 ∷ 0 ∷ []) (refused 9 1) (1 ∷ 0 ∷ []) ∷
     sheet First J3 1 0 (9 ∷ 9 ∷ []) (Total 40) (1 ∷ 0 ∷ []) ∷
     sheet Next J3 1 0 (1 ∷ 0 ∷ []) (Total 40) (0 ∷ 1 ∷ []) ∷
     sheet Next J3 1 0 (0 ∷ 1 ∷ []) End (0 ∷ 1 ∷ []) ∷
-    sheet Next J3 1 0 (0 ∷ 0 ∷ []) (refusal 8 1) (0 ∷ 0 ∷ []) ∷
+    sheet Next J3 1 0 (0 ∷ 0 ∷ []) (refused 8 1) (0 ∷ 0 ∷ []) ∷
     sheet First J4 1 0 (9 ∷ 9 ∷ []) (Total 75) (0 ∷ 1 ∷ []) ∷
-    sheet Next J4 1 0 (1 ∷ 0 ∷ []) (refusal 10 0) (1 ∷ 0 ∷ []) ∷
+    sheet Next J4 1 0 (1 ∷ 0 ∷ []) (refused 10 0) (1 ∷ 0 ∷ []) ∷
+    sheet Measure J4 1 0 (1 ∷ 0 ∷ []) (Total 85) (1 ∷ 0 ∷ []) ∷
     sheet First J5 2 3 (9 ∷ 9 ∷ 9 ∷ []) (Total 183) (1 ∷ 2 ∷ 0 ∷ []) ∷
-    sheet Measure J5 1 0 (0 ∷ 1 ∷ 2 ∷ []) (refusal 9 1) (0 ∷ 1 ∷ 2 ∷ []) ∷
+    sheet Measure J5 1 0 (0 ∷ 1 ∷ 2 ∷ []) (refused 9 1) (0 ∷ 1 ∷ 2 ∷ []) ∷
     []

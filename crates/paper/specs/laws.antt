@@ -15,9 +15,11 @@ pub mod Trials
 pub mod Judged
 pub mod Accepted
 pub mod Numbers
+pub mod Bounds
 -- Drawn points:
 pub mod Quarter
 pub mod Drawn
+pub mod Vectors
 -- Existence, by straightening and by trying every assignment:
 pub mod Existence
 pub mod Trying

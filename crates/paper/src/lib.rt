@@ -38,6 +38,7 @@ pub enum Drawn {
     Refused(Refusal),
 }
 
+// For the code's checks; no promise speaks of these two.
 // What a search for a record finds.
 pub enum Found {
     At(u16),

@@ -3,7 +3,7 @@ use native.Mathlib.Omega.{arith}
 use mathlib.Core.Path.{ap, _∙_}
 use lib.IntN.{natAbs}
 use Rattle.numbers.specs.Signs.{natAbs-neg}
-use Rattle.draw.proofs.Bits.{minus-fits, minus-back}
+use Rattle.numbers.specs.Bits.{minus-fits, minus-back}
 use Rattle.draw.proofs.downward.Statement.{statement}
 use Rattle.draw.proofs.downward.Tie as tie
 

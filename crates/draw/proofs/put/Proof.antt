@@ -1,21 +1,19 @@
 -- `draw::put` meets its contract. Assumes nothing.
-use borrow.Author.Needs.{needs, sfits-of}
+use borrow.Author.Needs.{needs}
 use native.Mathlib.Omega.{arith}
 use Prim.Native.Nat.{_≤_}
-use mathlib.Core.Path.{refl, _∙_}
 use lib.ListN.{length, length-set}
 use denote.Ref.{now}
-use mir.Facts.{toZ-ofZ}
 use Rattle.draw.proofs.Places.{four-places, six-places}
 use Rattle.draw.proofs.put.Statement.{statement}
 use Rattle.draw.proofs.put.Tie as tie
 
 -- the room that each case has
-four : (c : tie.After-known-told) → 4 ≤ length (now (c .before .before .before .before .args .out))
-four c = rw (c .before .d .given .1) at (c .before .before .before .before .pre)
+four : (c : tie.After-known-told) → 4 ≤ length (now (c .before .before .before .args .out))
+four c = rw (c .before .d .given .1) at (c .before .before .before .pre)
 
-six : (c : tie.After-known-told2) → 6 ≤ length (now (c .before .before .before .before .args .out))
-six c = rw (c .before .d2 .given .1) at (c .before .before .before .before .pre)
+six : (c : tie.After-known-told2) → 6 ≤ length (now (c .before .before .before .args .out))
+six c = rw (c .before .d2 .given .1) at (c .before .before .before .pre)
 
 enum-known-d : tie.Need-enum-known-d
 enum-known-d c = search needs
@@ -53,11 +51,8 @@ slice-write-out-9 c = simp length-set (omega (arith, six c))
 slice-write-out-10 : tie.Need-slice-write-out-10
 slice-write-out-10 c = simp length-set (omega (arith, six c))
 
-enum-known-d-3 : tie.Need-enum-known-d-3
-enum-known-d-3 c = search needs
-
-refusal-number-requires : tie.Need-refusal-number-requires
-refusal-number-requires c κs = search needs
+enum-told : tie.Need-enum-told
+enum-told c = search needs
 
 same-length : tie.Need-same-length
 same-length c = search needs
@@ -65,8 +60,8 @@ same-length c = search needs
 returns : tie.Need-returns
 returns c =
     let p = c .before .d .given .0 .0 in
-    let out = now (c .before .before .before .before .args .out) in
-    rw (c .before .d .given .1) (refl, four-places (p .pad .x) (p .pad .y) (p .port .x) (p .port .y) out (four c))
+    let out = now (c .before .before .before .args .out) in
+    rw (c .before .d .given .1) (four-places (p .pad .x) (p .pad .y) (p .port .x) (p .port .y) out (four c))
 
 same-length-2 : tie.Need-same-length-2
 same-length-2 c = search needs
@@ -74,12 +69,11 @@ same-length-2 c = search needs
 returns-2 : tie.Need-returns-2
 returns-2 c =
     let p = c .before .d2 .given .0 .0 in
-    let out = now (c .before .before .before .before .args .out) in
-    rw (c .before .d2 .given .1) (refl, six-places (p .pad .x) (p .pad .y) (p .bend .x) (p .bend .y) (p .port .x) (p .port .y) out (six c))
+    let out = now (c .before .before .before .args .out) in
+    rw (c .before .d2 .given .1) (six-places (p .pad .x) (p .pad .y) (p .bend .x) (p .bend .y) (p .port .x) (p .port .y) out (six c))
 
 returns-3 : tie.Need-returns-3
-returns-3 c =
-    rw (c .before .before .d3 .given .1) (toZ-ofZ (sfits-of (c .refusal-number .ok)) ∙ c .refusal-number .ensures, refl)
+returns-3 c = search needs
 
 pub put-spec : {M : Type 1} → statement M
 put-spec =
@@ -97,8 +91,7 @@ put-spec =
     slice-write-out-8
     slice-write-out-9
     slice-write-out-10
-    enum-known-d-3
-    refusal-number-requires
+    enum-told
     same-length
     returns
     same-length-2

@@ -3,7 +3,8 @@ use native.Mathlib.Omega.{arith}
 use Prim.Native.Nat.{_<_, _^_}
 use lib.IntN.{natAbs, _-ℤ_}
 use lib.Signed.{mag}
-use Rattle.job.proofs.Heights.{read-back, mag-le, difference-small}
+use Rattle.numbers.specs.Bits.{read-back, mag-le}
+use Rattle.job.proofs.Heights.{difference-small}
 use Rattle.job.proofs.distance.Statement.{statement}
 use Rattle.job.proofs.distance.Tie as tie
 

@@ -2,7 +2,7 @@
 use borrow.Author.Needs.{needs}
 use mathlib.Core.Path.{_∙_, ap}
 use Rattle.paper.specs.Job.{portOf, twos}
-use Rattle.job.proofs.Heights.{read-back}
+use Rattle.numbers.specs.Bits.{read-back}
 use Rattle.job.proofs.port.Statement.{statement}
 use Rattle.job.proofs.port.Tie as tie
 

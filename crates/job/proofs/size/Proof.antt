@@ -6,7 +6,8 @@ use lib.IntN.{pos, _-ℤ_}
 use lib.Signed.{mag}
 use mir.Syntax.{w64}
 use mir.Val.{toZ, ofZ}
-use Rattle.job.proofs.Heights.{read-back, mag-le, Negated, negated, not-below-zero}
+use Rattle.numbers.specs.Bits.{read-back, mag-le}
+use Rattle.job.proofs.Heights.{Negated, negated, not-below-zero}
 use Rattle.job.proofs.size.Statement.{statement}
 use Rattle.job.proofs.size.Tie as tie
 

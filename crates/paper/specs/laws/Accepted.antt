@@ -13,7 +13,7 @@ use Rattle.numbers.specs.Whole.{whole, nle-num}
 use Rattle.paper.specs.declared.Refusal.{Refusal}
 use Rattle.paper.specs.Job.{count, reservedOf, xOf, yOf, portOf}
 use Rattle.paper.specs.Layouts.{boardOf, held, weighted, total, Layout, Untouching, Best}
-use Rattle.paper.specs.Refusals.{BadSize, BadEntry, Passed, RefusedBy, jobTrials, firstTrials, measureTrials, nextTrials, drawTrials, layoutTrials, bestTrial, numberTrial}
+use Rattle.paper.specs.Refusals.{BadSize, BadEntry, Passed, RefusedBy, jobTrials, firstTrials, measureTrials, nextTrials, drawTrials, layoutTrials, bestTrial, numberTrial, refusal}
 use Rattle.paper.specs.laws.Proper.{Differ, Rising, Proper}
 use Rattle.paper.specs.laws.Trials.{passed-append, append-passed, refused-left, refused-right}
 use Rattle.paper.specs.laws.Judged.{passed-differ}
@@ -99,7 +99,7 @@ module _ (job : List ℕ) (lw bw : ℕ) (list : List ℕ) where
   -- Measure's are exactly if First's are and the list holds an untouching layout.
   pub measure-accepted : Passed (measureTrials job lw bw list) → Passed (firstTrials job lw bw (length list)) × Untouching (boardOf job) (held list)
   measure-accepted p =
-      let (passed, (c8, (c9, _))) = append-passed (firstTrials job lw bw (length list)) (layoutTrials job list) p in (
+      let (passed, (c8, (c9, _))) = append-passed (firstTrials job lw bw (length list)) (layoutTrials (boardOf job) list) p in (
         passed,
         record {
           layout = record { inside = λ i l. lt-of-not-le (λ h. c8 i l (inl h)); own = λ i j l k e. c8 i k (inr (j, l, e)) };
@@ -109,7 +109,7 @@ module _ (job : List ℕ) (lw bw : ℕ) (list : List ℕ) where
 
   pub untouching-passed : Passed (firstTrials job lw bw (length list)) → Untouching (boardOf job) (held list) → Passed (measureTrials job lw bw list)
   untouching-passed p u =
-      passed-append (firstTrials job lw bw (length list)) (layoutTrials job list) p (entries, ((λ i l (j, k, t). u .apart i j k l t), tt))
+      passed-append (firstTrials job lw bw (length list)) (layoutTrials (boardOf job) list) p (entries, ((λ i l (j, k, t). u .apart i j k l t), tt))
     where
       entries : (i : ℕ) → i < count job → ¬ BadEntry (count job) list i
       entries i l (inl h) = omega (arith, u .layout .inside i l)
@@ -119,25 +119,26 @@ module _ (job : List ℕ) (lw bw : ℕ) (list : List ℕ) where
   pub next-accepted : Dec (Best (boardOf job) (weighted (boardOf job) lw bw) (held list)) → Passed (nextTrials job lw bw list)
       → Passed (measureTrials job lw bw list) × Best (boardOf job) (weighted (boardOf job) lw bw) (held list)
   next-accepted d p =
-      let (passed, (c10, _)) = append-passed (measureTrials job lw bw list) (bestTrial job lw bw list ∷ []) p in
+      let (passed, (c10, _)) = append-passed (measureTrials job lw bw list) (bestTrial (boardOf job) (weighted (boardOf job) lw bw) list ∷ []) p in
       (passed, Dec·not-not d .0 (λ n. c10 0 (omega arith) (measure-accepted passed .1, n)))
 
   pub best-passed : Passed (measureTrials job lw bw list) → Best (boardOf job) (weighted (boardOf job) lw bw) (held list) → Passed (nextTrials job lw bw list)
-  best-passed p b = passed-append (measureTrials job lw bw list) (bestTrial job lw bw list ∷ []) p ((λ i l (u, n). n b), tt)
+  best-passed p b = passed-append (measureTrials job lw bw list) (bestTrial (boardOf job) (weighted (boardOf job) lw bw) list ∷ []) p ((λ i l (u, n). n b), tt)
 
   -- if the layout is not a best one, Next refuses by 10.
   pub not-best-refused : Passed (measureTrials job lw bw list) → ¬ Best (boardOf job) (weighted (boardOf job) lw bw) (held list)
-      → RefusedBy (nextTrials job lw bw list) (record { reason = 10; at = 0 })
+      → RefusedBy (nextTrials job lw bw list) (refusal 10 0)
   not-best-refused p n =
-      refused-right (measureTrials job lw bw list) (bestTrial job lw bw list ∷ []) (record { reason = 10; at = 0 }) p
+      refused-right (measureTrials job lw bw list) (bestTrial (boardOf job) (weighted (boardOf job) lw bw) list ∷ []) (refusal 10 0) p
       (inl (refl, record { inside = omega arith; here = (measure-accepted p .1, n); none-before = λ j l. absurd (omega arith) }))
 
   -- What Measure refuses, Next refuses alike.
   pub measure-refused : (r : Refusal) → RefusedBy (measureTrials job lw bw list) r → RefusedBy (nextTrials job lw bw list) r
-  measure-refused r = refused-left (measureTrials job lw bw list) (bestTrial job lw bw list ∷ []) r
+  measure-refused r = refused-left (measureTrials job lw bw list) (bestTrial (boardOf job) (weighted (boardOf job) lw bw) list ∷ []) r
 
-  -- Where Next's trials are passed, the x of all pads differ.
+  -- Where Next's trials are passed, so are Measure's, and the x of all pads differ.
+  pub next-measured : Passed (nextTrials job lw bw list) → Passed (measureTrials job lw bw list)
+  next-measured p = append-passed (measureTrials job lw bw list) (bestTrial (boardOf job) (weighted (boardOf job) lw bw) list ∷ []) p .0
+
   pub next-differ : Passed (nextTrials job lw bw list) → Differ (boardOf job)
-  next-differ p =
-      let (passed, _) = append-passed (measureTrials job lw bw list) (bestTrial job lw bw list ∷ []) p in
-      first-accepted job lw bw (length list) (measure-accepted passed .0) .0 .proper .differ
+  next-differ p = first-accepted job lw bw (length list) (measure-accepted (next-measured p) .0) .0 .proper .differ

@@ -5,10 +5,10 @@ use Prim.Native.Nat.{ℕ, zero, suc, _<_}
 use native.Mathlib.Decide.{decLt, ℕ-discrete}
 use native.Mathlib.Omega.{arith}
 use Rattle.paper.specs.Leaders.{Between}
-use Rattle.paper.specs.Layouts.{Board, leader, Touching, Layout, Untouching, total, Best}
+use Rattle.paper.specs.Layouts.{Board, leader, Touching, Layout, Untouching, weighted, total, Best}
 use Rattle.paper.specs.laws.Proper.{Differ, Same}
 use Rattle.paper.specs.laws.Touching.{touch-sym, touch-iff}
-use Rattle.paper.specs.laws.Totals.{sum-same}
+use Rattle.paper.specs.laws.Totals.{sum-same, total-is}
 
 -- ---- only the ports of the board's pads count
 
@@ -153,3 +153,18 @@ each-port-once b f e s q h = go (fills (b .pads) f (λ i l. omega (arith, s .ins
   where
     go : (i : ℕ) × (i < b .pads) × (f i ≡ q) → (i : ℕ) × (i < b .pads) × (f i ≡ q) × ((j : ℕ) → j < b .pads → f j ≡ q → j ≡ i)
     go (i, l, d) = (i, l, d, λ j k c. own-pad b f s j i k l (omega arith))
+
+-- THEOREM: with as many ports as pads, a layout is port numbers of which each stands exactly once.
+pub layout-iff : (b : Board) (f : ℕ → ℕ) → b .ports ≡ b .pads → Layout b f
+    ↔ (((i : ℕ) → i < b .pads → f i < b .ports)
+    × ((q : ℕ) → q < b .ports → (i : ℕ) × (i < b .pads) × (f i ≡ q) × ((j : ℕ) → j < b .pads → f j ≡ q → j ≡ i)))
+layout-iff b f e =
+    ((λ l. (l .inside, each-port-once b f e l)), λ (inside, once). record { inside = inside; own = λ i j l k d. own (once (f i) (inside i k)) i j l k refl d })
+  where
+    own : {q : ℕ} → (m : ℕ) × (m < b .pads) × (f m ≡ q) × ((j : ℕ) → j < b .pads → f j ≡ q → j ≡ m)
+        → (i j : ℕ) → j < i → i < b .pads → f i ≡ q → f i ≡ f j → ⊥
+    own (m, h, s, u) i j l k c d = omega (arith, u i k c, u j (omega arith) (omega arith))
+
+-- THEOREM: with both weights 0 every untouching layout is best.
+pub zero-weights : (b : Board) (f : ℕ → ℕ) → Untouching b f → Best b (weighted b 0 0) f
+zero-weights b f u = record { untouching = u; least = λ g v. omega (arith, total-is b 0 0 f, total-is b 0 0 g) }

@@ -12,15 +12,15 @@ use Rattle.paper.specs.declared.Drawn.the-variants.{Straight, Bent, Refu
 use Rattle.paper.specs.Job.{count}
 use Rattle.paper.specs.Layouts.{boardOf, held, leader, weighted}
 use Rattle.paper.specs.Refusals.{firstTrials, measureTrials, nextTrials, drawTrials}
-use Rattle.paper.specs.Promises.{totalOf, number, pointCount, coordinates, overwritten, FirstAnswers, NextAnswers, MeasureAnswers, DrawAnswers, FirstPromise, NextPromise, MeasurePromise, DrawPromise}
+use Rattle.paper.specs.Promises.{totalOf, number, drawnNumber, coordinates, overwritten, FirstAnswers, NextAnswers, MeasureAnswers, DrawAnswers, FirstPromise, NextPromise, MeasurePromise, DrawPromise}
 use Rattle.paper.specs.laws.Trials.{refused-one, not-both}
 use Rattle.paper.specs.laws.Order.{first-best-one, next-best-one, next-not-last}
 use Rattle.paper.specs.laws.Kept.{kept-one}
 use Rattle.paper.specs.laws.Drawn.{straight-one, bent-one}
 
 module _ (job : List ℕ) (lw bw : ℕ) (before : List ℕ) where
-  -- the answers themselves
-  first-answer : (a c : Answer) (l m : List ℕ) → FirstAnswers job lw bw before a l → FirstAnswers job lw bw before c m → (a ≡ c) × (l ≡ m)
+  -- The answers themselves, for a caller in the language.
+  pub first-answer : (a c : Answer) (l m : List ℕ) → FirstAnswers job lw bw before a l → FirstAnswers job lw bw before c m → (a ≡ c) × (l ≡ m)
   first-answer (Total t) (Total s) l m p q =
       let e = kept-one (count job) before l m (p .3) (q .3) (first-best-one (boardOf job) (weighted (boardOf job) lw bw) (held l) (held m) (p .1) (q .1)) in
       (ap Total (p .2 ∙ ap (totalOf job lw bw) e ∙ sym (q .2)), e)
@@ -31,7 +31,7 @@ module _ (job : List ℕ) (lw bw : ℕ) (before : List ℕ) where
   first-answer (Refused r) End l m p q = absurd q
   first-answer (Refused r) (Refused s) l m p q = (ap Refused (refused-one (firstTrials job lw bw (length before)) r s (p .0) (q .0)), p .1 ∙ sym (q .1))
 
-  next-answer : (a c : Answer) (l m : List ℕ) → NextAnswers job lw bw before a l → NextAnswers job lw bw before c m → (a ≡ c) × (l ≡ m)
+  pub next-answer : (a c : Answer) (l m : List ℕ) → NextAnswers job lw bw before a l → NextAnswers job lw bw before c m → (a ≡ c) × (l ≡ m)
   next-answer (Total t) (Total s) l m p q =
       let e = kept-one (count job) before l m (p .3) (q .3) (next-best-one (boardOf job) (weighted (boardOf job) lw bw) (held before) (held l) (held m) (p .1) (q .1)) in
       (ap Total (p .2 ∙ ap (totalOf job lw bw) e ∙ sym (q .2)), e)
@@ -44,7 +44,7 @@ module _ (job : List ℕ) (lw bw : ℕ) (before : List ℕ) where
   next-answer (Refused r) End l m p q = absurd (not-both (nextTrials job lw bw before) r (q .0) (p .0))
   next-answer (Refused r) (Refused s) l m p q = (ap Refused (refused-one (nextTrials job lw bw before) r s (p .0) (q .0)), p .1 ∙ sym (q .1))
 
-  measure-answer : (a c : Answer) → MeasureAnswers job lw bw before a → MeasureAnswers job lw bw before c → a ≡ c
+  pub measure-answer : (a c : Answer) → MeasureAnswers job lw bw before a → MeasureAnswers job lw bw before c → a ≡ c
   measure-answer (Total t) (Total s) p q = ap Total (p .1 ∙ sym (q .1))
   measure-answer (Total t) End p q = absurd q
   measure-answer (Total t) (Refused r) p q = absurd (not-both (measureTrials job lw bw before) r (p .0) q)
@@ -66,7 +66,7 @@ module _ (job : List ℕ) (lw bw : ℕ) (before : List ℕ) where
   measure-determined n m p q = p .2 ∙ ap number (measure-answer (p .0) (q .0) (p .1) (q .1)) ∙ sym (q .2)
 
 module _ (job : List ℕ) (i q : ℕ) (before : List Float) where
-  draw-answer : (d e : Drawn) (l m : List Float) → DrawAnswers job i q before d l → DrawAnswers job i q before e m → (d ≡ e) × (l ≡ m)
+  pub draw-answer : (d e : Drawn) (l m : List Float) → DrawAnswers job i q before d l → DrawAnswers job i q before e m → (d ≡ e) × (l ≡ m)
   draw-answer (Straight d) (Straight e) l m x y =
       let s = ap Straight (straight-one (leader (boardOf job) i q) (x .1) (y .1)) in
       (s, x .2 ∙ ap (λ (c : Drawn). overwritten (coordinates c) before) s ∙ sym (y .2))
@@ -83,4 +83,4 @@ module _ (job : List ℕ) (i q : ℕ) (before : List Float) where
 
   -- THEOREM. What Draw replies is determined.
   pub draw-determined : (n m : ℤ) (l k : List Float) → DrawPromise job i q before n l → DrawPromise job i q before m k → (n ≡ m) × (l ≡ k)
-  draw-determined n m l k x y = let e = draw-answer (x .0) (y .0) l k (x .1) (y .1) in (x .2 ∙ ap pointCount (e .0) ∙ sym (y .2), e .1)
+  draw-determined n m l k x y = let e = draw-answer (x .0) (y .0) l k (x .1) (y .1) in (x .2 ∙ ap drawnNumber (e .0) ∙ sym (y .2), e .1)

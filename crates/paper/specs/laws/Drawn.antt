@@ -1,10 +1,10 @@
 -- What is drawn of a leader: `leaderDrawn` satisfies the paper's words (`drawn-is`), and nothing else does (`drawn-only`). Assumes nothing.
 use mathlib.Core.Path.{_≡_, refl, ap}
-use mathlib.Core.Logic.{inl, inr}
 use mathlib.Core.Bool.{Bool, true, false, cond}
 use mathlib.Core.List.{List}
 use Prim.Native.Nat.{ℕ, _^_, _≤_, _<_, zero-le}
-use native.Mathlib.Nat.{le-trans, le-of-eq, lt-of-le-of-lt, le-of-suc-le-suc, lt-of-not-le}
+use native.Mathlib.Nat.{le-trans, le-of-eq, lt-of-le-of-lt}
+use native.Mathlib.Omega.{arith}
 use borrow.Author.Tests.{eq-eqb, ne-eqb}
 use lib.Dec.{lit<, eqb}
 use lib.ListN.{length}
@@ -19,10 +19,11 @@ use Rattle.paper.specs.declared.Drawn.the-variants.{Straight, Bent, Refu
 use Rattle.paper.specs.Job.{xOf, yOf, portOf, twos}
 use Rattle.paper.specs.Leaders.{Leader, distance}
 use Rattle.paper.specs.Layouts.{boardOf, leader}
-use Rattle.paper.specs.Refusals.{BadField, Passed, drawTrials}
+use Rattle.paper.specs.Refusals.{Passed, drawTrials}
 use Rattle.paper.specs.Promises.{coordinates, overwritten, DrawAnswers}
 use Rattle.paper.specs.Canvas.{StandsFor, DrawnStraight, DrawnBent}
 use Rattle.paper.specs.Sheets.{J5}
+use Rattle.paper.specs.laws.Accepted.{draw-accepted}
 use Rattle.paper.specs.laws.Quarter.{quarter, quarter-is, four-times-one}
 
 -- The point (x, y) of the sheet on the canvas.
@@ -125,28 +126,17 @@ drawn-only l d h p = drawn-one l d (leaderDrawn l) p (drawn-is l h)
 
 -- ---- the call Draw
 
-not-above : {a n : ℕ} → ¬ (a < n) → n ≤ a
-not-above h = le-of-suc-le-suc (lt-of-not-le h)
+-- A Draw that passes its trials has a leader within the ranges.
+pub passed-on-sheet : (job : List ℕ) (i q room : ℕ) → Passed (drawTrials job i q room) → OnSheet (leader (boardOf job) i q)
+passed-on-sheet job i q room p =
+    let a = draw-accepted job i q room p in
+    record { right = a .0 .width i (a .2); pad = a .0 .pad i (a .2); port = a .0 .port q (a .3) }
 
--- The leader of a record without a bad field to the port of another is within the ranges.
-pub on-sheet : (job : List ℕ) (i q : ℕ) → ¬ BadField job i → ¬ BadField job q → OnSheet (leader (boardOf job) i q)
-on-sheet job i q h k = record {
-  right = not-above (λ l. h (inr (inr (inl l))));
-  pad = not-above (λ l. h (inr (inr (inr (inl l)))));
-  port = not-above (λ l. k (inr (inr (inr (inr l)))));
-}
-
-module _ (job : List ℕ) (i q room : ℕ) (passed : Passed (drawTrials job i q room)) where
-  -- A Draw that passes its trials has room for six floats,
-  pub passed-room : 6 ≤ room
-  passed-room = not-above (passed .1 .0 0 (lit< tt))
-
-  -- and a leader within the ranges.
-  pub passed-on-sheet : OnSheet (leader (boardOf job) i q)
-  passed-on-sheet =
-      let fields = passed .1 .1 .0 in
-      let numbers = passed .1 .1 .1 .1 .1 .1 .0 0 (lit< tt) in
-      on-sheet job i q (fields i (lt-of-not-le (λ l. numbers (inl l)))) (fields q (lt-of-not-le (λ l. numbers (inr l))))
+-- A drawn leader has at most six coordinates.
+pub coordinates-few : (d : Drawn) → length (coordinates d) ≤ 6
+coordinates-few (Straight d) = omega arith
+coordinates-few (Bent d) = omega arith
+coordinates-few (NotDrawn r) = omega arith
 
 -- What draws the leader is Draw's answer, with its coordinates in the lent list.
 pub draw-answers : (job : List ℕ) (i q : ℕ) (before : List Float) (d : Drawn) → Passed (drawTrials job i q (length before))

@@ -79,7 +79,7 @@ bad-field-iff job i =
     (or-iff (outside (yOf job i)) (outside (portOf job i)) (outside-iff (yOf job i)) (outside-iff (portOf job i))))))
 
 -- 5
-pub not-above-iff : (job : List ℕ) (i : ℕ) → T (notAbove job i) ↔ NotAbove job i
+pub not-above-iff : (job : List ℕ) (i : ℕ) → T (notAbove job i) ↔ NotAbove (portOf job) i
 not-above-iff job i = and-iff (ltb 0 i) (leZ (portOf job i) (portOf job (i - 1))) (ltb-iff 0 i) (le-iff (portOf job i) (portOf job (i - 1)))
 
 -- 6, 7 and 8

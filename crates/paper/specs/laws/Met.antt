@@ -12,8 +12,8 @@ use Rattle.paper.specs.declared.Answer.the-variants.{Total, End, Refused
 use Rattle.paper.specs.declared.Drawn.the-variants.{Refused as NotDrawn}
 use Rattle.paper.specs.Job.{count}
 use Rattle.paper.specs.Layouts.{boardOf, held, leader, weighted, Best, NextBest, LastBest}
-use Rattle.paper.specs.Refusals.{Passed, firstTrials, measureTrials, drawTrials}
-use Rattle.paper.specs.Promises.{totalOf, number, pointCount, coordinates, overwritten, FirstAnswers, NextAnswers, FirstPromise, NextPromise, MeasurePromise, DrawPromise}
+use Rattle.paper.specs.Refusals.{Passed, firstTrials, measureTrials, drawTrials, refusal}
+use Rattle.paper.specs.Promises.{totalOf, number, drawnNumber, coordinates, overwritten, FirstAnswers, NextAnswers, FirstPromise, NextPromise, MeasurePromise, DrawPromise}
 use Rattle.paper.specs.laws.Verdicts.{run, firstFindings, measureFindings, drawFindings}
 use Rattle.paper.specs.laws.Proper.{Differ}
 use Rattle.paper.specs.laws.Trials.{Judged}
@@ -73,7 +73,7 @@ module _ (job : List ℕ) (lw bw : ℕ) (before : List ℕ) where
       judge : Passed (measureTrials job lw bw before) → Dec (Best (boardOf job) (weighted (boardOf job) lw bw) (held before))
           → (n : ℤ) × (after : List ℕ) × NextPromise job lw bw before n after
       judge p (yes best) = made (next-made p best)
-      judge p (no worse) = (number (Refused (record { reason = 10; at = 0 })), before, (Refused (record { reason = 10; at = 0 }), (not-best-refused job lw bw before p worse, refl), refl))
+      judge p (no worse) = (number (Refused (refusal 10 0)), before, (Refused (refusal 10 0), (not-best-refused job lw bw before p worse, refl), refl))
 
       go : (v : Verdict) → Judged v (measureTrials job lw bw before) → (n : ℤ) × (after : List ℕ) × NextPromise job lw bw before n after
       go Sound p =
@@ -96,5 +96,5 @@ module _ (job : List ℕ) (i q : ℕ) (before : List Float) where
       go Sound p =
           let d = leaderDrawn (leader (boardOf job) i q) in
           let is = drawn-is (leader (boardOf job) i q) (passed-on-sheet job i q (length before) p) in
-          (pointCount d, overwritten (coordinates d) before, (d, draw-answers job i q before d p is, refl))
-      go (Stopped r) p = (pointCount (NotDrawn r), before, (NotDrawn r, (p, refl), refl))
+          (drawnNumber d, overwritten (coordinates d) before, (d, draw-answers job i q before d p is, refl))
+      go (Stopped r) p = (drawnNumber (NotDrawn r), before, (NotDrawn r, (p, refl), refl))

@@ -14,6 +14,7 @@ use Rattle.paper.specs.declared.Answer.the-variants.{Total, End, Refused
 use Rattle.paper.specs.declared.Two.{Two}
 use Rattle.paper.specs.declared.Three.{Three}
 use Rattle.paper.specs.declared.Drawn.the-variants.{Straight, Bent, Refused as NotDrawn}
+use Rattle.paper.specs.Layouts.{boardOf, weighted}
 use Rattle.paper.specs.Refusals.{Trial, Clean, RefusedBy, firstTrials, measureTrials, nextTrials, drawTrials, bestTrial}
 use Rattle.paper.specs.Promises.{refusalNumber, number, FirstAnswers, NextAnswers, MeasureAnswers, DrawAnswers}
 use Rattle.paper.specs.Promises.{FirstPromise, NextPromise, MeasurePromise, DrawPromise}
@@ -68,7 +69,7 @@ next-within job lw bw list r =
     (omega arith, omega arith, omega arith, λ c. let few = few-records job (c 0 (omega arith)) in omega arith)
 
 pub measure-within : (job : List ℕ) (lw bw : ℕ) (list : List ℕ) (r : Refusal) → RefusedBy (measureTrials job lw bw list) r → Within r
-measure-within job lw bw list r a = next-within job lw bw list r (refused-left (measureTrials job lw bw list) (bestTrial job lw bw list ∷ []) r a)
+measure-within job lw bw list r a = next-within job lw bw list r (refused-left (measureTrials job lw bw list) (bestTrial (boardOf job) (weighted (boardOf job) lw bw) list ∷ []) r a)
 
 pub draw-within : (job : List ℕ) (i q room : ℕ) (r : Refusal) → RefusedBy (drawTrials job i q room) r → Within r
 draw-within job i q room r =

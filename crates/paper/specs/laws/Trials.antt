@@ -13,7 +13,7 @@ use Rattle.paper.specs.declared.Found.{Found}
 use Rattle.paper.specs.declared.Found.the-variants.{At, Nowhere}
 use Rattle.paper.specs.declared.Verdict.{Verdict}
 use Rattle.paper.specs.declared.Verdict.the-variants.{Sound, Refused}
-use Rattle.paper.specs.Refusals.{Trial, whole, Clean, FirstFault, Passed, RefusedBy}
+use Rattle.paper.specs.Refusals.{Trial, Clean, FirstFault, Passed, RefusedBy}
 use Rattle.paper.specs.laws.Search.{first, at-is, none-at}
 use Rattle.paper.specs.laws.Verdicts.{Finding, outcome, next, run, run-append, run-stopped, atWhole}
 
@@ -48,6 +48,13 @@ refused-one (t ∷ ts) r s (inl a) (inl b) =
 refused-one (t ∷ ts) r s (inl a) (inr b) = absurd (b .0 (r .at) (a .1 .inside) (a .1 .here))
 refused-one (t ∷ ts) r s (inr a) (inl b) = absurd (a .0 (s .at) (b .1 .inside) (b .1 .here))
 refused-one (t ∷ ts) r s (inr a) (inr b) = refused-one ts r s (a .1) (b .1)
+
+-- What a verdict that the code worked out tells: the trials are passed, or one refuses.
+pub judged-sound : (v : Verdict) (ts : List Trial) → Judged v ts → v ≡ Sound → Passed ts
+judged-sound v ts j e = subst (λ (w : Verdict). Judged w ts) e j
+
+pub judged-refused : (v : Verdict) (ts : List Trial) (r : Refusal) → Judged v ts → v ≡ Refused r → RefusedBy ts r
+judged-refused v ts r j e = subst (λ (w : Verdict). Judged w ts) e j
 
 -- so that there is one right verdict.
 pub judged-one : (ts : List Trial) (v w : Verdict) → Judged v ts → Judged w ts → v ≡ w
@@ -109,7 +116,7 @@ finds-first t p says = go (first p (t .among)) refl
     go Nowhere e = clean (λ i l x. subst T (none-at p (t .among) e i l) (says i l .1 x))
 
 -- and 0 for a test of the whole input.
-pub finds-whole : (r : ℕ) (P : Type 0) (b : Bool) → T b ↔ P → Finds (record { reason = r; among = 1; fault = whole P }) (atWhole b)
+pub finds-whole : (r : ℕ) (P : Type 0) (b : Bool) → T b ↔ P → Finds (record { reason = r; among = 1; fault = λ i. P }) (atWhole b)
 finds-whole r P true says = faulty {i = 0} (record { inside = omega arith; here = says .0 tt; none-before = λ j l. absurd (omega arith) })
 finds-whole r P false says = clean (λ i l x. says .1 x)
 

@@ -10,6 +10,7 @@ use Rattle.paper.specs.declared.Found.{Found}
 use Rattle.paper.specs.declared.Found.the-variants.{At, Nowhere}
 use Rattle.paper.specs.declared.Verdict.{Verdict}
 use Rattle.paper.specs.declared.Verdict.the-variants.{Sound, Refused}
+use Rattle.paper.specs.Refusals.{refusal}
 use Rattle.paper.specs.Job.{count}
 use Rattle.paper.specs.Layouts.{boardOf, held}
 use Rattle.paper.specs.laws.Search.{first}
@@ -21,7 +22,7 @@ Finding = ℕ × Found
 
 -- the first that finds a record gives the refusal, which stands
 abbrev pub outcome : ℕ → Found → Verdict
-outcome r (At i) = Refused (record { reason = r; at = i })
+outcome r (At i) = Refused (refusal r i)
 outcome r Nowhere = Sound
 
 abbrev pub next : Verdict → Finding → Verdict

@@ -17,7 +17,7 @@ use Rattle.paper.specs.Job.{count, twos, nameOf, reservedOf, xOf, yOf, p
 use Rattle.paper.specs.Layouts.{Board, boardOf, held, weighted, Best, sum}
 use Rattle.paper.specs.Refusals.{Trial, Passed, firstTrials, measureTrials, nextTrials}
 use Rattle.paper.specs.Promises.{Kept, totalOf, FirstAnswers, NextAnswers, MeasureAnswers}
-use Rattle.paper.specs.Sheets.{sheets, Call, First, Next, Measure, Sheet, Kept-to, Allowed}
+use Rattle.paper.specs.Sheets.{sheets, Each, Call, First, Next, Measure, Sheet, AllowedBy}
 use Rattle.paper.specs.laws.Search.{first, some}
 use Rattle.paper.specs.laws.Tests.{outside, between, touching}
 use Rattle.paper.specs.Leaders.{lengthOf, bendsOf}
@@ -178,16 +178,12 @@ module _ (job : List ℕ) (lw bw : ℕ) (l : List ℕ) where
   measure-holds (Refused r) h = judged-as (run Sound (measureFindings job lw bw l)) (Stopped r) (measureTrials job lw bw l) (measure-judged job lw bw l) h
 
 -- A sheet that passes its test is one that its call's promise allows.
-holds-allowed : (c : Call) (s : Sheet) → T (holdsFor c s) → Kept-to c s
+holds-allowed : (c : Call) (s : Sheet) → T (holdsFor c s) → AllowedBy c s
 holds-allowed First s h = (s .answer, first-holds (s .job) (s .lw) (s .bw) (s .before) (s .answer) (s .after) h, refl)
 holds-allowed Next s h = (s .answer, next-holds (s .job) (s .lw) (s .bw) (s .before) (s .answer) (s .after) h, refl)
 holds-allowed Measure s h =
     let u = both (measureHolds (s .job) (s .lw) (s .bw) (s .before) (s .answer)) (sameList (s .after) (s .before)) .0 h in
     ((s .answer, measure-holds (s .job) (s .lw) (s .bw) (s .before) (s .answer) (u .0), refl), same-list (s .after) (s .before) (u .1))
-
-abbrev pub Each : List Sheet → Type 0
-Each [] = Unit {0}
-Each (s ∷ ss) = Allowed s × Each ss
 
 all-allowed : (ss : List Sheet) → T (allHold ss) → Each ss
 all-allowed [] h = tt

@@ -1,11 +1,11 @@
--- `draw::refusal_number` meets its contract. Assumes nothing.
+-- `cheremysl::of_refusal` meets its contract. Assumes nothing.
 use borrow.Author.Needs.{needs}
 use Prim.Native.Nat.{_+_, _*_, _^_, _<_}
 use native.Mathlib.Omega.{arith}
 use lib.IntN.{ℤ, pos, natAbs}
-use Rattle.draw.proofs.Bits.{minus-fits, minus-back}
-use Rattle.draw.proofs.refusal_number.Statement.{statement}
-use Rattle.draw.proofs.refusal_number.Tie as tie
+use Rattle.numbers.specs.Bits.{minus-fits, minus-back}
+use Rattle.cheremysl.proofs.of_refusal.Statement.{statement}
+use Rattle.cheremysl.proofs.of_refusal.Tie as tie
 
 cast-n : tie.Need-cast-n
 cast-n c = search needs
@@ -35,5 +35,5 @@ sub-result c = minus-fits (number c) (bound c)
 returns : tie.Need-returns
 returns c = minus-back (number c) (bound c)
 
-pub refusal-number-spec : {M : Type 1} → statement M
-refusal-number-spec = tie.close (tie.spec cast-n mul-n cast-n-2 add-n cast-result sub-result returns)
+pub of-refusal-spec : {M : Type 1} → statement M
+of-refusal-spec = tie.close (tie.spec cast-n mul-n cast-n-2 add-n cast-result sub-result returns)

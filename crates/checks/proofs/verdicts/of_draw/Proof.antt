@@ -1,0 +1,57 @@
+-- `checks::verdicts::of_draw` meets its contract. Assumes nothing.
+use denote.Ref.{now}
+use Rattle.paper.specs.declared.Verdict.the-variants.{Sound}
+use Rattle.paper.specs.laws.Verdicts.{atWhole, drawFindings, run-append}
+use mathlib.Core.Path.{sym, _∙_}
+use Rattle.checks.specs.Sound.{was-sound, whole-false, size-le}
+use borrow.Author.Needs.{needs}
+use Rattle.checks.proofs.verdicts.of_draw.Statement.{statement}
+use Rattle.checks.proofs.verdicts.of_draw.Tie as tie
+
+bad-size-requires : tie.Need-bad-size-requires
+bad-size-requires c κs = search needs
+
+try-whole-requires : tie.Need-try-whole-requires
+try-whole-requires c κs = search needs
+
+try-whole-requires-2 : tie.Need-try-whole-requires-2
+try-whole-requires-2 c κs = search needs
+
+of-job-requires : tie.Need-of-job-requires
+of-job-requires c κs =
+    λ sound.
+    let bad = c .before .before .bad-size in
+    let s1 = was-sound _ _ _ (c .try-whole2 .ensures) sound .0 in
+    let none = was-sound Sound _ (1, atWhole (bad .result)) (c .before .try-whole .ensures) s1 .1 in
+    size-le (now (c .before .before .before .before .args .job)) (sym (bad .ensures) ∙ whole-false (bad .result) none)
+
+bad-number-requires : tie.Need-bad-number-requires
+bad-number-requires c κs = search needs
+
+try-whole-requires-3 : tie.Need-try-whole-requires-3
+try-whole-requires-3 c κs = search needs
+
+returns : tie.Need-returns
+unfolding drawFindings
+returns c =
+    rw (
+      run-append,
+      c .try-whole3 .ensures,
+      c .before .bad-number .ensures,
+      c .before .before .of-job .ensures,
+      c .before .before .before .try-whole2 .ensures,
+      c .before .before .before .before .try-whole .ensures,
+      c .before .before .before .before .before .bad-size .ensures,
+    )
+
+pub of-draw-spec : {M : Type 1} → statement M
+of-draw-spec =
+    tie.close
+    (tie.spec
+    bad-size-requires
+    try-whole-requires
+    try-whole-requires-2
+    of-job-requires
+    bad-number-requires
+    try-whole-requires-3
+    returns)

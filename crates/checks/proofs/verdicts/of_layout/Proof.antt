@@ -1,0 +1,32 @@
+-- `checks::verdicts::of_layout` meets its contract. Assumes nothing.
+use denote.Ref.{now}
+use Rattle.paper.specs.Job.{count}
+use Rattle.paper.specs.laws.Search.{first}
+use Rattle.paper.specs.laws.Tests.{badEntry}
+use Rattle.paper.specs.laws.Verdicts.{layoutFindings}
+use Rattle.checks.specs.Dispatch.{testOf}
+use Rattle.checks.specs.Sound.{was-sound, entries-below}
+use borrow.Author.Needs.{needs}
+use Rattle.checks.proofs.verdicts.of_layout.Statement.{statement}
+use Rattle.checks.proofs.verdicts.of_layout.Tie as tie
+
+try-records-requires : tie.Need-try-records-requires
+try-records-requires c κs = search needs
+
+try-records-requires-2 : tie.Need-try-records-requires-2
+unfolding testOf
+try-records-requires-2 c κs =
+    λ sound.
+    let s = c .before .before .before in
+    let n = count (now (s .args .job)) in
+    let list = now (s .args .list) in
+    let none = was-sound (s .args .v) _ (8, first (badEntry n list) n) (c .try-records .ensures) sound in
+    let given = s .pre (none .0) in
+    (given .0, (given .1, entries-below n list (none .1)))
+
+returns : tie.Need-returns
+unfolding layoutFindings testOf
+returns c = rw (c .try-records2 .ensures, c .before .try-records .ensures)
+
+pub of-layout-spec : {M : Type 1} → statement M
+of-layout-spec = tie.close (tie.spec try-records-requires try-records-requires-2 returns)

@@ -1,0 +1,3 @@
+-- Dispatch: what the code's enum of checks stands for. Sound: what a sound verdict tells.
+pub mod Dispatch
+pub mod Sound

@@ -1,0 +1,69 @@
+// The first record that fails a check: one loop for all checks, and one below it for those on two records.
+use crate::Check;
+use crate::tests;
+use paper::Found;
+ghost use mathlib.Core.Path.{_≡_};
+ghost use Prim.Native.Nat.{_<_};
+ghost use Rattle.paper.specs.Job.{count};
+ghost use Rattle.paper.specs.laws.Search.{first, some};
+ghost use Rattle.checks.specs.Dispatch.{pairOf, testOf, Ready};
+
+// Whether a check on two records fails at i and j.
+fn clash(c: Check, job: &[u8], list: &[u16], n: u16, i: u16, j: u16) -> bool
+    requires { ⌜ (n ≡ count (now job)) × (i < n) × (j < n) × Ready c (now list) n ⌝ }
+    ensures { λ r. ⌜ r ≡ pairOf c (now (job .entry)) (now (list .entry)) i j ⌝ }
+{
+    match c {
+        Check::Field => false,
+        Check::Rise => false,
+        Check::Name => tests::same_name(job, i, j),
+        Check::Place => tests::same_x(job, i, j),
+        Check::Entry => tests::same_entry(list, i, j),
+        Check::Touch => tests::touches(job, list, i, j),
+    }
+}
+
+// Whether it fails at i and an earlier record.
+fn clashes(c: Check, job: &[u8], list: &[u16], n: u16, i: u16) -> bool
+    requires { ⌜ (n ≡ count (now job)) × (i < n) × Ready c (now list) n ⌝ }
+    ensures { λ r. ⌜ r ≡ some (pairOf c (now (job .entry)) (now (list .entry)) i) i ⌝ }
+{
+    let mut j = 0;
+    while j < i {
+        if clash(c, job, list, n, i, j) {
+            return true;
+        }
+        j += 1;
+    }
+    false
+}
+
+// Whether a check fails at i.
+fn fails(c: Check, job: &[u8], list: &[u16], n: u16, i: u16) -> bool
+    requires { ⌜ (n ≡ count (now job)) × (i < n) × Ready c (now list) n ⌝ }
+    ensures { λ r. ⌜ r ≡ testOf c (now (job .entry)) (now (list .entry)) n i ⌝ }
+{
+    match c {
+        Check::Field => tests::bad_field(job, i),
+        Check::Rise => tests::not_above(job, i),
+        Check::Name => clashes(c, job, list, n, i),
+        Check::Place => clashes(c, job, list, n, i),
+        Check::Entry => (n <= list[i as usize]) | clashes(c, job, list, n, i),
+        Check::Touch => clashes(c, job, list, n, i),
+    }
+}
+
+// The first of the n records that fails a check.
+pub fn first_failing(c: Check, job: &[u8], list: &[u16], n: u16) -> Found
+    requires { ⌜ (n ≡ count (now job)) × Ready c (now list) n ⌝ }
+    ensures { λ r. ⌜ r ≡ first (testOf c (now (job .entry)) (now (list .entry)) n) n ⌝ }
+{
+    let mut i = 0;
+    while i < n {
+        if fails(c, job, list, n, i) {
+            return Found::At(i);
+        }
+        i += 1;
+    }
+    Found::Nowhere
+}

@@ -1,0 +1,113 @@
+// The tests of 01's refusals at one record, or at two: each computes the test of its name in paper's laws/Tests.antt.
+ghost use mathlib.Core.Path.{_≡_};
+ghost use Prim.Native.Nat.{_<_};
+ghost use lib.ListN.{length};
+ghost use Rattle.paper.specs.Job.{count};
+ghost use Rattle.paper.specs.Layouts.{boardOf, held};
+ghost use Rattle.paper.specs.laws.Tests.{badSize, badWeight, outside, badField, notAbove, sameName, sameX, sameEntry, between, touching, touch, badNumber};
+
+// 1: the byte count.
+pub fn bad_size(job: &[u8]) -> bool
+    ensures { λ r. ⌜ r ≡ badSize (now (job .entry)) ⌝ }
+{
+    (job.len() == 0) | (job.len() % 16 != 0) | (1024 < job.len())
+}
+
+// 2: the weights.
+pub fn bad_weight(lw: u32, bw: u32) -> bool
+    ensures { λ r. ⌜ r ≡ badWeight lw bw ⌝ }
+{
+    (1000 < lw) | (1000 < bw)
+}
+
+// 4: the fields of record i.
+fn out_of_range(h: i64) -> bool
+    ensures { λ r. ⌜ r ≡ outside h ⌝ }
+{
+    (h < -1000000) | (1000000 < h)
+}
+
+pub fn bad_field(job: &[u8], i: u16) -> bool
+    requires { ⌜ i < count (now job) ⌝ }
+    ensures { λ r. ⌜ r ≡ badField (now (job .entry)) i ⌝ }
+{
+    let x = job::x(job, i);
+    (job::reserved(job, i) != 0)
+        | (x < 1)
+        | (1000000 < x)
+        | out_of_range(job::y(job, i))
+        | out_of_range(job::port(job, i))
+}
+
+// 5: record i's port height against the one before.
+pub fn not_above(job: &[u8], i: u16) -> bool
+    requires { ⌜ i < count (now job) ⌝ }
+    ensures { λ r. ⌜ r ≡ notAbove (now (job .entry)) i ⌝ }
+{
+    if i == 0 {
+        false
+    } else {
+        job::port(job, i) <= job::port(job, i - 1)
+    }
+}
+
+// 6, 7, 8: records i and j.
+pub fn same_name(job: &[u8], i: u16, j: u16) -> bool
+    requires { ⌜ (i < count (now job)) × (j < count (now job)) ⌝ }
+    ensures { λ r. ⌜ r ≡ sameName (now (job .entry)) i j ⌝ }
+{
+    let name = job::name(job, i);
+    (name != 0) & (name == job::name(job, j))
+}
+
+pub fn same_x(job: &[u8], i: u16, j: u16) -> bool
+    requires { ⌜ (i < count (now job)) × (j < count (now job)) ⌝ }
+    ensures { λ r. ⌜ r ≡ sameX (now (job .entry)) i j ⌝ }
+{
+    job::x(job, i) == job::x(job, j)
+}
+
+pub fn same_entry(list: &[u16], i: u16, j: u16) -> bool
+    requires { ⌜ (i < length (now list)) × (j < length (now list)) ⌝ }
+    ensures { λ r. ⌜ r ≡ sameEntry (now (list .entry)) i j ⌝ }
+{
+    list[i as usize] == list[j as usize]
+}
+
+// 9: a pad at (x, y) led to the height port, and one at (x2, y2) led to the height port2.
+fn lies_between(m: i64, a: i64, b: i64) -> bool
+    ensures { λ r. ⌜ r ≡ between m a b ⌝ }
+{
+    (a <= m) & (m <= b) | (b <= m) & (m <= a)
+}
+
+pub fn leaders_touch(x: u32, y: i64, port: i64, x2: u32, y2: i64, port2: i64) -> bool
+    ensures { λ r. ⌜ r ≡ touching (record { x = x; y = y; port = port }) (record { x = x2; y = y2; port = port2 }) ⌝ }
+{
+    (x2 < x) & lies_between(port, y2, port2) | (x < x2) & lies_between(port2, y, port)
+}
+
+pub fn touches(job: &[u8], list: &[u16], i: u16, j: u16) -> bool
+    requires { ⌜ (i < count (now job)) × (i < length (now list)) × (held (now list) i < count (now job)) ⌝ }
+    requires { ⌜ (j < count (now job)) × (j < length (now list)) × (held (now list) j < count (now job)) ⌝ }
+    ensures { λ r. ⌜ r ≡ touch (boardOf (now (job .entry))) (held (now (list .entry))) i j ⌝ }
+{
+    let q = list[i as usize];
+    let q2 = list[j as usize];
+    leaders_touch(
+        job::x(job, i),
+        job::y(job, i),
+        job::port(job, q),
+        job::x(job, j),
+        job::y(job, j),
+        job::port(job, q2),
+    )
+}
+
+// 11: Draw's record number and port number.
+pub fn bad_number(job: &[u8], i: u32, q: u32) -> bool
+    ensures { λ r. ⌜ r ≡ badNumber (count (now (job .entry))) i q ⌝ }
+{
+    let n = job.len() / 16;
+    (n <= i as usize) | (n <= q as usize)
+}

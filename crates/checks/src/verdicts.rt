@@ -1,0 +1,100 @@
+// The checks of each call, in order. A verdict goes from check to check, and a refusal stands.
+use crate::Check;
+use crate::find;
+use crate::tests;
+use paper::Found;
+use paper::Refusal;
+use paper::Verdict;
+ghost use mathlib.Core.Path.{_≡_};
+ghost use Prim.Native.Nat.{_≤_};
+ghost use lib.ListN.{length};
+ghost use Rattle.paper.specs.Job.{count};
+ghost use Rattle.paper.specs.laws.Search.{first};
+ghost use Rattle.paper.specs.laws.Verdicts.{outcome, next, run, atWhole, jobFindings, layoutFindings, firstFindings, measureFindings, drawFindings};
+ghost use Rattle.checks.specs.Dispatch.{testOf, Ready};
+
+// What a check found, as a verdict.
+fn verdict(reason: u16, found: Found) -> Verdict
+    ensures { λ r. ⌜ r ≡ outcome reason found ⌝ }
+{
+    match found {
+        Found::At(i) => Verdict::Refused(Refusal { reason, at: i }),
+        Found::Nowhere => Verdict::Sound,
+    }
+}
+
+// One more check, of the input as a whole.
+fn try_whole(v: Verdict, reason: u16, fault: bool) -> Verdict
+    ensures { λ r. ⌜ r ≡ next v (reason, atWhole fault) ⌝ }
+{
+    match v {
+        Verdict::Sound => {
+            if fault {
+                verdict(reason, Found::At(0))
+            } else {
+                Verdict::Sound
+            }
+        }
+        Verdict::Refused(r) => Verdict::Refused(r),
+    }
+}
+
+// One more check, of the records.
+fn try_records(v: Verdict, reason: u16, c: Check, job: &[u8], list: &[u16]) -> Verdict
+    requires { ⌜ (v ≡ Verdict.Sound → (length (now job) ≤ 1024) × Ready c (now list) (count (now job))) ⌝ }
+    ensures { λ r. ⌜ r ≡ next v (reason, first (testOf c (now (job .entry)) (now (list .entry)) (count (now (job .entry)))) (count (now (job .entry)))) ⌝ }
+{
+    match v {
+        Verdict::Sound => verdict(reason, find::first_failing(c, job, list, job::records(job))),
+        Verdict::Refused(r) => Verdict::Refused(r),
+    }
+}
+
+// 4 to 7: the job's records.
+pub fn of_job(v: Verdict, job: &[u8]) -> Verdict
+    requires { ⌜ (v ≡ Verdict.Sound → length (now job) ≤ 1024) ⌝ }
+    ensures { λ r. ⌜ r ≡ run v (jobFindings (now (job .entry))) ⌝ }
+{
+    let none = [0u16; 1];
+    let v4 = try_records(v, 4, Check::Field, job, &none);
+    let v5 = try_records(v4, 5, Check::Rise, job, &none);
+    let v6 = try_records(v5, 6, Check::Name, job, &none);
+    try_records(v6, 7, Check::Place, job, &none)
+}
+
+// 8 and 9: the layout.
+pub fn of_layout(v: Verdict, job: &[u8], list: &[u16]) -> Verdict
+    requires { ⌜ (v ≡ Verdict.Sound → (length (now job) ≤ 1024) × (count (now job) ≤ length (now list))) ⌝ }
+    ensures { λ r. ⌜ r ≡ run v (layoutFindings (now (job .entry)) (now (list .entry))) ⌝ }
+{
+    let v8 = try_records(v, 8, Check::Entry, job, list);
+    try_records(v8, 9, Check::Touch, job, list)
+}
+
+// First, with room for so many entries: 1 to 7.
+pub fn of_first(job: &[u8], lw: u32, bw: u32, room: usize) -> Verdict
+    ensures { λ r. ⌜ r ≡ run Verdict.Sound (firstFindings (now (job .entry)) lw bw room) ⌝ }
+{
+    let v1 = try_whole(Verdict::Sound, 1, tests::bad_size(job));
+    let v2 = try_whole(v1, 2, tests::bad_weight(lw, bw));
+    let v3 = try_whole(v2, 3, room < job.len() / 16);
+    of_job(v3, job)
+}
+
+// Measure: 1 to 9.
+pub fn of_measure(job: &[u8], lw: u32, bw: u32, list: &[u16]) -> Verdict
+    ensures { λ r. ⌜ r ≡ run Verdict.Sound (measureFindings (now (job .entry)) lw bw (now (list .entry))) ⌝ }
+{
+    let v = of_first(job, lw, bw, list.len());
+    of_layout(v, job, list)
+}
+
+// Draw of record i to port q, with room for so many floats: 1, 3 to 7 and 11.
+pub fn of_draw(job: &[u8], i: u32, q: u32, room: usize) -> Verdict
+    ensures { λ r. ⌜ r ≡ run Verdict.Sound (drawFindings (now (job .entry)) i q room) ⌝ }
+{
+    let v1 = try_whole(Verdict::Sound, 1, tests::bad_size(job));
+    let v3 = try_whole(v1, 3, room < 6);
+    let v7 = of_job(v3, job);
+    try_whole(v7, 11, tests::bad_number(job, i, q))
+}

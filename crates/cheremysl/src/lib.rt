@@ -1,0 +1,56 @@
+// The calls for C. A slice is a pointer and a count of elements. include/cheremysl.h is the manual; what each call promises, for every
+// input, is the promise of its name in paper's Promises.antt.
+use paper::Answer;
+use paper::Drawn;
+use paper::Refusal;
+ghost use mathlib.Core.Path.{_≡_};
+ghost use Rattle.paper.specs.Promises.{refusalNumber, number, drawnNumber, MeasurePromise, DrawPromise};
+ghost use Rattle.paper.specs.laws.Bounds.{Bounded};
+
+// C's number of a refusal, of an answer and of a drawn leader.
+fn of_refusal(f: Refusal) -> i64
+    ensures { λ r. ⌜ r ≡ refusalNumber f ⌝ }
+{
+    let n = 65536 * (f.reason as u64) + (f.at as u64);
+    -(n as i64)
+}
+
+fn of_answer(a: Answer) -> i64
+    requires { ⌜ Bounded a ⌝ }
+    ensures { λ r. ⌜ r ≡ number a ⌝ }
+{
+    match a {
+        Answer::Total(t) => t as i64,
+        Answer::End => -1,
+        Answer::Refused(f) => of_refusal(f),
+    }
+}
+
+fn of_drawn(d: Drawn) -> i64
+    ensures { λ r. ⌜ r ≡ drawnNumber d ⌝ }
+{
+    match d {
+        Drawn::Straight(_) => 2,
+        Drawn::Bent(_) => 3,
+        Drawn::Refused(f) => of_refusal(f),
+    }
+}
+
+#[no_mangle]
+pub extern "C" fn cheremysl_measure(
+    job: &[u8],
+    length_weight: u32,
+    bend_weight: u32,
+    layout: &[u16],
+) -> i64
+    ensures { λ r. ⌜ MeasurePromise (now (job .entry)) «length_weight» «bend_weight» (now (layout .entry)) r ⌝ }
+{
+    of_answer(calls::measure(job, length_weight, bend_weight, layout))
+}
+
+#[no_mangle]
+pub extern "C" fn cheremysl_draw(job: &[u8], record: u32, port: u32, points: &mut [f32]) -> i64
+    ensures { λ r. ⌜ DrawPromise (now (job .entry)) «record» port (now (points .entry)) r (now (points .exit)) ⌝ }
+{
+    of_drawn(calls::draw(job, record, port, points))
+}
