@@ -1,0 +1,265 @@
+/*
+ * cheremysl.h - leaders from the pads of a board to the labels at its edge, for C and C++
+ *
+ * WHAT IT IS FOR
+ *
+ * Pads lie to the right of a vertical line, the label edge, at x = 0. Ports are fixed heights
+ * on that line, one for each label, as many as there are pads. A leader joins a pad to a port:
+ * from the pad straight up or down to the port's height (the hand), then straight to the edge
+ * (the arm).
+ *
+ *      y
+ *     30 |                 o 103         cheremysl_first     the earliest best sheet of a board
+ *        |                 |             cheremysl_next      the best sheet after a given one
+ *     20 *-----------o 102 |             cheremysl_measure   the total of any sheet that is sound
+ *        |                 |             cheremysl_draw      one leader's points for the canvas
+ *     10 *-----o 101       |
+ *        |                 |             Best: no two leaders share a point, and no such sheet has
+ *      0 *-----------------+             a smaller total of lengths and bends, each times a weight
+ *        +-----+-----+-----+--> x        that the caller chooses.
+ *        0    10    20    30
+ *
+ * First and then Next until the end list every best sheet once and nothing else. Every accepted
+ * job has one. Answers and lists are proved to be what this header says, for every input.
+ *
+ * A MINUTE'S USE
+ *
+ *      uint16_t layout[CHEREMYSL_MAX_RECORDS];
+ *      int64_t answer = cheremysl_first(job, job_bytes, 1, 0, layout, CHEREMYSL_MAX_RECORDS);
+ *      if (cheremysl_is_refusal(answer))
+ *          printf("refused %d record %d\n", cheremysl_refusal_number(answer),
+ *                 cheremysl_refusal_record(answer));
+ *      while (answer >= 0) {
+ *          show(layout, answer);
+ *          answer = cheremysl_next(job, job_bytes, 1, 0, layout, CHEREMYSL_MAX_RECORDS);
+ *      }
+ *
+ * THE JOB
+ *
+ * A job is a string of bytes: records of 16 bytes, 1 to 64 of them, no header. Record i,
+ * counted from 0, brings one pad and one port. All numbers are little-endian, on every machine.
+ *
+ *      offset  bytes  field         allowed
+ *         0      2    name          0 to 65,535; 0 marks a dummy pad
+ *         2      2    reserved      0 only
+ *         4      4    x             1 to 1,000,000
+ *         8      4    y             -1,000,000 to 1,000,000, two's complement
+ *        12      4    port height   -1,000,000 to 1,000,000, two's complement
+ *
+ * Port heights rise strictly from record to record: the port of record i is port number i. The
+ * x of all pads differ. Names other than 0 differ. A dummy pad is laid out like any other. Pads
+ * may share a height with each other and with ports.
+ *
+ * Below, n is the number of records, job_bytes / 16.
+ *
+ * SHEETS
+ *
+ * A layout is a list of n 16-bit entries: entry i is the port number, 0 to n - 1, of the pad of
+ * record i, and each port number stands once.
+ *
+ * The leader of a pad (x, y) to a port of height q has a hand on the vertical line at x, from y
+ * to q, and an arm at height q, from x to 0; both include their ends. Its length is x plus the
+ * distance of y and q. It has 0 bends if y = q, else 1. Two leaders touch if they share a
+ * point. For pad A right of pad B that is so exactly if A's port height lies between B's own
+ * height and B's port height, ends included.
+ *
+ * The total of a layout is length_weight times the sum of the lengths plus bend_weight times
+ * the sum of the bends. A best layout has no touching pair, and no layout without a touching
+ * pair has a smaller total. With both weights 0 every layout without a touching pair is best.
+ *
+ * Order: to compare two layouts take the pad with the largest x; the layout with the smaller
+ * port number there comes earlier. If these are equal, go on with the next pad to the left.
+ *
+ * ANSWERS
+ *
+ * Each call answers one signed 64-bit number:
+ *
+ *      0 or more           the total (First, Next, Measure; at most CHEREMYSL_MAX_TOTAL), or the
+ *                          number of points, 2 or 3 (Draw)
+ *      -1                  the end (Next only): no best layout comes after the given one
+ *      -(65536 * r + i)    refusal number r with record number i
+ *
+ * cheremysl_is_refusal, cheremysl_refusal_number, cheremysl_refusal_record and
+ * cheremysl_is_end, at the foot of this file, take an answer apart.
+ *
+ * REFUSALS
+ *
+ *      no.  given when                                                       record number
+ *       1   job_bytes is 0, not a multiple of 16, or above 1,024             0
+ *       2   a weight is above 1,000                                          0
+ *       3   the layout list has fewer than n entries, or Draw's list         0
+ *           fewer than six floats (for a straight leader too)
+ *       4   a field is outside its range                                     first such record
+ *       5   a port height is not above the one before                        first such record
+ *       6   a name other than 0 stood in an earlier record                   first such record
+ *       7   an x stood in an earlier record                                  first such record
+ *       8   a given entry is n or more, or stood earlier                     first such record
+ *       9   a leader touches that of an earlier record                       first such record
+ *      10   the given layout has no touching pair but is not best            0
+ *      11   Draw's record number or port number is n or more                 0
+ *
+ * Checks run in the order of the numbers, each over the whole job before the next: an input
+ * that deserves several refusals gets the smallest number, with the first record at fault for
+ * it.
+ *
+ *      First     1, 2, 3, 4, 5, 6, 7
+ *      Next      1, 2, 3, 4, 5, 6, 7, 8, 9, 10
+ *      Measure   1, 2, 3, 4, 5, 6, 7, 8, 9
+ *      Draw      1, 3, 4, 5, 6, 7, 11
+ *
+ * No refusal is given in any other case.
+ *
+ * WHO OWNS WHAT, AND WHAT STAYS UNCHANGED
+ *
+ * All memory is the caller's, and the library keeps no pointer after a call. Every list is lent
+ * as a pointer and the number of its elements (bytes of a job, entries of a layout, floats);
+ * all of them must be there. NULL with 0 is an empty list; NULL with another number is not
+ * allowed. A job may stand at any address; layouts and floats are aligned as uint16_t and float
+ * always are. A list that a call writes must not overlap the job.
+ *
+ *      the job                       never written
+ *      Measure's layout              never written
+ *      after a refusal, or the end   nothing was written: every lent list is as it was
+ *      First, Next with a total      entries 0 to n - 1 are replaced, those from n on unchanged
+ *      Draw with 2 or 3 points       the first 4 or 6 floats are replaced, those after unchanged
+ *
+ * Reply and lists depend on the arguments and on what the lists hold, and on nothing else.
+ *
+ * THREADS AND MEMORY
+ *
+ * The calls keep no state: no static variables, no heap, no locks, no files, no errno. Any
+ * number of threads may call at once, on one job too, as long as no list that one of them
+ * writes is used by another meanwhile. Working memory is on the stack: at most 64 KiB in any
+ * call, at 64 records (CHEREMYSL_STACK_BYTES); tests/stack.c measures each call.
+ *
+ * First and Next take time that grows with n cubed, Measure with n squared.
+ */
+#ifndef CHEREMYSL_H
+#define CHEREMYSL_H
+
+#include <stddef.h>
+#include <stdint.h>
+
+#ifdef __cplusplus
+extern "C" {
+#endif
+
+/* ---- limits ------------------------------------------------------------------------------ */
+
+#define CHEREMYSL_RECORD_BYTES 16         /* bytes of a record */
+#define CHEREMYSL_MAX_RECORDS 64          /* records of a job, so also entries of a layout */
+#define CHEREMYSL_MAX_JOB_BYTES 1024      /* bytes of a job */
+#define CHEREMYSL_MAX_WEIGHT 1000         /* a weight; the smallest is 0 */
+#define CHEREMYSL_MAX_X 1000000           /* a pad's x; the smallest is 1 */
+#define CHEREMYSL_MAX_HEIGHT 1000000      /* a pad's y or a port height, up or down */
+#define CHEREMYSL_MAX_TOTAL 192000064000  /* no total is larger */
+#define CHEREMYSL_DRAW_FLOATS 6           /* floats that Draw must be lent */
+#define CHEREMYSL_STACK_BYTES 65536       /* no call needs more stack */
+
+/* ---- numbers in answers ------------------------------------------------------------------ */
+
+#define CHEREMYSL_END (-1)
+
+enum cheremysl_refusal {
+    CHEREMYSL_BAD_SIZE = 1,       /* job_bytes is 0, not a multiple of 16, or above 1,024 */
+    CHEREMYSL_BAD_WEIGHT = 2,     /* a weight is above 1,000 */
+    CHEREMYSL_NO_ROOM = 3,        /* fewer than n entries, or fewer than six floats */
+    CHEREMYSL_BAD_FIELD = 4,      /* a field is outside its range */
+    CHEREMYSL_PORT_NOT_ABOVE = 5, /* a port height is not above the one before */
+    CHEREMYSL_NAME_TWICE = 6,     /* a name other than 0 stood in an earlier record */
+    CHEREMYSL_X_TWICE = 7,        /* an x stood in an earlier record */
+    CHEREMYSL_BAD_ENTRY = 8,      /* a given entry is n or more, or stood earlier */
+    CHEREMYSL_TOUCHING = 9,       /* a leader touches that of an earlier record */
+    CHEREMYSL_NOT_BEST = 10,      /* the given layout has no touching pair but is not best */
+    CHEREMYSL_BAD_NUMBER = 11     /* Draw's record or port number is n or more */
+};
+
+/* ---- the calls --------------------------------------------------------------------------- */
+
+/*
+ * First: the earliest best layout.
+ *
+ *      job, job_bytes   the job; only read
+ *      length_weight    0 to 1,000, times the sum of the lengths
+ *      bend_weight      0 to 1,000, times the sum of the bends
+ *      layout, entries  a lent list of at least n entries, to be filled; what it holds on entry
+ *                       makes no difference
+ *
+ * Answers the layout's total; entries 0 to n - 1 hold the layout and those from n on are
+ * unchanged. Or refuses with 1 to 7, in this order, and writes nothing. Never answers the end.
+ */
+int64_t cheremysl_first(const uint8_t *job, size_t job_bytes, uint32_t length_weight,
+                        uint32_t bend_weight, uint16_t *layout, size_t entries);
+
+/*
+ * Next: the earliest best layout after the given one.
+ *
+ *      job, job_bytes   the job; only read
+ *      length_weight    as for First: best means best for these weights
+ *      bend_weight
+ *      layout, entries  a lent list of at least n entries, whose first n hold a best layout: from
+ *                       First, from Next, or from anywhere; it is checked, not trusted
+ *
+ * Answers the total of the layout found (all best layouts have the same); entries 0 to n - 1
+ * hold it and those from n on are unchanged. Or answers the end, exactly if no best layout
+ * comes after the given one, and writes nothing: asked again, it answers the end again. Or
+ * refuses with 1 to 10, in this order, and writes nothing.
+ */
+int64_t cheremysl_next(const uint8_t *job, size_t job_bytes, uint32_t length_weight,
+                       uint32_t bend_weight, uint16_t *layout, size_t entries);
+
+/*
+ * Measure: the total of a layout without a touching pair, best or not.
+ *
+ *      job, job_bytes   the job; only read
+ *      length_weight    0 to 1,000
+ *      bend_weight      0 to 1,000
+ *      layout, entries  a list of at least n entries, whose first n are the layout; only read
+ *
+ * Answers the total, or refuses with 1 to 9, in this order. Writes nothing. Refusal 9 names the
+ * first record whose leader touches that of an earlier record.
+ */
+int64_t cheremysl_measure(const uint8_t *job, size_t job_bytes, uint32_t length_weight,
+                          uint32_t bend_weight, const uint16_t *layout, size_t entries);
+
+/*
+ * Draw: the leader of one pad to one port, for a canvas where one unit is four job units and y
+ * grows downward. Pad and port may be any of the job's: no layout is needed.
+ *
+ *      job, job_bytes   the job; only read
+ *      record           the pad's record number, 0 to n - 1
+ *      port             the port's number, 0 to n - 1
+ *      points, floats   a lent list of at least six floats, to be filled
+ *
+ * Answers the number of points: 2 for a straight leader (pad, port), exactly if it has no bend,
+ * or 3 for a bent one (pad, bend, port). Their coordinates, x before y, stand in the first four
+ * or six floats; the floats after those are unchanged, the fifth and the sixth of a straight
+ * leader too. Four times each number is exactly x, or exactly -y, of its point; a zero is
+ * positive zero. Or refuses with 1, 3 to 7 and 11, in this order, and writes nothing.
+ */
+int64_t cheremysl_draw(const uint8_t *job, size_t job_bytes, uint32_t record, uint32_t port,
+                       float *points, size_t floats);
+
+/* ---- taking an answer apart -------------------------------------------------------------- */
+
+/* 1 if the answer is a refusal, else 0. */
+static inline int cheremysl_is_refusal(int64_t answer) { return answer < CHEREMYSL_END; }
+
+/* 1 if the answer is the end, else 0. */
+static inline int cheremysl_is_end(int64_t answer) { return answer == CHEREMYSL_END; }
+
+/* The refusal's number, 1 to 11; 0 if the answer is not a refusal. */
+static inline int cheremysl_refusal_number(int64_t answer) {
+    return cheremysl_is_refusal(answer) ? (int)(answer / -65536) : 0;
+}
+
+/* The refusal's record number; 0 if the answer is not a refusal. */
+static inline int cheremysl_refusal_record(int64_t answer) {
+    return cheremysl_is_refusal(answer) ? (int)-(answer % 65536) : 0;
+}
+
+#ifdef __cplusplus
+}
+#endif
+
+#endif

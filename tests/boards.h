@@ -1,0 +1,63 @@
+/* boards.h: random numbers, jobs of many kinds, and layouts without a touching pair. */
+#ifndef BOARDS_H
+#define BOARDS_H
+
+#include <stddef.h>
+#include <stdint.h>
+
+void seed_random(uint64_t seed);
+
+/* A random number from 0 to k - 1. */
+uint32_t below(uint32_t k);
+
+/* A length weight and a bend weight, often those that make many sheets best. */
+void any_weights(uint32_t *length_weight, uint32_t *bend_weight);
+
+/* Writes a number, little-endian; a whole record; single fields of record i. */
+void put_number(uint8_t *at, int bytes, int64_t value);
+void put_record(uint8_t *job, size_t i, int64_t name, int64_t x, int64_t y, int64_t port);
+void put_name(uint8_t *job, size_t i, int64_t name);
+void put_reserved(uint8_t *job, size_t i, int64_t reserved);
+void put_x(uint8_t *job, size_t i, int64_t x);
+void put_y(uint8_t *job, size_t i, int64_t y);
+void put_port(uint8_t *job, size_t i, int64_t port);
+
+/* Reads fields of record i. */
+int64_t get_name(const uint8_t *job, size_t i);
+int64_t get_x(const uint8_t *job, size_t i);
+int64_t get_y(const uint8_t *job, size_t i);
+int64_t get_port(const uint8_t *job, size_t i);
+
+enum board {
+    WIDE,       /* anywhere */
+    CLOSE,      /* so close that pads share heights with each other and with ports */
+    LEVEL,      /* each pad at some port's height */
+    ABOVE,      /* all pads above all ports */
+    BELOW,      /* all pads below all ports */
+    EVEN,       /* ports evenly spaced, pads at ports' heights and half way between */
+    ONE_HEIGHT, /* all pads at one height, perhaps a port's */
+    STRAIGHT,   /* each pad at the height of a port of its own */
+    PAIRS,      /* pads two by two, half way between two ports: ties everywhere */
+    EDGES,      /* numbers at their limits */
+    BOARDS
+};
+
+/* Makes an accepted job of n records, 1 to 64. */
+void make_board(uint8_t *job, size_t n, enum board kind);
+
+/* The record numbers of the pads from left to right. */
+void left_to_right(const uint8_t *job, size_t n, size_t *order);
+
+/*
+ * A random layout without a touching pair, any of them: from left to right each pad takes the next
+ * port above or below that is still free, and the port at its own height if that one is.
+ */
+void any_untouching(const uint8_t *job, size_t n, uint16_t *layout);
+
+/* The two ports that a pad at height y can take: the same twice if there is one. */
+struct choice {
+    uint16_t below, above;
+};
+struct choice choice_at(const uint8_t *job, size_t n, const uint8_t *taken, int64_t y);
+
+#endif

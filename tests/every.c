@@ -1,0 +1,106 @@
+/*
+ * every [COUNT [SEED]]: First, Next, .., end on jobs of up to seven pads, against the list of every
+ * best layout among all assignments. Random and degenerate boards.
+ */
+#include <stdio.h>
+#include <stdlib.h>
+
+#include "boards.h"
+#include "plain.h"
+#include "trial.h"
+
+static long sheets_listed, most_sheets;
+
+/* ---- the plain account's touching, tried point by point on small boards ---- */
+
+static bool between(int64_t m, int64_t a, int64_t b) {
+    return (a <= m && m <= b) || (b <= m && m <= a);
+}
+
+static bool on_leader(const uint8_t *job, size_t i, size_t q, int64_t x, int64_t y) {
+    int64_t height = get_port(job, q);
+    bool on_hand = x == get_x(job, i) && between(y, get_y(job, i), height);
+    bool on_arm = y == height && between(x, 0, get_x(job, i));
+    return on_hand || on_arm;
+}
+
+static bool share_a_point(const uint8_t *job, size_t i, size_t p, size_t j, size_t q) {
+    for (int64_t x = 0; x <= 99; x++)
+        for (int64_t y = -40; y <= 40; y++)
+            if (on_leader(job, i, p, x, y) && on_leader(job, j, q, x, y)) return true;
+    return false;
+}
+
+static void touching(void) {
+    uint8_t job[16 * 3];
+    for (int k = 0; k < 300; k++) {
+        size_t p = below(3), q = (p + 1 + below(2)) % 3;
+        make_board(job, 3, below(2) ? CLOSE : LEVEL);
+        check(plain_touch(job, 0, p, 1, q) == share_a_point(job, 0, p, 1, q), NULL, "touching");
+    }
+}
+
+/* ---- a complete run ---- */
+
+static bool run(struct question *q, const struct sheets *all) {
+    q->call = FIRST;
+    for (size_t k = 0; k < all->found; k++) {
+        struct reply expected = gives(q, all->total, all->sheet[k].port);
+        if (!expect(q, expected)) return false;
+        q->list = expected.list;
+        q->call = NEXT;
+    }
+    return expect(q, keeps(q, -1)) && expect(q, keeps(q, -1));
+}
+
+/* Next and Measure from every assignment: a later sheet, the end, or the refusal it deserves. */
+static void from_each(struct question *q, size_t i) {
+    size_t n = q->job_bytes / 16;
+    if (i == n) {
+        q->call = NEXT;
+        expect(q, plain_reply(q));
+        q->call = MEASURE;
+        expect(q, plain_reply(q));
+        return;
+    }
+    for (uint16_t port = 0; port < n; port++) {
+        q->list.layout[i] = port;
+        bool fresh = true;
+        for (size_t j = 0; j < i; j++) fresh &= q->list.layout[j] != port;
+        if (fresh) from_each(q, i + 1);
+    }
+}
+
+static size_t any_size(void) {
+    static const size_t likely[] = {1, 2, 2, 3, 3, 3, 3, 4, 4, 4, 4, 4, 5, 5, 5, 5, 5, 6, 6, 7};
+    return likely[below(20)];
+}
+
+static void one_job(void) {
+    static struct question q;
+    static struct sheets all;
+    size_t n = any_size();
+    make_board(q.job, n, below(BOARDS));
+    q.job_bytes = 16 * n;
+    q.count = n + below(3);
+    any_weights(&q.a, &q.b);
+    uint32_t noise = below(2) ? 65536 : 8;
+    for (size_t k = 0; k < LIST_ROOM; k++) q.list.layout[k] = (uint16_t)below(noise);
+    struct given g = {q.job, q.job_bytes, q.a, q.b, NULL, n, 0, 0, 0, false};
+    plain_sheets(&g, &all);
+    check(all.found > 0, &q, "no best layout");
+    sheets_listed += (long)all.found;
+    if ((long)all.found > most_sheets) most_sheets = (long)all.found;
+    if (run(&q, &all) && n <= 4 && below(4) == 0) from_each(&q, 0);
+}
+
+int main(int argc, char **argv) {
+    long count = argc > 1 ? atol(argv[1]) : 20000;
+    seed_random(argc > 2 ? strtoull(argv[2], NULL, 10) : 1);
+    begin();
+    touching();
+    for (long k = 0; k < count; k++) one_job();
+    printf("%ld jobs, %ld sheets listed, at most %ld of one job\n", count, sheets_listed,
+           most_sheets);
+    return done();
+}

@@ -1,0 +1,221 @@
+/*
+ * large [COUNT [SEED]]: First and Next on jobs of 8 to 64 pads.
+ *
+ * Up to 12 pads the whole run is compared with a list of all layouts without a touching pair, made
+ * from left to right: the leftmost pad has every other arm to its right, so it can only take the
+ * next port above or below; so can the next pad among the ports that are left; and so on. That
+ * this gives them all is tried against the plain account on jobs of up to seven pads.
+ *
+ * Beyond, each sheet is measured, the run rises and keeps its total, no sheet found at random has a
+ * smaller one, and with bend weight 0 the total is that of pads and ports joined in order of
+ * height, than which no assignment is shorter.
+ */
+#include <stdio.h>
+#include <stdlib.h>
+#include <string.h>
+
+#include "boards.h"
+#include "plain.h"
+#include "trial.h"
+
+#define LISTED_PADS 12
+#define MOST_SHEETS 2048
+#define STEPS 60
+
+static long runs_ended, steps_taken;
+
+static size_t records_of(const struct question *q) { return q->job_bytes / 16; }
+
+static void any_job(struct question *q, size_t n) {
+    make_board(q->job, n, below(BOARDS));
+    q->job_bytes = 16 * n;
+    q->count = n + below(3);
+    any_weights(&q->a, &q->b);
+    for (size_t i = 0; i < LIST_ROOM; i++) q->list.layout[i] = (uint16_t)below(65536);
+}
+
+static int64_t distance(int64_t a, int64_t b) { return a < b ? b - a : a - b; }
+
+static int64_t total_of(const struct question *q, const uint16_t *layout) {
+    int64_t total = 0;
+    for (size_t i = 0; i < records_of(q); i++) {
+        int64_t apart = distance(get_y(q->job, i), get_port(q->job, layout[i]));
+        total += q->a * (get_x(q->job, i) + apart) + q->b * (apart != 0);
+    }
+    return total;
+}
+
+/* ---- jobs of up to 12 pads: the whole list ---- */
+
+struct listing {
+    size_t order[LISTED_PADS], found;
+    uint8_t taken[LISTED_PADS];
+    uint16_t layout[LISTED_PADS], sheet[MOST_SHEETS][LISTED_PADS];
+    int64_t least;
+};
+
+static void keep_if_best(const struct question *q, struct listing *l) {
+    int64_t total = total_of(q, l->layout);
+    size_t n = records_of(q), k;
+    if (l->found == 0 || total < l->least) {
+        l->found = 0;
+        l->least = total;
+    }
+    if (total > l->least) return;
+    for (k = l->found++; k > 0 && plain_before(q->job, n, l->layout, l->sheet[k - 1]); k--)
+        memcpy(l->sheet[k], l->sheet[k - 1], sizeof l->layout);
+    memcpy(l->sheet[k], l->layout, sizeof l->layout);
+}
+
+static void list_from(const struct question *q, struct listing *l, size_t place) {
+    if (place == records_of(q)) {
+        keep_if_best(q, l);
+        return;
+    }
+    size_t pad = l->order[place];
+    struct choice c = choice_at(q->job, records_of(q), l->taken, get_y(q->job, pad));
+    for (int above = 0; above < (c.below == c.above ? 1 : 2); above++) {
+        uint16_t port = above ? c.above : c.below;
+        l->layout[pad] = port;
+        l->taken[port] = 1;
+        list_from(q, l, place + 1);
+        l->taken[port] = 0;
+    }
+}
+
+static void list_all(const struct question *q, struct listing *l) {
+    memset(l, 0, sizeof *l);
+    left_to_right(q->job, records_of(q), l->order);
+    list_from(q, l, 0);
+}
+
+static void whole_list(size_t n) {
+    static struct question q;
+    static struct listing l;
+    any_job(&q, n);
+    list_all(&q, &l);
+    q.call = FIRST;
+    for (size_t k = 0; k < l.found; k++) {
+        struct reply expected = gives(&q, l.least, l.sheet[k]);
+        if (!expect(&q, expected)) return;
+        q.list = expected.list;
+        q.call = NEXT;
+    }
+    expect(&q, keeps(&q, -1));
+    expect(&q, keeps(&q, -1));
+    runs_ended++;
+}
+
+/* The list above, against the plain account's. */
+static void list_agrees(size_t n) {
+    static struct question q;
+    static struct listing l;
+    static struct sheets all;
+    any_job(&q, n);
+    list_all(&q, &l);
+    struct given g = {q.job, q.job_bytes, q.a, q.b, NULL, n, 0, 0, 0, false};
+    plain_sheets(&g, &all);
+    bool same = l.found == all.found && l.least == all.total;
+    for (size_t k = 0; same && k < l.found; k++)
+        same = memcmp(l.sheet[k], all.sheet[k].port, n * sizeof(uint16_t)) == 0;
+    check(same, &q, "the list from left to right is another");
+}
+
+/* ---- jobs of up to 64 pads ---- */
+
+static int compare(const void *a, const void *b) {
+    int64_t x = *(const int64_t *)a, y = *(const int64_t *)b;
+    return (x > y) - (x < y);
+}
+
+/* Pads and ports joined in order of height: no assignment has less length, touching or not. */
+static int64_t least_length(const struct question *q) {
+    int64_t y[64], length = 0;
+    for (size_t i = 0; i < records_of(q); i++) y[i] = get_y(q->job, i);
+    qsort(y, records_of(q), sizeof *y, compare);
+    for (size_t i = 0; i < records_of(q); i++)
+        length += get_x(q->job, i) + distance(y[i], get_port(q->job, i));
+    return length;
+}
+
+static void measured(const struct question *q, int64_t total) {
+    struct question m = *q;
+    m.call = MEASURE;
+    check(plain_reply(&m).answer == total, q, "the total is another, or leaders touch");
+    expect(&m, keeps(&m, total));
+}
+
+/* A layout found at random: it is not better, and Next says so if it is worse. */
+static void no_better(const struct question *q, int64_t total) {
+    struct question other = *q;
+    other.call = NEXT;
+    any_untouching(q->job, records_of(q), other.list.layout);
+    int64_t found = total_of(&other, other.list.layout);
+    check(found >= total, &other, "a smaller total than First's");
+    if (found > total) expect(&other, keeps(&other, refused(10, 0)));
+}
+
+/* First, then Next for some steps; true if the end came. */
+static bool follow(struct question *q, long steps, long *sheets) {
+    q->call = FIRST;
+    struct reply r = ask(q, AT_END);
+    int64_t total = r.answer;
+    if (!check(total >= 0, q, "First refused")) return false;
+    if (q->b == 0) check(total == q->a * least_length(q), q, "not the least length");
+    for (*sheets = 1;; ++*sheets) {
+        if (!expect(q, r)) return false; /* the same wherever the lists stand */
+        check(memcmp(q->list.layout + records_of(q), r.list.layout + records_of(q),
+                     (LIST_ROOM - records_of(q)) * sizeof(uint16_t)) == 0, q, "entries from n on");
+        q->list = r.list;
+        q->call = NEXT;
+        measured(q, total);
+        if (*sheets > steps) return false;
+        r = ask(q, *sheets % 2 ? AT_START : AT_END);
+        if (r.answer == -1) break;
+        steps_taken++;
+        if (!check(r.answer == total, q, "Next's total is another")) return false;
+        bool rises = plain_before(q->job, records_of(q), q->list.layout, r.list.layout);
+        if (!check(rises, q, "Next does not rise")) return false;
+    }
+    expect(q, keeps(q, -1));
+    runs_ended++;
+    return true;
+}
+
+static void large_job(size_t n) {
+    static struct question q;
+    long sheets;
+    any_job(&q, n);
+    follow(&q, STEPS, &sheets);
+    q.call = MEASURE;
+    int64_t total = ask(&q, AT_END).answer;
+    for (int k = 0; k < 10; k++) no_better(&q, total);
+}
+
+/* Straight pads, and k pairs of pads half way between two ports: 2 to the k best layouts. */
+static void counted_run(size_t n, int pairs) {
+    static struct question q;
+    long sheets = 0, expected = 1L << pairs;
+    any_job(&q, n);
+    make_board(q.job, n, STRAIGHT);
+    for (size_t i = 0; i < n; i++) put_port(q.job, i, 10 * (int64_t)i);
+    for (size_t i = 0; i < n; i++) put_y(q.job, i, 10 * (int64_t)i);
+    for (size_t i = 0; i < 2 * (size_t)pairs; i++) put_y(q.job, i, 20 * (int64_t)(i / 2) + 5);
+    q.a = 1;
+    q.b = 0;
+    check(follow(&q, expected, &sheets), &q, "the run should end");
+    check(sheets == expected, &q, "the run has another number of sheets");
+}
+
+int main(int argc, char **argv) {
+    long count = argc > 1 ? atol(argv[1]) : 100;
+    seed_random(argc > 2 ? strtoull(argv[2], NULL, 10) : 1);
+    begin();
+    for (long k = 0; k < 10 * count; k++) list_agrees(1 + below(6));
+    for (long k = 0; k < 10 * count; k++) whole_list(8 + below(5));
+    for (long k = 0; k < count; k++) large_job(k % 4 == 0 ? 64 : 8 + below(57));
+    for (int pairs = 0; pairs <= 7; pairs++) counted_run(64, pairs);
+    check(runs_ended > 0, NULL, "no run ended");
+    printf("%ld jobs, %ld steps, %ld runs to the end\n", 21 * count + 8, steps_taken, runs_ended);
+    return done();
+}

@@ -1,0 +1,62 @@
+/*
+ * plain.h: the four calls in plain C, written from the paper's text alone. They share nothing with
+ * the library: touching is sharing a point of hand or arm, and First and Next try every
+ * assignment of ports to pads. The tests hold the library to this account.
+ */
+#ifndef PLAIN_H
+#define PLAIN_H
+
+#include <stdbool.h>
+#include <stddef.h>
+#include <stdint.h>
+
+#define PLAIN_PADS 7            /* First and Next try every assignment up to so many pads .. */
+#define PLAIN_UNKNOWN INT64_MIN /* .. and answer this for an accepted job with more */
+#define PLAIN_SHEETS 5040       /* assignments of seven pads */
+
+/* The calls, with the library's prototypes. */
+int64_t plain_first(const uint8_t *job, size_t job_bytes, uint32_t length_weight,
+                    uint32_t bend_weight, uint16_t *layout, size_t entries);
+int64_t plain_next(const uint8_t *job, size_t job_bytes, uint32_t length_weight,
+                   uint32_t bend_weight, uint16_t *layout, size_t entries);
+int64_t plain_measure(const uint8_t *job, size_t job_bytes, uint32_t length_weight,
+                      uint32_t bend_weight, const uint16_t *layout, size_t entries);
+int64_t plain_draw(const uint8_t *job, size_t job_bytes, uint32_t record, uint32_t port,
+                   float *points, size_t floats);
+
+/* The refusal numbers that each call can give, in order; 0 ends the list. */
+extern const int first_checks[], next_checks[], measure_checks[], draw_checks[];
+
+/* What a call is given. First's and Draw's lists have a size only; Draw has no weights. */
+struct given {
+    const uint8_t *job;
+    size_t job_bytes;
+    uint32_t length_weight, bend_weight;
+    const uint16_t *layout;
+    size_t entries;
+    uint32_t record, port;
+    size_t floats;
+    bool draw; /* refusal 3 is about the floats */
+};
+
+/* The first record at fault for one refusal number, whatever the others say; -1 if none is. */
+int plain_fault(const struct given *g, int number);
+
+/* Pads of records i and j, led to the ports p and q: do the leaders share a point? */
+bool plain_touch(const uint8_t *job, size_t i, size_t p, size_t j, size_t q);
+
+/* Does layout a come before layout b in the paper's order? n pads. */
+bool plain_before(const uint8_t *job, size_t n, const uint16_t *a, const uint16_t *b);
+
+/* All best layouts in the paper's order, and how many. For jobs of up to PLAIN_PADS pads. */
+struct sheet {
+    uint16_t port[PLAIN_PADS];
+};
+struct sheets {
+    size_t found;
+    int64_t total;
+    struct sheet sheet[PLAIN_SHEETS];
+};
+void plain_sheets(const struct given *g, struct sheets *all);
+
+#endif

@@ -1,0 +1,169 @@
+/*
+ * Every refusal of every call, at every record and in every way; every pair of refusals that one
+ * input can deserve, wherever both stand; and all of them at once, mended one by one.
+ */
+#include <stdio.h>
+#include <string.h>
+
+#include "boards.h"
+#include "trial.h"
+
+#define N 6
+#define WAYS 6
+
+/*
+ * Records 0 to 3 are straight; 4 and 5 are a pair that can be led both ways without touching, one
+ * way longer than the other. The layout is best: pad i to port i.
+ */
+static struct question good(enum call call) {
+    static const int64_t x[N] = {30, 10, 40, 20, 50, 60}, y[N] = {0, 10, 20, 30, 45, 90};
+    struct question q;
+    memset(&q, 0, sizeof q);
+    q.call = call;
+    q.job_bytes = 16 * N;
+    q.count = N + 2;
+    for (size_t i = 0; i < N; i++)
+        put_record(q.job, i, 101 + (int64_t)i, x[i], y[i], 10 * (int64_t)i);
+    memset(&q.list, 0xC3, sizeof q.list);
+    if (call == DRAW) {
+        q.a = 4;
+        q.b = 5;
+        return q;
+    }
+    q.a = 1;
+    for (size_t i = 0; i < LIST_ROOM; i++) q.list.layout[i] = (uint16_t)i;
+    return q;
+}
+
+/* Gives record i a name or an x that stood in the record before, or in the first. */
+static size_t copied_from(size_t i, int way) { return way % 2 == 0 ? 0 : i - 1; }
+
+static void swap_entries(struct question *q, size_t i, size_t j) {
+    uint16_t kept = q->list.layout[i];
+    q->list.layout[i] = q->list.layout[j];
+    q->list.layout[j] = kept;
+}
+
+static void bad_field(struct question *q, size_t i, int way) {
+    if (way == 0) put_reserved(q->job, i, 1);
+    if (way == 1) put_x(q->job, i, 0);
+    if (way == 2) put_x(q->job, i, 1000001);
+    if (way == 3) put_y(q->job, i, -1000001);
+    if (way == 4) put_y(q->job, i, 1000001);
+    if (way == 5) put_port(q->job, i, i == 0 ? -1000001 : 1000001);
+}
+
+/*
+ * Makes the question deserve a refusal, at record i if it names one, in one of several ways.
+ * False if there is no such record or way.
+ */
+static bool spoil(struct question *q, int number, size_t i, int way) {
+    static const size_t sizes[WAYS] = {16 * N + 1, 16 * N + 15, 0, 1040, 1025, 16 * N - 1};
+    static const int64_t weights[2] = {1001, UINT32_MAX};
+    bool whole = number <= 3 || number >= 10;
+    bool needs_earlier = number == 5 || number == 6 || number == 7 || number == 9;
+    if ((whole && i > 0) || (needs_earlier && i == 0)) return false;
+    switch (number) {
+    case 1: q->job_bytes = sizes[way]; return true;
+    case 2: *(way % 2 ? &q->a : &q->b) = (uint32_t)weights[way / 2 % 2]; return way < 4;
+    case 3: q->count = (size_t)way; return true;
+    case 4: bad_field(q, i, way); return true;
+    case 5: put_port(q->job, i, get_port(q->job, i - 1) - way); return way < 2;
+    case 6: put_name(q->job, i, get_name(q->job, copied_from(i, way))); return way < 2;
+    case 7: put_x(q->job, i, get_x(q->job, copied_from(i, way))); return way < 2;
+    case 8:
+        if (way < 2) q->list.layout[i] = way ? 65535 : N;
+        if (way >= 2 && i > 0) q->list.layout[i] = q->list.layout[copied_from(i, way)];
+        return way < (i > 0 ? 4 : 2);
+    case 9: swap_entries(q, i - 1, i); return i < 4 && way == 0;
+    case 10: swap_entries(q, 4, 5); return way == 0;
+    case 11: *(way % 2 ? &q->a : &q->b) = way < 2 ? N : UINT32_MAX; return way < 4;
+    default: return false;
+    }
+}
+
+/* Each refusal alone. */
+static void alone(enum call call, int number) {
+    for (size_t i = 0; i < N; i++)
+        for (int way = 0; way < WAYS; way++) {
+            struct question q = good(call);
+            if (!spoil(&q, number, i, way)) continue;
+            check(fault_of(&q, number) == (int)i, &q, "the plain account finds another record");
+            expect(&q, keeps(&q, refused(number, (int)i)));
+        }
+}
+
+/* Two refusals, the first with the smaller number; how many inputs deserved both. */
+static long both(enum call call, int one, int other) {
+    long deserved = 0;
+    for (int k = 0; k < N * WAYS * N * WAYS; k++) {
+        size_t i = (size_t)(k % N), j = (size_t)(k / N % N);
+        int way = k / N / N % WAYS, other_way = k / N / N / WAYS;
+        struct question q = good(call);
+        if (!spoil(&q, one, i, way) || !spoil(&q, other, j, other_way)) continue;
+        if (fault_of(&q, one) < 0 || fault_of(&q, other) < 0) continue;
+        deserved++;
+        expect(&q, keeps(&q, refused(one, fault_of(&q, one))));
+    }
+    return deserved;
+}
+
+/* 10 is about a layout with no touching pair: not about a list that deserves 3, 8 or 9. */
+static bool exclude_each_other(int one, int other) {
+    return other == 10 && (one == 3 || one == 8 || one == 9);
+}
+
+static void pairs(enum call call) {
+    for (const int *one = refusals_of[call]; *one != 0; one++)
+        for (const int *other = one + 1; *other != 0; other++) {
+            long deserved = both(call, *one, *other);
+            check((deserved > 0) != exclude_each_other(*one, *other), NULL,
+                  "no input deserved both");
+        }
+}
+
+/* 8 or 9 beside a layout whose total is not the least: 8 and 9 come first. */
+static void longer_and_wrong(enum call call) {
+    struct question q = good(call);
+    swap_entries(&q, 4, 5);
+    swap_entries(&q, 2, 3);
+    expect(&q, keeps(&q, refused(9, 3)));
+    q.list.layout[1] = q.list.layout[0];
+    expect(&q, keeps(&q, refused(8, 1)));
+}
+
+/* Smaller numbers at later records, as far as can be. */
+static size_t record_for(int number) {
+    static const size_t records[12] = {0, 0, 0, 0, 5, 4, 3, 2, 1, 3, 0, 0};
+    return records[number];
+}
+
+/* All refusals deserved at once, then mended in order. */
+static void mended_one_by_one(enum call call) {
+    for (const int *unmended = refusals_of[call]; *unmended != 0; unmended++) {
+        struct question q = good(call);
+        for (const int *number = unmended; *number != 0; number++)
+            spoil(&q, *number, record_for(*number), 0);
+        expect(&q, keeps(&q, refused(*unmended, (int)record_for(*unmended))));
+    }
+}
+
+/* Nothing at all: NULL with 0 for both lists. */
+static void nothing(enum call call) {
+    struct question q;
+    memset(&q, 0, sizeof q);
+    q.call = call;
+    expect(&q, keeps(&q, refused(1, 0)));
+}
+
+int main(void) {
+    begin();
+    for (enum call call = 0; call < CALLS; call++) {
+        nothing(call);
+        for (const int *number = refusals_of[call]; *number != 0; number++) alone(call, *number);
+        pairs(call);
+        if (call == MEASURE || call == NEXT) longer_and_wrong(call);
+        mended_one_by_one(call);
+    }
+    return done();
+}

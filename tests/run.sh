@@ -1,0 +1,112 @@
+#!/bin/sh
+# tests/run.sh [--no-search] [ARCHIVE]: builds the library's archive, or takes the one given, then compiles and runs
+# the C tests, once as they are and once more under the sanitizers. Fails on any failure; the last line has the counts.
+#   --no-search  only what needs Measure and Draw alone
+#   SEED, TIMES  in the environment: another seed; so many times the usual number of random trials
+# The archive is x86-64 code. On another machine the tests are cross-compiled and run under qemu-user.
+# What is missing is installed by apt-get.
+set -u
+cd "$(dirname "$0")/.." || exit 2
+flags= archive= search=yes seed=${SEED:-1} times=${TIMES:-1} passed=0 failed=0
+for word; do
+    case $word in
+    --no-search) search= flags=-DNO_SEARCH ;;
+    -*) echo "usage: tests/run.sh [--no-search] [ARCHIVE]" >&2; exit 2 ;;
+    *) archive=$word ;;
+    esac
+done
+
+if [ "${MACHINE:-$(uname -m)}" = x86_64 ]; then
+    cross= run= static= packages="gcc g++ libc6-dev" headers=/usr/include
+else
+    cross=x86_64-linux-gnu- run=qemu-x86_64 static=-static headers=/usr/x86_64-linux-gnu/include
+    packages="gcc-x86-64-linux-gnu g++-x86-64-linux-gnu libc6-dev-amd64-cross qemu-user"
+fi
+cc=${cross}gcc cxx=${cross}g++ nm=${cross}nm
+for command in $cc $cxx $run; do
+    command -v $command >/dev/null || missing=yes
+done
+if [ "${missing:-}" ] || [ ! -f "$headers/stdio.h" ]; then
+    { apt-get update && apt-get install -y --no-install-recommends $packages; } >/dev/null 2>&1 ||
+        { echo "tests/run.sh: needs the packages $packages" >&2; exit 2; }
+fi
+
+if [ -z "$archive" ]; then
+    archive=target/staticlib/libcheremysl.a
+    rt staticlib cheremysl || exit 1
+fi
+out=target/tests
+rm -rf $out && mkdir -p $out || exit 2
+
+# The sanitizers' own library does not run under the emulator: there, bad arithmetic traps.
+sanitize="-fsanitize=address,undefined -fno-sanitize-recover=all"
+export ASAN_OPTIONS=detect_leaks=0
+echo 'int main(void) { return 0; }' >$out/probe.c
+if [ "$run" ] || ! $cc $sanitize -o $out/probe $out/probe.c 2>/dev/null || ! $out/probe; then
+    sanitize="-fsanitize=undefined -fsanitize-undefined-trap-on-error"
+fi
+
+echo "sanitized: $sanitize"
+
+strict="-Wall -Wextra -Werror -pedantic $flags -Iinclude"
+fail() { echo "FAILED: $*"; failed=$((failed + 1)); }
+
+# try NAME COMMAND..: runs a test and adds the counts of its last line
+try() {
+    name=$1
+    shift
+    echo "$name: $*"
+    $run "$@" >$out/log 2>&1
+    status=$?
+    sed 's/^/    /' $out/log
+    counts=$(sed -n '$s/^\([0-9]*\) passed, \([0-9]*\) failed$/\1 \2/p' $out/log)
+    case $counts in
+    "" | "0 0") fail "$name: status $status, nothing counted" ;;
+    *" 0") [ $status = 0 ] || fail "$name: status $status" ;;
+    *) echo "FAILED: $name" ;;
+    esac
+    passed=$((passed + ${counts% *} + 0)) failed=$((failed + ${counts#* } + 0))
+}
+
+# build FILE PROGRAM FLAGS..
+build() {
+    file=$1 program=$2
+    shift 2
+    $cc $strict "$@" $static -o $out/$file \
+        tests/$program.c tests/trial.c tests/guard.c tests/boards.c tests/plain.c "$archive" ||
+        { fail "$file does not compile"; false; }
+}
+
+# both PROGRAM [COUNT CHECKED_COUNT]: as it is, and sanitized; random trials with different seeds
+both() {
+    build $1 $1 -std=c99 -O2 && try $1 $out/$1 ${2:+$(($2 * times)) $seed}
+    build $1-sanitized $1 -std=c11 -O1 -g $sanitize &&
+        try "$1, sanitized" $out/$1-sanitized ${3:+$(($3 * times)) $((seed + 1))}
+}
+
+# The archive exports nothing but the calls, has no variables, and needs nothing but memcpy and its kin.
+exports=$($nm -g --defined-only "$archive" | sed -En '/ cheremysl_(first|next|measure|draw)$/!s/.* . //p')
+others=$($nm "$archive" | sed -En '/ [BbCDdGgSs] | U /{/ U (mem(cpy|set|move|cmp)|_GLOBAL_OFFSET_TABLE_)$/!s/.* //p}')
+[ -z "$exports" ] && passed=$((passed + 1)) || fail "the archive exports" $exports
+[ -z "$others" ] && passed=$((passed + 1)) || fail "the archive has or needs" $others
+
+for form in c99 c11 c++11 c++17; do
+    case $form in c++*) compiler="$cxx -x c++" linker=$cxx ;; *) compiler=$cc linker=$cc ;; esac
+    if $compiler -std=$form $strict -c -o $out/abi.o tests/abi.c && $linker $static -o $out/abi $out/abi.o "$archive"
+    then try "header as $form" $out/abi
+    else fail "the header does not compile as $form"
+    fi
+done
+
+both sheets
+both refusals
+both random 200000 20000
+if [ $search ]; then
+    both every 20000 2000
+    both large 100 10
+fi
+# A stack of its own is not for the sanitizers. Bound at the start: binding a function when it is first called takes stack.
+build stack stack -std=c99 -O2 -Wl,-z,now && try stack $out/stack
+
+echo "$passed passed, $failed failed"
+[ $failed = 0 ]

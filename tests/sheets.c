@@ -1,0 +1,341 @@
+/* The sheets worked by hand, and either side of every limit, each with its reply written out. */
+#include <stdio.h>
+#include <string.h>
+
+#include "boards.h"
+#include "trial.h"
+
+#define KEPT 60000 /* what lists hold beyond the layout, and before First */
+
+struct record {
+    int x, y, port;
+};
+
+static struct question about(enum call call, size_t n, const struct record *records) {
+    struct question q;
+    memset(&q, 0, sizeof q);
+    q.call = call;
+    q.job_bytes = 16 * n;
+    for (size_t i = 0; i < n; i++)
+        put_record(q.job, i, 101 + (int64_t)i, records[i].x, records[i].y, records[i].port);
+    for (size_t k = 0; k < LIST_ROOM; k++) q.list.layout[k] = (uint16_t)(KEPT + k);
+    q.count = n + 2;
+    return q;
+}
+
+static const struct record J1[] = {{5, 3, 3}};
+static const struct record J2[] = {{10, 0, 10}, {20, 30, 20}};
+static const struct record J3[] = {{10, 15, 10}, {20, 15, 20}};
+static const struct record J4[] = {{10, 15, 10}, {20, 60, 20}};
+static const struct record J5[] = {{10, 10, 0}, {20, 20, 10}, {30, 30, 20}};
+
+#define NONE {-1}
+#define REFUSED(r, i) (-65536 * (r) - (i))
+#define END (-1)
+
+/* A job, a call, its weights, the layout given, the answer, the layout afterwards if another. */
+static const struct {
+    const char *mark;
+    const struct record *job;
+    size_t n;
+    enum call call;
+    uint32_t length_weight, bend_weight;
+    int given[3], answer, after[3];
+} sheets[] = {
+    {"P1", J1, 1, FIRST, 1, 0, NONE, 5, {0}},
+    {"P2", J1, 1, FIRST, 0, 1, NONE, 0, {0}},
+    {"P3", J2, 2, FIRST, 1, 0, NONE, 50, {0, 1}},
+    {"P4", J2, 2, NEXT, 1, 0, {1, 0}, REFUSED(9, 1), NONE},
+    {"P5", J3, 2, FIRST, 1, 0, NONE, 40, {1, 0}},
+    {"P6", J3, 2, NEXT, 1, 0, {1, 0}, 40, {0, 1}},
+    {"P7", J3, 2, NEXT, 1, 0, {0, 1}, END, NONE},
+    {"P8", J3, 2, NEXT, 1, 0, {0, 0}, REFUSED(8, 1), NONE},
+    {"P9", J4, 2, FIRST, 1, 0, NONE, 75, {0, 1}},
+    {"P10", J4, 2, NEXT, 1, 0, {1, 0}, REFUSED(10, 0), NONE},
+    {"P11", J5, 3, FIRST, 2, 3, NONE, 183, {1, 2, 0}},
+    {"P12", J5, 3, MEASURE, 1, 0, {0, 1, 2}, REFUSED(9, 1), NONE},
+    /* P10 names this total; with both weights 0 both layouts are best. */
+    {"J4's other layout", J4, 2, MEASURE, 1, 0, {1, 0}, 85, NONE},
+    {"J4, weights 0, 0", J4, 2, FIRST, 0, 0, NONE, 0, {1, 0}},
+    {"J4, weights 0, 0", J4, 2, NEXT, 0, 0, {1, 0}, 0, {0, 1}},
+    {"J4, weights 0, 0", J4, 2, NEXT, 0, 0, {0, 1}, END, NONE},
+    /* What First and Next find, measured; their refusals, from Measure. */
+    {"P1 measured", J1, 1, MEASURE, 1, 0, {0}, 5, NONE},
+    {"P2 measured", J1, 1, MEASURE, 0, 1, {0}, 0, NONE},
+    {"P3 measured", J2, 2, MEASURE, 1, 0, {0, 1}, 50, NONE},
+    {"P4 measured", J2, 2, MEASURE, 1, 0, {1, 0}, REFUSED(9, 1), NONE},
+    {"P5 measured", J3, 2, MEASURE, 1, 0, {1, 0}, 40, NONE},
+    {"P6 measured", J3, 2, MEASURE, 1, 0, {0, 1}, 40, NONE},
+    {"P8 measured", J3, 2, MEASURE, 1, 0, {0, 0}, REFUSED(8, 1), NONE},
+    {"P9 measured", J4, 2, MEASURE, 1, 0, {0, 1}, 75, NONE},
+    {"P11 measured", J5, 3, MEASURE, 2, 3, {1, 2, 0}, 183, NONE},
+    {"J5's end", J5, 3, NEXT, 2, 3, {1, 2, 0}, END, NONE},
+    {"J5 by pad height", J5, 3, NEXT, 1, 0, {0, 1, 2}, REFUSED(9, 1), NONE},
+};
+
+static void put_layout(union list *list, const int *layout, size_t n) {
+    if (layout[0] < 0) return;
+    for (size_t i = 0; i < n; i++) list->layout[i] = (uint16_t)layout[i];
+}
+
+static void worked_sheets(void) {
+    for (size_t k = 0; k < sizeof sheets / sizeof *sheets; k++) {
+        if (sheets[k].call >= CALLS) continue;
+        struct question q = about(sheets[k].call, sheets[k].n, sheets[k].job);
+        q.a = sheets[k].length_weight;
+        q.b = sheets[k].bend_weight;
+        put_layout(&q.list, sheets[k].given, sheets[k].n);
+        struct reply r = keeps(&q, sheets[k].answer);
+        put_layout(&r.list, sheets[k].after, sheets[k].n);
+        if (!expect(&q, r)) printf("  this was %s\n", sheets[k].mark);
+        if (plain_reply(&q).answer != r.answer) check(false, &q, "the plain account differs");
+    }
+}
+
+/* ---- Draw ---- */
+
+static void put_bits(union list *list, size_t k, uint32_t bits) {
+    memcpy(list->points + k, &bits, sizeof bits);
+}
+
+static void drawn(const struct question *q, int64_t points, const uint32_t *bits) {
+    struct reply r = keeps(q, points);
+    for (size_t k = 0; k < 2 * (size_t)points; k++) put_bits(&r.list, k, bits[k]);
+    expect(q, r);
+}
+
+static struct question draw_of(size_t n, const struct record *job, uint32_t record, uint32_t port) {
+    struct question q = about(DRAW, n, job);
+    q.a = record;
+    q.b = port;
+    q.count = 8;
+    for (size_t k = 0; k < LIST_ROOM; k++) put_bits(&q.list, k, (uint32_t)(0x7F800001 + k));
+    return q;
+}
+
+static void drawn_sheets(void) {
+    struct question bent = draw_of(3, J5, 2, 0), straight = draw_of(3, J5, 0, 1);
+    drawn(&bent, 3, (const uint32_t[]){0x40F00000, 0xC0F00000, 0x40F00000, 0, 0, 0});
+    drawn(&straight, 2, (const uint32_t[]){0x40200000, 0xC0200000, 0, 0xC0200000});
+    bent.count = 6;
+    drawn(&bent, 3, (const uint32_t[]){0x40F00000, 0xC0F00000, 0x40F00000, 0, 0, 0});
+    straight.count = 6;
+    drawn(&straight, 2, (const uint32_t[]){0x40200000, 0xC0200000, 0, 0xC0200000});
+    straight.count = 5;
+    expect(&straight, keeps(&straight, REFUSED(3, 0)));
+}
+
+/* Four times the drawn number is the whole number, and a zero is positive. */
+static bool stands_for(float drawn_number, int64_t units) {
+    uint32_t bits;
+    memcpy(&bits, &drawn_number, sizeof bits);
+    return 4.0 * drawn_number == (double)units && (units != 0 || bits == 0);
+}
+
+/* Pad (x, y) and port height over their whole range, most of it in steps. */
+static void drawn_range(void) {
+    for (int64_t v = -1000000; v <= 1000000;) {
+        int64_t x = v < 0 ? -v : v + (v == 0), port = -v / 3;
+        struct record job = {(int)x, (int)v, (int)port};
+        struct question q = draw_of(1, &job, 0, 0);
+        struct reply r = ask(&q, AT_END);
+        const float *p = r.list.points, *last = p + (v == port ? 2 : 4);
+        bool ok = r.answer == (v == port ? 2 : 3) && stands_for(p[0], x) && stands_for(p[1], -v) &&
+                  stands_for(last[0], 0) && stands_for(last[1], -port);
+        if (v != port) ok &= stands_for(p[2], x) && stands_for(p[3], -port);
+        check(ok, &q, "drawn otherwise");
+        v += (v >= -999000 && v < -2037) || (v >= 2000 && v < 998900) ? 37 : 1;
+    }
+}
+
+/* ---- either side of a limit ---- */
+
+/* n straight leaders, pad i at port i: the only best layout, weights 1, 0, total 10 + 20 + .. */
+static struct question good(enum call call, size_t n) {
+    struct record job[66];
+    for (int i = 0; i < (int)n; i++) {
+        struct record straight = {10 * (i + 1), 10 * i, 10 * i};
+        job[i] = straight;
+    }
+    struct question q = call == DRAW ? draw_of(n, job, 0, 0) : about(call, n, job);
+    if (call != DRAW) q.a = 1;
+    if (call == MEASURE || call == NEXT)
+        for (size_t i = 0; i < n; i++) q.list.layout[i] = (uint16_t)i;
+    return q;
+}
+
+static void passes(const struct question *q) {
+    struct reply r = plain_reply(q);
+    check(r.answer >= -1, q, "this should pass");
+    expect(q, r);
+}
+
+static void is_refused(const struct question *q, int number, int record) {
+    check(plain_reply(q).answer == refused(number, record), q, "this should be refused");
+    expect(q, keeps(q, refused(number, record)));
+}
+
+/* All 64 records: too many for the plain account, but these replies are plain. */
+static void largest_job(enum call call) {
+    struct question q = good(call, 64);
+    struct reply r = keeps(&q, call == NEXT ? END : 20800);
+    for (size_t i = 0; i < 64 && call == FIRST; i++) r.list.layout[i] = (uint16_t)i;
+    if (call == DRAW)
+        drawn(&q, 2, (const uint32_t[]){0x40200000, 0, 0, 0});
+    else
+        expect(&q, r);
+}
+
+static void sizes(enum call call) {
+    struct question q = good(call, 1);
+    passes(&q);
+    q.job_bytes = 15;
+    is_refused(&q, 1, 0);
+    q.job_bytes = 17;
+    is_refused(&q, 1, 0);
+    q.job_bytes = 0;
+    is_refused(&q, 1, 0);
+    q.count = 0;
+    is_refused(&q, 1, 0);
+    largest_job(call);
+    q = good(call, 65);
+    is_refused(&q, 1, 0);
+    q.job_bytes = 1025;
+    is_refused(&q, 1, 0);
+    q.job_bytes = 1023;
+    is_refused(&q, 1, 0);
+}
+
+static void weights(enum call call) {
+    struct question q = good(call, 3);
+    if (call == DRAW) return;
+    q.a = q.b = 1000;
+    passes(&q);
+    q.a = 1001;
+    is_refused(&q, 2, 0);
+    q.a = 1000;
+    q.b = 1001;
+    is_refused(&q, 2, 0);
+    q.b = UINT32_MAX;
+    is_refused(&q, 2, 0);
+    q.a = UINT32_MAX;
+    q.b = 0;
+    is_refused(&q, 2, 0);
+}
+
+static void room(enum call call) {
+    struct question q = good(call, 3);
+    size_t enough = call == DRAW ? 6 : 3;
+    q.count = enough;
+    passes(&q);
+    q.count = enough + 20;
+    passes(&q);
+    for (q.count = 0; q.count < enough; q.count++) is_refused(&q, 3, 0);
+}
+
+/* A best layout for those calls that are given one. */
+static void give_best(struct question *q) {
+    struct question first = *q;
+    first.call = FIRST;
+    if (q->call == MEASURE || q->call == NEXT) q->list = plain_reply(&first).list;
+}
+
+typedef void put_field(uint8_t *job, size_t i, int64_t value);
+
+static void inside(enum call call, put_field *put, size_t record, int64_t value) {
+    struct question q = good(call, 3);
+    put(q.job, record, value);
+    give_best(&q);
+    passes(&q);
+}
+
+static void outside(enum call call, put_field *put, size_t record, int64_t value) {
+    struct question q = good(call, 3);
+    put(q.job, record, value);
+    is_refused(&q, 4, (int)record);
+}
+
+static void fields(enum call call) {
+    static const int64_t far_out[] = {-1000001, 1000001, -2147483648, 2147483647, -16777216};
+    for (size_t i = 0; i < 3; i++) {
+        inside(call, put_x, i, 1);
+        inside(call, put_x, i, 1000000);
+        inside(call, put_y, i, -1000000);
+        inside(call, put_y, i, 1000000);
+        inside(call, put_name, i, 0);
+        inside(call, put_name, i, 65535);
+        outside(call, put_x, i, 0);
+        outside(call, put_x, i, 1000001);
+        outside(call, put_x, i, 2147483648);
+        outside(call, put_x, i, 4294967295);
+        outside(call, put_reserved, i, 1);
+        outside(call, put_reserved, i, 256);
+        for (size_t k = 0; k < sizeof far_out / sizeof *far_out; k++) {
+            outside(call, put_y, i, far_out[k]);
+            outside(call, put_port, i, far_out[k]);
+        }
+    }
+    inside(call, put_port, 0, -1000000);
+    inside(call, put_port, 2, 1000000);
+}
+
+static void job_rules(enum call call) {
+    struct question q = good(call, 3);
+    put_port(q.job, 1, 0); /* equal port heights */
+    is_refused(&q, 5, 1);
+    put_x(q.job, 1, 0); /* and x = 0 in the same record */
+    is_refused(&q, 4, 1);
+    q = good(call, 3);
+    put_port(q.job, 1, 1); /* one above */
+    give_best(&q);
+    passes(&q);
+    put_port(q.job, 1, -1);
+    is_refused(&q, 5, 1);
+    q = good(call, 3);
+    put_name(q.job, 2, 101);
+    is_refused(&q, 6, 2);
+    put_name(q.job, 0, 0);
+    put_name(q.job, 2, 0);
+    passes(&q);
+    put_x(q.job, 2, 20);
+    is_refused(&q, 7, 2);
+}
+
+static void given_numbers(enum call call) {
+    struct question q = good(call, 3);
+    if (call == FIRST) return;
+    if (call == DRAW) {
+        q.a = q.b = 2;
+        passes(&q);
+        q.a = 3;
+        is_refused(&q, 11, 0);
+        q.a = 2;
+        q.b = 3;
+        is_refused(&q, 11, 0);
+        q.b = UINT32_MAX;
+        is_refused(&q, 11, 0);
+        return;
+    }
+    q.list.layout[2] = 3;
+    is_refused(&q, 8, 2);
+    q.list.layout[2] = 65535;
+    is_refused(&q, 8, 2);
+    q.list.layout[2] = 1;
+    is_refused(&q, 8, 2);
+}
+
+int main(void) {
+    begin();
+    worked_sheets();
+    drawn_sheets();
+    drawn_range();
+    for (enum call call = 0; call < CALLS; call++) {
+        sizes(call);
+        weights(call);
+        room(call);
+        fields(call);
+        job_rules(call);
+        given_numbers(call);
+    }
+    return done();
+}
