@@ -1,13 +1,50 @@
 // The calls as Rattle functions that answer an enum. Each keeps the promise of its name in paper's Promises.antt, for every input.
 use paper::Answer;
 use paper::Drawn;
+use paper::Refusal;
 use paper::Verdict;
+use steps::Answer as Step;
 ghost use mathlib.Core.Path.{_≡_};
 ghost use lib.ListN.{length};
 ghost use Rattle.paper.specs.Layouts.{boardOf, leader};
-ghost use Rattle.paper.specs.Refusals.{Passed, drawTrials};
-ghost use Rattle.paper.specs.Promises.{MeasureAnswers, DrawAnswers};
+ghost use Rattle.paper.specs.Refusals.{Passed, measureTrials, drawTrials};
+ghost use Rattle.paper.specs.Promises.{FirstAnswers, NextAnswers, MeasureAnswers, DrawAnswers};
 ghost use Rattle.paper.specs.laws.Drawn.{leaderDrawn};
+
+// First: the earliest best layout, in the first n entries of `list`.
+pub fn first(job: &[u8], lw: u32, bw: u32, list: &mut [u16]) -> Answer
+    ensures { λ r. ⌜ FirstAnswers (now (job .entry)) lw bw (now (list .entry)) r (now (list .exit)) ⌝ }
+{
+    let v = checks::verdicts::of_first(job, lw, bw, list.len());
+    match v {
+        Verdict::Sound => Answer::Total(sheets::first_on(job, lw, bw, list)),
+        Verdict::Refused(r) => Answer::Refused(r),
+    }
+}
+
+// Next, once the layout is known to be untouching.
+fn step(job: &[u8], lw: u32, bw: u32, list: &mut [u16]) -> Answer
+    requires { ⌜ Passed (measureTrials (now job) lw bw (now list)) ⌝ }
+    ensures { λ r. ⌜ NextAnswers (now (job .entry)) lw bw (now (list .entry)) r (now (list .exit)) ⌝ }
+{
+    let s = sheets::next_on(job, lw, bw, list);
+    match s {
+        Step::Total(t) => Answer::Total(t),
+        Step::End => Answer::End,
+        Step::NotBest => Answer::Refused(Refusal { reason: 10, at: 0 }),
+    }
+}
+
+// Next: the earliest best layout after the one in `list`.
+pub fn next(job: &[u8], lw: u32, bw: u32, list: &mut [u16]) -> Answer
+    ensures { λ r. ⌜ NextAnswers (now (job .entry)) lw bw (now (list .entry)) r (now (list .exit)) ⌝ }
+{
+    let v = checks::verdicts::of_measure(job, lw, bw, list);
+    match v {
+        Verdict::Sound => step(job, lw, bw, list),
+        Verdict::Refused(r) => Answer::Refused(r),
+    }
+}
 
 // Measure: the total of an untouching layout, best or not.
 pub fn measure(job: &[u8], lw: u32, bw: u32, list: &[u16]) -> Answer

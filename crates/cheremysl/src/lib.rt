@@ -4,7 +4,7 @@ use paper::Answer;
 use paper::Drawn;
 use paper::Refusal;
 ghost use mathlib.Core.Path.{_≡_};
-ghost use Rattle.paper.specs.Promises.{refusalNumber, number, drawnNumber, MeasurePromise, DrawPromise};
+ghost use Rattle.paper.specs.Promises.{refusalNumber, number, drawnNumber, FirstPromise, NextPromise, MeasurePromise, DrawPromise};
 ghost use Rattle.paper.specs.laws.Bounds.{Bounded};
 
 // C's number of a refusal, of an answer and of a drawn leader.
@@ -34,6 +34,30 @@ fn of_drawn(d: Drawn) -> i64
         Drawn::Bent(_) => 3,
         Drawn::Refused(f) => of_refusal(f),
     }
+}
+
+#[no_mangle]
+pub extern "C" fn cheremysl_first(
+    job: &[u8],
+    length_weight: u32,
+    bend_weight: u32,
+    layout: &mut [u16],
+) -> i64
+    ensures { λ r. ⌜ FirstPromise (now (job .entry)) «length_weight» «bend_weight» (now (layout .entry)) r (now (layout .exit)) ⌝ }
+{
+    of_answer(calls::first(job, length_weight, bend_weight, layout))
+}
+
+#[no_mangle]
+pub extern "C" fn cheremysl_next(
+    job: &[u8],
+    length_weight: u32,
+    bend_weight: u32,
+    layout: &mut [u16],
+) -> i64
+    ensures { λ r. ⌜ NextPromise (now (job .entry)) «length_weight» «bend_weight» (now (layout .entry)) r (now (layout .exit)) ⌝ }
+{
+    of_answer(calls::next(job, length_weight, bend_weight, layout))
 }
 
 #[no_mangle]

@@ -1,0 +1,216 @@
+-- The paper's board is a board of strips: untouching layouts, totals, best layouts and their order are those of the work lists.
+use mathlib.Core.Path.{_≡_, refl, sym, _∙_, subst}
+use mathlib.Core.Logic.{_⊎_, inl, inr, _↔_}
+use mathlib.Core.List.{List, List·Memᴰ}
+use Prim.Native.Nat.{ℕ, zero, suc, _+_, _≤_, _<_, zero-le}
+use native.Mathlib.Omega.{arith}
+use native.Mathlib.Decide.{decLt, ℕ-discrete}
+use lib.ListN.{length, getD, List·getD-eq-default}
+use Rattle.order.specs.Arrangement.{Arrangement}
+use Rattle.strips.specs.Board.{Sol, Clear}
+use Rattle.strips.specs.Board as strips
+use Rattle.strips.specs.Order.{Same, Earlier, Earliest, earlier-not-same, earlier-asym}
+use Rattle.strips.specs.Places.{Optimal, Later}
+use Rattle.strips.specs.ByPlace.{mem-at, place-mem, free-places, places-free, earlier-differ, differ-earlier, sumTo, sum-order}
+use Rattle.table.specs.Cell.{boardOf}
+use Rattle.order.specs.Falling.{Sorted}
+use Rattle.steps.specs.Steps.{figureOf}
+use Rattle.steps.specs.Steps as steps
+use Rattle.steps.specs.Lists.{listed}
+use Rattle.paper.specs.Leaders.{Between}
+use Rattle.paper.specs.Layouts.{Board, Untouching, sum, total, Best, Before, FirstBest, NextBest, LastBest}
+use Rattle.paper.specs.laws.Proper.{Proper}
+use Rattle.paper.specs.laws.Totals.{sum-same}
+use Rattle.paper.specs.laws.Boards.{untouched-iff, untouching-of}
+use Rattle.board.specs.Lists.{FieldsOf, OrderOf, WorkOf}
+use Rattle.board.specs.Sides.{low-high, high-low, clear-iff}
+
+-- ---- the order of the pads
+
+-- Two pads have different x.
+apart-x : {b : Board} → Proper b → (i j : ℕ) → i < b .pads → j < b .pads → b .x i ≡ b .x j → i ≡ j
+apart-x P i j h l e = go (decLt j i) (decLt i j)
+  where
+    go : Dec (j < i) → Dec (i < j) → i ≡ j
+    go (yes d) c = absurd (P .differ i j d h e)
+    go (no d) (yes c) = absurd (P .differ j i c l (sym e))
+    go (no d) (no c) = omega arith
+
+-- Sorted by falling x, the pads stand from right to left.
+pub order-of : {b : Board} {xs ys hs order : List ℕ} → Proper b → FieldsOf b xs ys hs → Sorted xs order (length xs) → OrderOf b order
+order-of {b} {xs} {ys} {hs} {order} P X S = record { arranged = A; falls = strict }
+  where
+    A : Arrangement (b .pads) order
+    A = subst (λ (n : ℕ). Arrangement n order) (X .widths .long) (S .arranged)
+
+    at : (p : ℕ) → p < b .pads → getD order p 0 < b .pads
+    at p h = A .inside p (omega (arith, A .long))
+
+    strict : (p q : ℕ) → p < q → q < b .pads → b .x (getD order q 0) < b .x (getD order p 0)
+    strict p q h l =
+        let k : p < b .pads = omega arith in
+        let s = S .falls p q h (omega (arith, X .widths .long)) in
+        let e = X .widths .at (getD order p 0) (at p k) in
+        let d = X .widths .at (getD order q 0) (at q l) in
+        go s e d (decLt (b .x (getD order q 0)) (b .x (getD order p 0)))
+      where
+        go : getD xs (getD order q 0) 0 ≤ getD xs (getD order p 0) 0 → getD xs (getD order p 0) 0 ≡ b .x (getD order p 0)
+            → getD xs (getD order q 0) 0 ≡ b .x (getD order q 0) → Dec (b .x (getD order q 0) < b .x (getD order p 0)) → b .x (getD order q 0) < b .x (getD order p 0)
+        go s e d (yes c) = c
+        go s e d (no c) =
+            let z = A .apart q p l (omega arith) (apart-x P (getD order q 0) (getD order p 0) (at q l) (at p (omega arith)) (omega arith)) in
+            absurd (omega arith)
+
+-- ---- sums
+
+sum-to : (c : ℕ → ℕ) (n : ℕ) → sumTo c n ≡ sum n c
+unfolding sumTo sum
+sum-to c zero = refl
+sum-to c (suc n) = omega (arith, sum-to c n)
+
+module _ {b : Board} {cost : ℕ → ℕ → ℕ} {order lo hi cs : List ℕ} (W : WorkOf b cost order lo hi cs) where
+  same-n : length order ≡ b .pads
+  same-n = W .listed .arranged .long
+
+  -- ---- the search's board is proper
+
+  default : (l : List ℕ) → length l ≡ b .pads → (j : ℕ) → ¬ (j < b .pads) → getD l j 0 ≡ 0
+  default l e j h = List·getD-eq-default l 0 {n = j} (omega arith)
+
+  level : (j : ℕ) → Dec (j < b .pads) → getD lo j 0 ≤ getD hi j 0
+  level j (yes h) = low-high b (W .proper .rising) (W .sides .low .at j h) (W .sides .high .at j h)
+  level j (no h) = omega (arith, default lo (W .sides .low .long) j h)
+
+  thin : (j : ℕ) → Dec (j < b .pads) → getD hi j 0 ≤ getD lo j 0 + 1
+  thin j (yes h) = high-low b (W .proper .rising) (W .sides .low .at j h) (W .sides .high .at j h)
+  thin j (no h) = omega (arith, default hi (W .sides .high .long) j h)
+
+  most : (j : ℕ) → Dec (j < b .pads) → getD hi j 0 ≤ b .pads
+  most j (yes h) = omega (arith, W .sides .high .at j h .top, W .even)
+  most j (no h) = omega (arith, default hi (W .sides .high .long) j h)
+
+  -- The work lists are what the search asks for.
+  pub proper : steps.Proper order cs lo hi
+  proper = record {
+    pads = record {
+      few = omega (arith, W .few, same-n);
+      lows = W .sides .low .long ∙ sym same-n;
+      highs = W .sides .high .long ∙ sym same-n;
+      listed = λ k h. omega (arith, W .listed .arranged .inside k h, same-n);
+      level = λ j. level j (decLt j (b .pads));
+      top = λ j. omega (arith, most j (decLt j (b .pads)), same-n);
+    };
+    square = rw same-n (rw (W .even) at (W .costs .square));
+    thin = λ j. thin j (decLt j (b .pads));
+    arranged = rw same-n (W .listed .arranged);
+  }
+
+  -- ---- touching
+
+  at : (p : ℕ) → p < b .pads → getD order p 0 < b .pads
+  at p h = W .listed .arranged .inside p (omega (arith, same-n))
+
+  clear-at : (q j r : ℕ) → j < b .pads → q < b .pads → r < b .pads → Clear (boardOf order cs lo hi) q j r ↔ (¬ Between (b .port q) (b .y j) (b .port r))
+  clear-at q j r h l m = clear-iff b (W .proper .rising) (W .sides .low .at j h) (W .sides .high .at j h) q r (omega (arith, W .even)) (omega (arith, W .even))
+
+  -- of two pads the right one stands first
+  earlier-place : (p q : ℕ) → p < b .pads → q < b .pads → b .x (getD order q 0) < b .x (getD order p 0) → p < q
+  earlier-place p q h l r = go (decLt p q) (ℕ-discrete p q)
+    where
+      go : Dec (p < q) → Dec (p ≡ q) → p < q
+      go (yes d) e = d
+      go (no d) (yes e) = let z : b .x (getD order q 0) ≡ b .x (getD order p 0) = rw e refl in absurd (omega arith)
+      go (no d) (no e) = absurd (omega (arith, W .listed .falls q p (omega arith) h))
+
+  member : (j : ℕ) → j < b .pads → List·Memᴰ j order
+  member j h = let t = W .listed .arranged .covers j h in subst (λ (i : ℕ). List·Memᴰ i order) (t .2) (place-mem order (t .0) (omega (arith, t .1, same-n)))
+
+  below : (j : ℕ) → List·Memᴰ j order → j < b .pads
+  below j m = let t = mem-at order j m in subst (λ (i : ℕ). i < b .pads) (t .2) (at (t .0) (omega (arith, t .1, same-n)))
+
+  -- What the search calls a layout is untouching,
+  pub sol-untouching : (f : ℕ → ℕ) → Sol (boardOf order cs lo hi) order 0 (length order) f → Untouching b f
+  sol-untouching f s = untouching-of b f (λ j h. omega (arith, port j h, W .even)) (untouched-iff b f (W .proper .differ) .1 apart)
+    where
+      port : (j : ℕ) → j < b .pads → f j < b .pads
+      port j h = omega (arith, s .inside j (member j h) .high, same-n)
+
+      apart : (i j : ℕ) → i < b .pads → j < b .pads → b .x j < b .x i → ¬ Between (b .port (f i)) (b .y j) (b .port (f j))
+      apart i j h l r =
+          let a = W .listed .arranged .covers i h in
+          let c = W .listed .arranged .covers j l in
+          let k = earlier-place (a .0) (c .0) (a .1) (c .1) (rw (a .2, c .2) r) in
+          let d = free-places (boardOf order cs lo hi) f order (s .free) (a .0) (c .0) k (omega (arith, c .1, same-n)) in
+          clear-at (f i) j (f j) l (port i h) (port j l) .0 (rw (a .2, c .2) at d)
+
+  -- and every untouching layout is one.
+  pub untouching-sol : (f : ℕ → ℕ) → Untouching b f → Sol (boardOf order cs lo hi) order 0 (length order) f
+  untouching-sol f u = record {
+    free = places-free (boardOf order cs lo hi) f order (λ p q h l.
+        let k : q < b .pads = omega (arith, same-n) in
+        let i = at p (omega arith) in
+        let j = at q k in
+        clear-at (f (getD order p 0)) (getD order q 0) (f (getD order q 0)) j (port (getD order p 0) i) (port (getD order q 0) j) .1
+        (untouched-iff b f (W .proper .differ) .0 (u .apart) (getD order p 0) (getD order q 0) i j (W .listed .falls p q h k)));
+    inside = λ j m. record { low = zero-le; high = omega (arith, port j (below j m), same-n); allowed = refl };
+  }
+    where
+      port : (j : ℕ) → j < b .pads → f j < b .pads
+      port j h = omega (arith, u .layout .inside j h, W .even)
+
+  -- ---- totals
+
+  -- The search's sum is the total.
+  pub sum-total : (f : ℕ → ℕ) → Untouching b f → strips.sum (figureOf cs (length order)) order f ≡ total b cost f
+  sum-total f u =
+      sum-order (figureOf cs (length order)) f (b .pads) order (listed proper .distinct) below member
+      ∙ sum-to (λ j. figureOf cs (length order) j (f j)) (b .pads)
+      ∙ sum-same (b .pads) (λ j. figureOf cs (length order) j (f j)) (λ j. cost j (f j)) (λ j h. rw (same-n, ← W .even) (W .costs .at j (f j) h (u .layout .inside j h)))
+
+  -- ---- best layouts and their order
+
+  -- The search's best layouts are the best layouts,
+  pub optimal-is-best : (f : ℕ → ℕ) → Optimal (boardOf order cs lo hi) order (length order) f → Best b cost f
+  optimal-is-best f o = let u = sol-untouching f (o .layout) in record {
+    untouching = u;
+    least = λ g v. rw (← sum-total f u, ← sum-total g v) (o .least g (untouching-sol g v));
+  }
+
+  pub best-is-optimal : (f : ℕ → ℕ) → Best b cost f → Optimal (boardOf order cs lo hi) order (length order) f
+  best-is-optimal f s = record {
+    layout = untouching-sol f (s .untouching);
+    least = λ g t. rw (sum-total f (s .untouching), sum-total g (sol-untouching g t)) (s .least g (sol-untouching g t));
+  }
+
+  -- its order is the order of layouts,
+  pub earlier-before : (f g : ℕ → ℕ) → Earlier order f g → Before b f g
+  earlier-before f g e = let d = earlier-differ f g order e in let k : d .place < b .pads = omega (arith, d .inside, same-n) in record {
+    pad = getD order (d .place) 0;
+    inside = at (d .place) k;
+    smaller = d .less;
+    alike = λ i h r. let a = W .listed .arranged .covers i h in rw (a .2) at (d .alike (a .0) (earlier-place (a .0) (d .place) (a .1) k (rw (a .2) r)));
+  }
+
+  pub before-earlier : (f g : ℕ → ℕ) → Before b f g → Earlier order f g
+  before-earlier f g s =
+      let a = W .listed .arranged .covers (s .pad) (s .inside) in
+      differ-earlier f g order (a .0) (omega (arith, a .1, same-n)) (rw (a .2) (s .smaller))
+      (λ p h. let l : p < b .pads = omega (arith, a .1) in s .alike (getD order p 0) (at p l) (rw (a .2) at (W .listed .falls p (a .0) h (a .1))))
+
+  last : (f g : ℕ → ℕ) → Same order f g ⊎ Earlier order f g → ¬ Before b g f
+  last f g (inl s) c = earlier-not-same g f order (before-earlier g f c) (λ i m. sym (s i m))
+  last f g (inr e) c = earlier-asym f g order e (before-earlier g f c)
+
+  -- THEOREMS: the search's first, next and last best layouts are those of the paper.
+  pub earliest-is : (f : ℕ → ℕ) → Earliest order (Optimal (boardOf order cs lo hi) order (length order)) f → FirstBest b cost f
+  earliest-is f e = record { best = optimal-is-best f (e .has); earliest = λ g s. last f g (e .first g (best-is-optimal g s)) }
+
+  pub next-is : (l f : ℕ → ℕ) → Earliest order (Later (boardOf order cs lo hi) order (length order) l) f → NextBest b cost l f
+  next-is l f e = record {
+    best = optimal-is-best f (e .has .best);
+    later = earlier-before l f (e .has .later);
+    earliest = λ g s k. last f g (e .first g (record { best = best-is-optimal g s; later = before-earlier l g k }));
+  }
+
+  pub end-is : (l : ℕ → ℕ) → ((g : ℕ → ℕ) → ¬ Later (boardOf order cs lo hi) order (length order) l g) → LastBest b cost l
+  end-is l e g s k = e g (record { best = best-is-optimal g s; later = before-earlier l g k })

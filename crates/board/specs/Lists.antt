@@ -1,0 +1,66 @@
+-- The work lists of a board: what the search works with, said of the paper's board.
+use mathlib.Core.Path.{_≡_}
+use mathlib.Core.Logic.{_↔_}
+use mathlib.Core.List.{List}
+use Prim.Native.Nat.{ℕ, _+_, _*_, _≤_, _<_}
+use lib.ListN.{length, getD}
+use lib.IntN.{ℤ, pos, _+ℤ_}
+use lib.Signed.{_≤ℤ_, _<ℤ_}
+use Rattle.order.specs.Arrangement.{Arrangement}
+use Rattle.paper.specs.Layouts.{Board, boardOf, weighted}
+use Rattle.paper.specs.laws.Proper.{Proper}
+
+-- The list has n entries, and each of the first k is as P says.
+pub record Filled (n : ℕ) (P : ℕ → ℕ → Type 0) (list : List ℕ) (k : ℕ) : Type 0 where
+  pub long : length list ≡ n
+  pub at : (j : ℕ) → j < k → P j (getD list j 0)
+
+-- Heights are held as naturals: r stands for the height z.
+abbrev pub Raised : ℤ → ℕ → Type 0
+Raised z r = pos r ≡ (z +ℤ pos 1000000)
+
+-- xs and ys have the numbers of the pads, hs those of the ports.
+pub record FieldsOf (b : Board) (xs ys hs : List ℕ) : Type 0 where
+  pub widths : Filled (b .pads) (λ j v. v ≡ b .x j) xs (b .pads)
+  pub pads : Filled (b .pads) (λ j v. Raised (b .y j) v) ys (b .pads)
+  pub ports : Filled (b .ports) (λ q v. Raised (b .port q) v) hs (b .ports)
+
+-- order has the pads from right to left.
+pub record OrderOf (b : Board) (order : List ℕ) : Type 0 where
+  pub arranged : Arrangement (b .pads) order
+  pub falls : (p q : ℕ) → p < q → q < b .pads → b .x (getD order q 0) < b .x (getD order p 0)
+
+-- Of n ports P holds of the first c, and of no other.
+pub record FirstOnes (n : ℕ) (P : ℕ → Type 0) (c : ℕ) : Type 0 where
+  pub top : c ≤ n
+  pub which : (q : ℕ) → q < n → (q < c) ↔ P q
+
+-- lo has for each pad how many ports lie strictly below it, hi how many lie at its height or below. (Ports rise: these are the first ones.)
+pub record SidesOf (b : Board) (lo hi : List ℕ) : Type 0 where
+  pub low : Filled (b .pads) (λ j v. FirstOnes (b .ports) (λ q. b .port q <ℤ b .y j) v) lo (b .pads)
+  pub high : Filled (b .pads) (λ j v. FirstOnes (b .ports) (λ q. b .port q ≤ℤ b .y j) v) hi (b .pads)
+
+-- cs has what it costs to lead each pad to each port, pad by pad.
+pub record CostsOf (b : Board) (cost : ℕ → ℕ → ℕ) (cs : List ℕ) : Type 0 where
+  pub square : length cs ≡ b .pads * b .ports
+  pub at : (j q : ℕ) → j < b .pads → q < b .ports → getD cs (j * b .ports + q) 0 ≡ cost j q
+
+-- Lists of the right lengths for n pads and n ports, lent to be filled.
+pub record Lent (n : ℕ) (order lo hi cs : List ℕ) : Type 0 where
+  pub places : length order ≡ n
+  pub lows : length lo ≡ n
+  pub highs : length hi ≡ n
+  pub square : length cs ≡ n * n
+
+-- The work lists of a proper board with as many ports as pads, at most 64.
+pub record WorkOf (b : Board) (cost : ℕ → ℕ → ℕ) (order lo hi cs : List ℕ) : Type 0 where
+  pub proper : Proper b
+  pub even : b .ports ≡ b .pads
+  pub few : b .pads ≤ 64
+  pub listed : OrderOf b order
+  pub sides : SidesOf b lo hi
+  pub costs : CostsOf b cost cs
+
+-- The work lists of a job's board, with the weighted costs.
+abbrev pub WorkOn : List ℕ → ℕ → ℕ → List ℕ → List ℕ → List ℕ → List ℕ → Type 0
+WorkOn job lw bw order lo hi cs = WorkOf (boardOf job) (weighted (boardOf job) lw bw) order lo hi cs

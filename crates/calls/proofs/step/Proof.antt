@@ -1,0 +1,67 @@
+-- `calls::step` meets its contract. Assumes nothing.
+use denote.Ref.{now}
+use borrow.Author.Needs.{needs}
+use Rattle.calls.proofs.Facts.{next-facts, untouching, total-answers, end-answers, not-best-answers}
+use Rattle.calls.proofs.step.Statement.{statement}
+use Rattle.calls.proofs.step.Tie as tie
+
+next-on-requires : tie.Need-next-on-requires
+next-on-requires c κs =
+    let s = c .before .before .before in
+    let a = s .args in
+    (next-facts (now (a .job)) (a .lw) (a .bw) (now (a .list)) (s .pre), untouching (now (a .job)) (a .lw) (a .bw) (now (a .list)) (s .pre))
+
+enum-known-s : tie.Need-enum-known-s
+enum-known-s c = search needs
+
+enum-told : tie.Need-enum-told
+enum-told c = search needs
+
+enum-told-2 : tie.Need-enum-told-2
+enum-told-2 c = search needs
+
+same-length : tie.Need-same-length
+same-length c = search needs
+
+returns : tie.Need-returns
+returns c =
+    let d = c .before .before .before .before .before in
+    let s = d .before .before .before .before in
+    let a = s .args in
+    total-answers (now (a .job)) (a .lw) (a .bw) (now (a .list)) (s .pre) (d .next-on .last .1 .1 .1 .0) (c .before .s .given .0 .0)
+    (rw (c .before .s .given .1) at (d .next-on .ensures))
+
+same-length-2 : tie.Need-same-length-2
+same-length-2 c = search needs
+
+returns-2 : tie.Need-returns-2
+returns-2 c =
+    let d = c .before .before .before .before in
+    let s = d .before .before .before .before in
+    let a = s .args in
+    end-answers (now (a .job)) (a .lw) (a .bw) (now (a .list)) (s .pre) (d .next-on .last .1 .1 .1 .0) (rw (c .enum-told .given .1) at (d .next-on .ensures))
+
+same-length-3 : tie.Need-same-length-3
+same-length-3 c = search needs
+
+returns-3 : tie.Need-returns-3
+returns-3 c =
+    let d = c .before .before .before .before in
+    let s = d .before .before .before .before in
+    let a = s .args in
+    not-best-answers (now (a .job)) (a .lw) (a .bw) (now (a .list)) (s .pre) (d .next-on .last .1 .1 .1 .0) (rw (c .enum-told2 .given .1) at (d .next-on .ensures))
+
+pub step-spec : {M : Type 1} → statement M
+step-spec =
+    tie.close
+    (tie.spec
+    next-on-requires
+    enum-known-s
+    enum-told
+    enum-told-2
+    same-length
+    returns
+    same-length-2
+    returns-2
+    same-length-3
+    returns-3)

@@ -1,0 +1,71 @@
+-- `sheets::first_on` meets its contract: the work lists are parts of arrays. Assumes nothing.
+use mathlib.Core.Path.{sym}
+use native.Mathlib.Omega.{arith}
+use lib.Seq.{length-take-le}
+use borrow.Author.Needs.{needs}
+use Rattle.sheets.proofs.Square.{square}
+use Rattle.sheets.proofs.first_on.Statement.{statement}
+use Rattle.sheets.proofs.first_on.Tie as tie
+
+mul-square : tie.Need-mul-square
+mul-square c = omega (arith, square (c .before .before .pre .0 .few))
+
+array-borrow-prefix-order : tie.Need-array-borrow-prefix-order
+array-borrow-prefix-order c = search needs
+
+slice-aggregate-first-at : tie.Need-slice-aggregate-first-at
+slice-aggregate-first-at c = sym (length-take-le _ _ (c .before .before .before .pre .0 .few))
+
+array-borrow-prefix-lo : tie.Need-array-borrow-prefix-lo
+array-borrow-prefix-lo c = search needs
+
+slice-aggregate-first-at-2 : tie.Need-slice-aggregate-first-at-2
+slice-aggregate-first-at-2 c = sym (length-take-le _ _ (c .before .before .before .before .pre .0 .few))
+
+array-borrow-prefix-hi : tie.Need-array-borrow-prefix-hi
+array-borrow-prefix-hi c = search needs
+
+slice-aggregate-first-at-3 : tie.Need-slice-aggregate-first-at-3
+slice-aggregate-first-at-3 c = sym (length-take-le _ _ (c .before .before .before .before .before .pre .0 .few))
+
+array-borrow-prefix-cost : tie.Need-array-borrow-prefix-cost
+array-borrow-prefix-cost c = square (c .before .before .before .before .before .pre .0 .few)
+
+slice-aggregate-first-at-4 : tie.Need-slice-aggregate-first-at-4
+slice-aggregate-first-at-4 c = sym (length-take-le _ _ (square (c .before .before .before .before .before .before .pre .0 .few)))
+
+first-at-requires : tie.Need-first-at-requires
+first-at-requires c κs =
+    let s = c .before .before .before .before .before .before .before in
+    let few = s .pre .0 .few in (
+      s .pre,
+      record {
+        places = length-take-le _ _ few;
+        lows = length-take-le _ _ few;
+        highs = length-take-le _ _ few;
+        square = length-take-le _ _ (square few);
+      },
+    )
+
+same-length : tie.Need-same-length
+same-length c = search needs
+
+returns : tie.Need-returns
+returns c = search needs
+
+pub first-on-spec : {M : Type 1} → statement M
+first-on-spec =
+    tie.close
+    (tie.spec
+    mul-square
+    array-borrow-prefix-order
+    slice-aggregate-first-at
+    array-borrow-prefix-lo
+    slice-aggregate-first-at-2
+    array-borrow-prefix-hi
+    slice-aggregate-first-at-3
+    array-borrow-prefix-cost
+    slice-aggregate-first-at-4
+    first-at-requires
+    same-length
+    returns)

@@ -1,0 +1,117 @@
+-- What First and Next are about, over plain lists of numbers, and what they promise.
+-- A layout is a list: entry j is the port of record j. `order` has the record numbers, rightmost pad first; there are as many ports as pads.
+use mathlib.Core.Path.{_≡_}
+use mathlib.Core.Bool.{Bool, true, false}
+use mathlib.Core.List.{List}
+use Prim.Native.Nat.{ℕ, _+_, _*_, _≤_, _<_}
+use lib.ListN.{length, getD, take}
+use Rattle.steps.specs.declared.Answer.{Answer}
+use Rattle.steps.specs.declared.Answer.the-variants.{Total, End, NotBest}
+use Rattle.strips.specs.Board.{Sol, sum}
+use Rattle.strips.specs.Order.{Same, Earliest}
+use Rattle.strips.specs.Places.{Optimal, Later, Extends, FilledFrom}
+use Rattle.order.specs.Arrangement.{Arrangement}
+use Rattle.table.specs.Cell.{boardOf, Pads, Table}
+
+-- The ports of a layout, by record number.
+abbrev pub portOf : List ℕ → ℕ → ℕ
+portOf w j = getD w j 0
+
+-- A proper board: 64 pads at most, each listed once, with at most one port at its height; a figure for each pad and port.
+pub record Proper (order cs lo hi : List ℕ) : Type 0 where
+  pub pads : Pads order lo hi
+  pub square : length cs ≡ length order * length order
+  pub thin : (j : ℕ) → getD hi j 0 ≤ getD lo j 0 + 1
+  pub arranged : Arrangement (length order) order
+
+-- A layout without touching leaders.
+abbrev pub Untouching : List ℕ → List ℕ → List ℕ → List ℕ → List ℕ → Type 0
+Untouching order cs lo hi w = Sol (boardOf order cs lo hi) order 0 (length order) (portOf w)
+
+-- A best one.
+abbrev pub BestLayout : List ℕ → List ℕ → List ℕ → List ℕ → List ℕ → Type 0
+BestLayout order cs lo hi w = Optimal (boardOf order cs lo hi) order (length order) (portOf w)
+
+-- The figure of pad j on port q, of a list of n × n.
+abbrev pub figureOf : List ℕ → ℕ → ℕ → ℕ → ℕ
+figureOf cs n j q = getD cs (j * n + q) 0
+
+-- The total of a layout.
+abbrev pub total : List ℕ → List ℕ → List ℕ → ℕ
+total order cs w = sum (figureOf cs (length order)) order (portOf w)
+
+-- v is w in all entries from n on.
+pub record Kept (n : ℕ) (w v : List ℕ) : Type 0 where
+  pub long : length v ≡ length w
+  pub rest : (k : ℕ) → n ≤ k → getD v k 0 ≡ getD w k 0
+
+-- FIRST: v holds the earliest best layout, and t is its total.
+pub record FirstIs (order cs lo hi w v : List ℕ) (t : ℕ) : Type 0 where
+  pub earliest : Earliest order (Optimal (boardOf order cs lo hi) order (length order)) (portOf v)
+  pub totals : t ≡ total order cs v
+  pub kept : Kept (length order) w v
+
+-- NEXT: v holds the earliest best layout after the layout of w; or there is none, and v is w.
+pub record NextIs (order cs lo hi w v : List ℕ) : Type 0 where
+  pub earliest : Earliest order (Later (boardOf order cs lo hi) order (length order) (portOf w)) (portOf v)
+  pub kept : Kept (length order) w v
+
+pub record EndIs (order cs lo hi w v : List ℕ) : Type 0 where
+  pub none : (g : ℕ → ℕ) → Later (boardOf order cs lo hi) order (length order) (portOf w) g → ⊥
+  pub same : v ≡ w
+
+abbrev pub StepIs : List ℕ → List ℕ → List ℕ → List ℕ → List ℕ → List ℕ → Bool → Type 0
+StepIs order cs lo hi w v true = NextIs order cs lo hi w v
+StepIs order cs lo hi w v false = EndIs order cs lo hi w v
+
+-- NEXT, asked of an untouching layout w: a step and its total, or the end, or w is not best and is left as it was.
+abbrev pub NextMeets : List ℕ → List ℕ → List ℕ → List ℕ → List ℕ → List ℕ → Answer → Type 0
+NextMeets order cs lo hi w v (Total t) = BestLayout order cs lo hi w × NextIs order cs lo hi w v × (t ≡ total order cs v)
+NextMeets order cs lo hi w v End = BestLayout order cs lo hi w × EndIs order cs lo hi w v
+NextMeets order cs lo hi w v NotBest = (BestLayout order cs lo hi w → ⊥) × (v ≡ w)
+
+-- Next's answer as one number.
+abbrev pub code : Answer → ℕ
+code (Total t) = t
+code End = 18446744073709551615
+code NotBest = 18446744073709551614
+
+pub record NextReply (order cs lo hi w v : List ℕ) (r : ℕ) : Type 0 where
+  pub answer : Answer
+  pub coded : r ≡ code answer
+  pub meets : NextMeets order cs lo hi w v answer
+
+-- r says whether P.
+abbrev pub Told : Bool → Type 0 → Type 0
+Told true P = P
+Told false P = P → ⊥
+
+-- What the total of a layout is read from.
+pub record Measurable (order cs w : List ℕ) : Type 0 where
+  pub few : length order ≤ 64
+  pub square : length cs ≡ length order * length order
+  pub room : length order ≤ length w
+  pub listed : (k : ℕ) → k < length order → getD order k 0 < length order
+  pub ports : (k : ℕ) → k < length order → getD w (getD order k 0) 0 < length order
+
+-- What First and Next work with: a proper board, its table, and a list with room for a layout.
+pub record Working (order cs lo hi hs ts w : List ℕ) : Type 0 where
+  pub proper : Proper order cs lo hi
+  pub table : Table order cs lo hi hs ts
+  pub room : length order ≤ length w
+
+-- The ports that w gives to the first m pads are those of some best layout.
+abbrev pub Begun : List ℕ → List ℕ → List ℕ → List ℕ → List ℕ → ℕ → Type 0
+Begun order cs lo hi w m = Extends (boardOf order cs lo hi) (length order) order m (portOf w)
+
+-- What the search for a port answers: the first port from `from` on with Q, or 64.
+pub record Chosen (Q : ℕ → Type 0) (from q : ℕ) : Type 0 where
+  pub start : q < 64 → from ≤ q
+  pub found : q < 64 → Q q
+  pub passed : (i : ℕ) → from ≤ i → i < q → Q i → ⊥
+
+-- What filling from place k on leaves in v, where w was.
+pub record FilledUp (order cs lo hi w v : List ℕ) (k : ℕ) : Type 0 where
+  pub kept : Kept (length order) w v
+  pub before : Same (take k order) (portOf w) (portOf v)
+  pub filled : FilledFrom (boardOf order cs lo hi) (length order) order k (portOf v)

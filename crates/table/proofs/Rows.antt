@@ -1,0 +1,77 @@
+-- Laws of a row of the tables while it is filled.
+use mathlib.Core.Path.{_≡_, refl, sym, ap, _∙_, subst}
+use mathlib.Core.Logic.{⊎-elim, _≢_}
+use mathlib.Core.Bool.{Bool}
+use Rattle.strips.specs.Least.{Least}
+use mathlib.Core.List.{List, [], _∷_}
+use Prim.Native.Nat.{ℕ, _+_, _*_, _≤_, _<_, zero-le}
+use native.Mathlib.Omega.{arith}
+use lib.ListN.{length, getD, set}
+use lib.Seq.{getD-set-same, getD-set-other}
+use Rattle.strips.specs.Lists.{keep-same}
+use Rattle.strips.specs.Board as strip
+use Rattle.table.specs.Strip.{Sides, fits, bit, count, best}
+use Rattle.table.specs.Cell.{sides, figures, boardOf, cornerOf, place, coded, Pads, Sizes, Cell, Rows, Parts, Table}
+use Rattle.table.proofs.Counts.{le-or-lt, spans-by}
+use Rattle.table.proofs.Corners.{corner-top, place-start, place-end}
+use Rattle.table.proofs.Cells.{cell-right}
+
+-- the rows after a are right, and the row of a is right before b
+pub record Row (S : Sides) (C : ℕ → ℕ → Least) (order hs ts : List ℕ) (a b : ℕ) : Type 0 where
+  pub after : Rows S C order hs ts (a + 1)
+  pub done : (b′ : ℕ) → a ≤ b′ → b′ < b → Cell S C order a b′ (getD hs (place a b′) 0) (getD ts (place a b′) 0)
+
+-- other tables of the same length
+pub sizes-with : {hs ts hs′ ts′ order cs : List ℕ} → Sizes hs ts order cs → length hs′ ≡ 2145 → length ts′ ≡ 2145 → Sizes hs′ ts′ order cs
+sizes-with Z h t = record { heads = h; totals = t; square = Z .square; cheap = Z .cheap }
+
+module _ (S : Sides) (C : ℕ → ℕ → Least) (order : List ℕ) where
+  pub row-start : (hs ts : List ℕ) (a : ℕ) → Rows S C order hs ts (a + 1) → Row S C order hs ts a a
+  row-start hs ts a R = record { after = R; done = λ b′ u v. absurd (omega arith) }
+
+  pub row-parts : (hs ts : List ℕ) (a b : ℕ) → b ≤ length order → Row S C order hs ts a b → Parts S C order hs ts a b
+  row-parts hs ts a b bn R q aq qb = (R .done q aq qb, R .after (q + 1) b (omega arith) (omega arith) bn)
+
+  -- a cell elsewhere is as it was
+  cell-kept : (hs ts : List ℕ) (p h v a b : ℕ) → place a b ≢ p → Cell S C order a b (getD hs (place a b) 0) (getD ts (place a b) 0)
+      → Cell S C order a b (getD (set hs p h) (place a b) 0) (getD (set ts p v) (place a b) 0)
+  cell-kept hs ts p h v a b ne L = rw (getD-set-other hs p (place a b) h 0 ne, getD-set-other ts p (place a b) v 0 ne) L
+
+  pub row-step : (hs ts : List ℕ) (a b h v p : ℕ) → p ≡ place a b → length order ≤ 64 → a ≤ b → b ≤ length order → length hs ≡ 2145 → length ts ≡ 2145
+      → Cell S C order a b h v → Row S C order hs ts a b → Row S C order (set hs p h) (set ts p v) a (b + 1)
+  row-step hs ts a b h v p e few ab bn lh lt L R = rw e (record {
+    after = λ a′ b′ u w x. cell-kept hs ts (place a b) h v a′ b′ (λ e. let s = place-start a′ b′ a b w ab e in absurd (omega arith)) (R .after a′ b′ u w x);
+    done = λ b′ u w. ⊎-elim
+        (λ (x : b ≤ b′). let e : b ≡ b′ = omega arith in
+        subst (λ (k : ℕ). Cell S C order a k (getD (set hs (place a b) h) (place a k) 0) (getD (set ts (place a b) v) (place a k) 0)) e
+        (let t = corner-top b (omega arith) in rw (getD-set-same hs (place a b) h 0 (omega arith), getD-set-same ts (place a b) v 0 (omega arith)) L))
+        (λ (x : b′ < b). cell-kept hs ts (place a b) h v a b′ (λ e. let s = place-end a b′ a b u ab e in absurd (omega arith)) (R .done b′ u x))
+        (le-or-lt b b′);
+  })
+
+  pub row-end : (hs ts : List ℕ) (a b : ℕ) → length order < b → Row S C order hs ts a b → Rows S C order hs ts a
+  row-end hs ts a b h R a′ b′ u v w =
+      ⊎-elim
+      (λ (x : a′ ≤ a). let e : a ≡ a′ = omega arith in
+      subst (λ (k : ℕ). Cell S C order k b′ (getD hs (place k b′) 0) (getD ts (place k b′) 0)) e (R .done b′ (omega arith) (omega arith)))
+      (λ (x : a < a′). R .after a′ b′ (omega arith) v w)
+      (le-or-lt a′ a)
+
+-- ---- the whole board
+
+pub whole-count : (S : Sides) (n : ℕ) → ((j : ℕ) → S .hi j ≤ n) → (js : List ℕ) → count S 0 n js ≡ length js
+unfolding count
+whole-count S n h [] = refl
+whole-count S n h (j ∷ js) =
+    ap (λ (x : Bool). bit x + count S 0 n js) (spans-by 0 n (S .lo j) (S .hi j) zero-le (h j)) ∙ (let more = whole-count S n h js in omega arith)
+
+-- the first row's last cell has the best total of all pads on all ports
+pub whole-best : {order cs lo hi hs ts : List ℕ} → Pads order lo hi → Table order cs lo hi hs ts
+    → getD ts (cornerOf (length order)) 0 ≡ coded (strip.best (boardOf order cs lo hi) order 0 (length order))
+unfolding best
+whole-best {order} {cs} {lo} {hi} {hs} {ts} P T =
+    let n = length order in
+    let e : cornerOf n + 0 ≡ cornerOf n = omega arith in
+    ap (λ (k : ℕ). getD ts k 0) (sym e)
+    ∙ cell-right (sides lo hi) (figures cs n) order 0 n (getD hs (place 0 n) 0) (getD ts (place 0 n) 0) (T .rows 0 n zero-le zero-le (omega arith)) 0 zero-le (whole-count (sides lo hi) n (P .top) order ∙ omega arith)
+    ∙ ap (λ (l : List ℕ). coded (strip.best (boardOf order cs lo hi) l 0 n)) (keep-same (fits (sides lo hi) 0 n) order (λ j m. spans-by 0 n (getD lo j 0) (getD hi j 0) zero-le (P .top j)))

@@ -1,0 +1,169 @@
+-- What the table holds, and what its inputs are.
+use mathlib.Core.Path.{_≡_}
+use mathlib.Core.Bool.{Bool, cond, _&&_}
+use lib.Dec.{ltb}
+use Rattle.strips.specs.Least.{Least, none, some}
+use mathlib.Core.List.{List}
+use Prim.Native.Nat.{ℕ, zero, suc, _+_, _-_, _*_, _^_, _≤_, _<_}
+use lib.ListN.{length, getD, drop}
+use Rattle.strips.specs.Lists.{keep}
+use Rattle.strips.specs.Board.{Board, LocalBest}
+use Rattle.strips.specs.Prefix.{lies, Lies}
+use Rattle.table.specs.Strip.{Sides, count, board, best, local}
+
+-- the sides and the figures that slices hold
+abbrev pub sides : List ℕ → List ℕ → Sides
+sides lo hi = record { lo = λ j. getD lo j 0; hi = λ j. getD hi j 0 }
+
+abbrev pub figures : List ℕ → ℕ → ℕ → ℕ → Least
+figures cs n j q = some (getD cs (j * n + q) 0)
+
+-- the board that slices hold
+abbrev pub boardOf : List ℕ → List ℕ → List ℕ → List ℕ → Board
+boardOf order cs lo hi = board (sides lo hi) (figures cs (length order))
+
+-- `local` of the pad at place r of order and the pads after it, from lists
+abbrev pub choice : List ℕ → List ℕ → List ℕ → List ℕ → ℕ → ℕ → ℕ → ℕ → Least
+choice order cs lo hi r a b = local (sides lo hi) (figures cs (length order)) (getD order r 0) (drop (r + 1) order) a b
+
+-- a total as the code holds it: the largest u64 stands for none
+abbrev pub coded : Least → ℕ
+coded none = 18446744073709551615
+coded (some v) = v
+
+-- n pads, their numbers in order right to left, and each one's sides
+pub record Pads (order lo hi : List ℕ) : Type 0 where
+  pub few : length order ≤ 64
+  pub lows : length lo ≡ length order
+  pub highs : length hi ≡ length order
+  pub listed : (k : ℕ) → k < length order → getD order k 0 < length order
+  pub level : (j : ℕ) → getD lo j 0 ≤ getD hi j 0
+  pub top : (j : ℕ) → getD hi j 0 ≤ length order
+
+-- h is 1 more than the place in order of the rightmost pad of the strip a .. b - 1, when the strip gets its b - a leftmost pads;
+-- 0 where there are fewer than b - a
+pub record Head (S : Sides) (order : List ℕ) (a b h : ℕ) : Type 0 where
+  pub top : h ≤ length order + 1
+  pub past : (k : ℕ) → h ≤ k → k ≤ length order → count S a b (drop k order) < b - a
+  pub at : (s : ℕ) → h ≡ s + 1 → count S a b (drop s order) ≡ b - a
+
+-- h is the strip's head, and v the best total of its pads
+pub record Valued (S : Sides) (C : ℕ → ℕ → Least) (order : List ℕ) (a b h v : ℕ) : Type 0 where
+  pub head : Head S order a b h
+  pub value : (s : ℕ) → h ≡ s + 1 → v ≡ coded (best S C (drop s order) a b)
+  pub nothing : h ≡ 0 → v ≡ 18446744073709551615
+
+-- h is 1 more than the place of the rightmost of the strip's b - a pads, and v is their best total; h is 0 where the strip has too few pads or no layout
+pub record Cell (S : Sides) (C : ℕ → ℕ → Least) (order : List ℕ) (a b h v : ℕ) : Type 0 where
+  pub top : h ≤ length order + 1
+  pub past : (k : ℕ) → h ≤ k → k ≤ length order → count S a b (drop k order) ≡ b - a → best S C (drop k order) a b ≡ none
+  pub full : (s : ℕ) → h ≡ s + 1 → count S a b (drop s order) ≡ b - a
+  pub value : (s : ℕ) → h ≡ s + 1 → best S C (drop s order) a b ≡ some v
+  pub nothing : h ≡ 0 → v ≡ 18446744073709551615
+
+-- the tables have a place for each strip of 64 ports, and the figures are those of each pad with each port
+pub record Sizes (hs ts order cs : List ℕ) : Type 0 where
+  pub heads : length hs ≡ 2145
+  pub totals : length ts ≡ 2145
+  pub square : length cs ≡ length order * length order
+  pub cheap : (i : ℕ) → getD cs i 0 < 2 ^ 32
+
+-- the pad at place r heads the strip a .. b - 1, which holds as many pads from there on as ports
+pub record Strip (S : Sides) (order : List ℕ) (a b r : ℕ) : Type 0 where
+  pub ports : b ≤ length order
+  pub listed : r < length order
+  pub rest : count S a b (drop (r + 1) order) + 1 ≡ b - a
+
+-- how many strips end before port b, those of no ports too: 1 + 2 + .. + b
+unfoldable pub cornerOf : ℕ → ℕ
+cornerOf zero = 0
+cornerOf (suc b) = cornerOf b + suc b
+
+-- the place of the strip a .. b - 1 in a table
+abbrev pub place : ℕ → ℕ → ℕ
+place a b = cornerOf b + a
+
+-- what a port's total is read from: the places of the strips below and above it, `past` the least head that they may not have, and the start of the pad's row of figures
+pub record Port (hs ts cs : List ℕ) (past row q below above : ℕ) : Type 0 where
+  pub heads : length hs ≡ 2145
+  pub totals : length ts ≡ 2145
+  pub low : below < 2145
+  pub high : above < 2145
+  pub listed : row + q < length cs
+  pub small : past < getD hs below 0 → past < getD hs above 0 → (getD ts below 0 ≤ 2 ^ 38) × (getD ts above 0 ≤ 2 ^ 38)
+
+-- both strips have a layout of pads after the one that takes the port
+abbrev pub opens : List ℕ → ℕ → ℕ → ℕ → Bool
+opens hs past below above = ltb past (getD hs below 0) && ltb past (getD hs above 0)
+
+-- the total with the pad on the port
+abbrev pub sumAt : List ℕ → List ℕ → ℕ → ℕ → ℕ → ℕ → ℕ
+sumAt ts cs row q below above = getD cs (row + q) 0 + (getD ts below 0 + getD ts above 0)
+
+-- the same as the code holds it, the largest u64 where a part has no layout
+abbrev pub portTotal : List ℕ → List ℕ → List ℕ → ℕ → ℕ → ℕ → ℕ → ℕ → ℕ
+portTotal hs ts cs past row q below above = cond (opens hs past below above) (sumAt ts cs row q below above) 18446744073709551615
+
+-- what is kept for the strips that end at b, from one row to the next: of the strip a .. b - 1, m pads stand at place k or after it, and t in all
+pub record Tally (S : Sides) (order : List ℕ) (a b k m t : ℕ) : Type 0 where
+  pub placed : k ≤ length order
+  pub seen : m ≡ count S a b (drop k order)
+  pub all : t ≡ count S a b order
+
+abbrev pub Tallies : Sides → List ℕ → List ℕ → List ℕ → List ℕ → ℕ → Type 0
+Tallies S order at seen all a = (b : ℕ) → b ≤ length order → Tally S order a b (getD at b 0) (getD seen b 0) (getD all b 0)
+
+-- the same while the pads that lie above exactly a ports come in: those at places before i are in
+pub record Entering (S : Sides) (order : List ℕ) (a i b k m : ℕ) : Type 0 where
+  pub placed : k ≤ length order
+  pub before : i ≤ k → m ≡ count S (a + 1) b (drop k order)
+  pub after : k ≤ i → m + count S a b (drop i order) ≡ count S a b (drop k order) + count S (a + 1) b (drop i order)
+
+abbrev pub EnteringAll : Sides → List ℕ → List ℕ → List ℕ → List ℕ → ℕ → ℕ → Type 0
+EnteringAll S order at seen all a i =
+    (b : ℕ) → b ≤ length order → Entering S order a i b (getD at b 0) (getD seen b 0) × Entering S order a i b 0 (getD all b 0)
+
+-- the three lists have an entry for each b
+pub record Rooms (at seen all : List ℕ) : Type 0 where
+  pub places : length at ≡ 65
+  pub counts : length seen ≡ 65
+  pub wholes : length all ≡ 65
+
+-- k is the place of the rightmost of the strip's b - a leftmost pads
+pub record Top (S : Sides) (order : List ℕ) (a b k : ℕ) : Type 0 where
+  pub placed : k < length order
+  pub full : count S a b (drop k order) ≡ b - a
+  pub later : (i : ℕ) → k < i → i ≤ length order → count S a b (drop i order) < b - a
+
+-- the strips that start at a or above are right in the tables hs and ts
+abbrev pub Rows : Sides → (ℕ → ℕ → Least) → List ℕ → List ℕ → List ℕ → ℕ → Type 0
+Rows S C order hs ts a = (a′ b′ : ℕ) → a ≤ a′ → a′ ≤ b′ → b′ ≤ length order → Cell S C order a′ b′ (getD hs (place a′ b′) 0) (getD ts (place a′ b′) 0)
+
+-- the strips that a port q of a .. b - 1 leaves below and above it are right
+abbrev pub Parts : Sides → (ℕ → ℕ → Least) → List ℕ → List ℕ → List ℕ → ℕ → ℕ → Type 0
+Parts S C order hs ts a b =
+    (q : ℕ) → a ≤ q → q < b
+    → Cell S C order a q (getD hs (place a q) 0) (getD ts (place a q) 0) × Cell S C order (q + 1) b (getD hs (place (q + 1) b) 0) (getD ts (place (q + 1) b) 0)
+
+-- the tables are right, for the pads `order` with the sides lo and hi and the figures cs
+pub record Table (order cs lo hi hs ts : List ℕ) : Type 0 where
+  pub sizes : Sizes hs ts order cs
+  pub rows : Rows (sides lo hi) (figures cs (length order)) order hs ts 0
+
+-- the pad at place r lies in the strip a .. b - 1, which it and the pads after it fill: a pad for each port
+pub record Ready (B : Board) (order : List ℕ) (r a b : ℕ) : Type 0 where
+  pub ports : b ≤ length order
+  pub listed : r < length order
+  pub here : Lies B a b (getD order r 0)
+  pub full : length (keep (lies B a b) (drop (r + 1) order)) + 1 ≡ b - a
+
+-- port q is a locally best one for the pad at place r, in the strip a .. b - 1
+abbrev pub Leads : Board → List ℕ → ℕ → ℕ → ℕ → ℕ → Type 0
+Leads B order r a b q = LocalBest B (getD order r 0) (keep (lies B a b) (drop (r + 1) order)) a b q
+
+-- q is the first of the ports p .. b - 1 of which Q holds, or b
+pub record NextPort (Q : ℕ → Type 0) (p b q : ℕ) : Type 0 where
+  pub start : p ≤ q
+  pub within : q ≤ b
+  pub passed : (i : ℕ) → p ≤ i → i < q → Q i → ⊥
+  pub found : q < b → Q q
