@@ -9,7 +9,7 @@ use Rattle.steps.specs.declared.Answer.{Answer}
 use Rattle.steps.specs.declared.Answer.the-variants.{Total, End, NotBest}
 use Rattle.strips.specs.Board.{Sol, sum}
 use Rattle.strips.specs.Order.{Same, Earliest}
-use Rattle.strips.specs.Places.{Optimal, Later, Extends, FilledFrom}
+use Rattle.strips.specs.Places.{Optimal, Later, Extends, FilledFrom, At}
 use Rattle.order.specs.Arrangement.{Arrangement}
 use Rattle.table.specs.Cell.{boardOf, Pads, Table}
 
@@ -70,17 +70,6 @@ NextMeets order cs lo hi w v (Total t) = BestLayout order cs lo hi w × NextIs o
 NextMeets order cs lo hi w v End = BestLayout order cs lo hi w × EndIs order cs lo hi w v
 NextMeets order cs lo hi w v NotBest = (BestLayout order cs lo hi w → ⊥) × (v ≡ w)
 
--- Next's answer as one number.
-abbrev pub code : Answer → ℕ
-code (Total t) = t
-code End = 18446744073709551615
-code NotBest = 18446744073709551614
-
-pub record NextReply (order cs lo hi w v : List ℕ) (r : ℕ) : Type 0 where
-  pub answer : Answer
-  pub coded : r ≡ code answer
-  pub meets : NextMeets order cs lo hi w v answer
-
 -- r says whether P.
 abbrev pub Told : Bool → Type 0 → Type 0
 Told true P = P
@@ -103,6 +92,10 @@ pub record Working (order cs lo hi hs ts w : List ℕ) : Type 0 where
 -- The ports that w gives to the first m pads are those of some best layout.
 abbrev pub Begun : List ℕ → List ℕ → List ℕ → List ℕ → List ℕ → ℕ → Type 0
 Begun order cs lo hi w m = Extends (boardOf order cs lo hi) (length order) order m (portOf w)
+
+-- Port q is a locally best one for the pad at place m, when the pads before it have the ports of w.
+abbrev pub LocallyBest : List ℕ → List ℕ → List ℕ → List ℕ → List ℕ → ℕ → ℕ → Type 0
+LocallyBest order cs lo hi w m = At (boardOf order cs lo hi) (length order) order (portOf w) m
 
 -- What the search for a port answers: the first port from `from` on with Q, or 64.
 pub record Chosen (Q : ℕ → Type 0) (from q : ℕ) : Type 0 where

@@ -5,11 +5,10 @@ ghost use mathlib.Core.Bool.{Bool, cond};
 ghost use Prim.Native.Nat.{ℕ, _+_, _*_, _≤_, _<_, min, max};
 ghost use lib.Dec.{leb, ltb};
 ghost use lib.ListN.{length, getD, take};
-ghost use Rattle.strips.specs.Board.{best};
 ghost use Rattle.strips.specs.Prefix.{floor, ceil};
-ghost use Rattle.strips.specs.Places.{At};
-ghost use Rattle.table.specs.Cell.{boardOf, coded};
-ghost use Rattle.steps.specs.Steps.{portOf, total, Proper, Measurable, Untouching, BestLayout, Working, Begun, Chosen, FilledUp, FirstIs, StepIs, NextMeets, NextReply, Told, code};
+ghost use Rattle.table.specs.Cell.{leastOf};
+ghost use Rattle.steps.specs.Steps.{portOf, total, Proper, Measurable, Untouching, BestLayout, Working, Begun, LocallyBest, Chosen, FilledUp};
+ghost use Rattle.steps.specs.Steps.{FirstIs, StepIs, NextMeets, Told};
 
 // What Next answers of an untouching layout.
 pub enum Answer {
@@ -99,7 +98,7 @@ fn choose(
     requires { ⌜ Working (now order) (now cost) (now lo) (now hi) (now heads) (now totals) (now w) ⌝ }
     requires { ⌜ m < length (now order) ⌝ }
     requires { ⌜ Begun (now order) (now cost) (now lo) (now hi) (now w) m ⌝ }
-    ensures { λ q. ⌜ Chosen (At (boardOf (now (order .entry)) (now (cost .entry)) (now (lo .entry)) (now (hi .entry))) (length (now (order .entry))) (now (order .entry)) (portOf (now (w .entry))) m) from q ⌝ }
+    ensures { λ q. ⌜ Chosen (LocallyBest (now (order .entry)) (now (cost .entry)) (now (lo .entry)) (now (hi .entry)) (now (w .entry)) m) from q ⌝ }
 {
     let j = order[m] as usize;
     let a = low(order, w, lo[j] as usize, m);
@@ -131,8 +130,8 @@ fn fill_on(
     let mut m = from;
     while m < order.len() {
         let j = order[m] as usize;
-        let q = choose(heads, totals, order, cost, lo, hi, out, m, 0);
-        out[j] = (q % 65536) as u16;
+        let port = choose(heads, totals, order, cost, lo, hi, out, m, 0);
+        out[j] = (port % 65536) as u16;
         m += 1;
     }
 }
@@ -188,7 +187,7 @@ pub fn is_best(order: &[u8], cost: &[u32], lo: &[u8], hi: &[u8], w: &[u16], leas
     requires { ⌜ Proper (now order) (now cost) (now lo) (now hi) ⌝ }
     requires { ⌜ length (now order) ≤ length (now w) ⌝ }
     requires { ⌜ Untouching (now order) (now cost) (now lo) (now hi) (now w) ⌝ }
-    requires { ⌜ least ≡ coded (best (boardOf (now order) (now cost) (now lo) (now hi)) (now order) 0 (length (now order))) ⌝ }
+    requires { ⌜ least ≡ leastOf (now order) (now cost) (now lo) (now hi) ⌝ }
     ensures { λ r. ⌜ Told r (BestLayout (now (order .entry)) (now (cost .entry)) (now (lo .entry)) (now (hi .entry)) (now (w .entry))) ⌝ }
 {
     total_of(order, cost, w) == least
@@ -226,46 +225,4 @@ pub fn next(order: &[u8], cost: &[u32], lo: &[u8], hi: &[u8], out: &mut [u16]) -
     } else {
         Answer::NotBest
     }
-}
-
-// Next's answer as one number.
-pub fn number(a: Answer) -> u64
-    ensures { λ r. ⌜ r ≡ code a ⌝ }
-{
-    match a {
-        Answer::Total(t) => t,
-        Answer::End => 18446744073709551615,
-        Answer::NotBest => 18446744073709551614,
-    }
-}
-
-#[no_mangle]
-pub extern "C" fn steps_first(
-    order: &[u8],
-    cost: &[u32],
-    lo: &[u8],
-    hi: &[u8],
-    out: &mut [u16],
-) -> u64
-    requires { ⌜ Proper (now order) (now cost) (now lo) (now hi) ⌝ }
-    requires { ⌜ length (now order) ≤ length (now out) ⌝ }
-    ensures { λ t. ⌜ FirstIs (now (order .entry)) (now (cost .entry)) (now (lo .entry)) (now (hi .entry)) (now (out .entry)) (now (out .exit)) t ⌝ }
-{
-    first(order, cost, lo, hi, out)
-}
-
-#[no_mangle]
-pub extern "C" fn steps_next(
-    order: &[u8],
-    cost: &[u32],
-    lo: &[u8],
-    hi: &[u8],
-    out: &mut [u16],
-) -> u64
-    requires { ⌜ Proper (now order) (now cost) (now lo) (now hi) ⌝ }
-    requires { ⌜ length (now order) ≤ length (now out) ⌝ }
-    requires { ⌜ Untouching (now order) (now cost) (now lo) (now hi) (now out) ⌝ }
-    ensures { λ r. ⌜ NextReply (now (order .entry)) (now (cost .entry)) (now (lo .entry)) (now (hi .entry)) (now (out .entry)) (now (out .exit)) r ⌝ }
-{
-    number(next(order, cost, lo, hi, out))
 }

@@ -13,7 +13,7 @@ use lib.ListN.{length, drop, getD}
 use lib.Seq.{drop-cons}
 use borrow.Author.Tests.{ltb-true, ltb-false, eqb-true, eqb-false}
 use Rattle.table.specs.Strip.{Sides, fits, bit, count, parted, best, local}
-use Rattle.table.specs.Cell.{sides, figures, choice, cornerOf, place, coded, Pads, Sizes, Strip, Head, Valued, Cell, Parts, Port, sumAt, portTotal}
+use Rattle.table.specs.Cell.{sides, figures, choice, place, coded, Pads, Sizes, Strip, Head, Valued, Cell, Parts, Port, sumAt, portTotal}
 use Rattle.table.proofs.Counts.{le-or-lt, lt-or-le, bit-le, bit-true, count-step, parted-least, parts-most, parted-less, count-drop}
 use Rattle.table.proofs.Corners.{corner-top}
 use Rattle.table.proofs.Masks.{plus, best-in, local-parted, local-blocked}
@@ -59,7 +59,8 @@ module _ (S : Sides) (C : ℕ → ℕ → Least) (order : List ℕ) (a b h v : �
 
 -- ---- one port of a strip, from the cells of the two parts that it makes
 
-module _ (S : Sides) (C : ℕ → ℕ → Least) (level : (j : ℕ) → S .lo j ≤ S .hi j) (j : ℕ) (rest : List ℕ) (a b q : ℕ) (aq : a ≤ q) (qb : q < b) (full : count S a b rest + 1 ≡ b - a) where
+module _ (S : Sides) (C : ℕ → ℕ → Least) (level : (j : ℕ) → S .lo j ≤ S .hi j) (j : ℕ) (rest : List ℕ) (a b q : ℕ) (aq : a ≤ q) (qb : q < b)
+    (full : count S a b rest + 1 ≡ b - a) where
   -- too few pads below q: too many above
   short-below : count S a q rest < q - a → local S C j rest a b q ≡ none
   short-below h = go (parted S a b q rest) refl
@@ -127,8 +128,10 @@ module _ (S : Sides) (C : ℕ → ℕ → Least) (level : (j : ℕ) → S .lo j 
     -- the sums stay far below the largest u64
     pub small-parts : (x ≤ 2 ^ 38) × (y ≤ 2 ^ 38)
     small-parts =
-        let p : x ≤ count S a q (drop (r + 1) order) * 2 ^ 32 = subst (AtMost (count S a q (drop (r + 1) order) * 2 ^ 32)) is-below (most-best S C level cheap (drop (r + 1) order) a q) in
-        let s : y ≤ count S (q + 1) b (drop (r + 1) order) * 2 ^ 32 = subst (AtMost (count S (q + 1) b (drop (r + 1) order) * 2 ^ 32)) is-above (most-best S C level cheap (drop (r + 1) order) (q + 1) b) in
+        let p : x ≤ count S a q (drop (r + 1) order) * 2 ^ 32 = subst (AtMost (count S a q (drop (r + 1) order) * 2 ^ 32)) is-below
+        (most-best S C level cheap (drop (r + 1) order) a q) in
+        let s : y ≤ count S (q + 1) b (drop (r + 1) order) * 2 ^ 32 = subst (AtMost (count S (q + 1) b (drop (r + 1) order) * 2 ^ 32)) is-above
+        (most-best S C level cheap (drop (r + 1) order) (q + 1) b) in
         let c = counts .0 in let d = counts .1 in
         (omega arith, omega arith)
 
@@ -166,7 +169,8 @@ module _ {hs ts order cs lo hi : List ℕ} (P : Pads order lo hi) (Z : Sizes hs 
   b64 : b ≤ 64
   b64 = omega (arith, T .ports, P .few)
 
-  answer : (x y : Bool) → ltb (r + 1) h-below ≡ x → ltb (r + 1) h-above ≡ y → cond (x && y) (sumAt ts cs row q (place a q) (place (q + 1) b)) 18446744073709551615 ≡ coded (choice order cs lo hi r a b q)
+  answer : (x y : Bool) → ltb (r + 1) h-below ≡ x → ltb (r + 1) h-above ≡ y
+      → cond (x && y) (sumAt ts cs row q (place a q) (place (q + 1) b)) 18446744073709551615 ≡ coded (choice order cs lo hi r a b q)
   answer true true u v =
       sym (ap coded (some-parts (sides lo hi) (figures cs (length order)) (P .level) (figures-cheap Z) order r a b q (T .listed) b64 aq qb (T .rest)
       h-below x-below (D q aq qb .0) h-above x-above (D q aq qb .1) (getD order r 0) (ltb-true (r + 1) h-below u) (ltb-true (r + 1) h-above v)))
@@ -193,12 +197,13 @@ module _ {hs ts order cs lo hi : List ℕ} (P : Pads order lo hi) (Z : Sizes hs 
           h-below x-below (D q aq qb .0) h-above x-above (D q aq qb .1) (getD order r 0) u v);
     }
 
-module _ {hs ts order cs lo hi : List ℕ} (P : Pads order lo hi) (Z : Sizes hs ts order cs) (r a b : ℕ) (T : Strip (sides lo hi) order a b r) where
-  -- the least so far, and one port more
-  pub choice-step : (q : ℕ) → a ≤ q → q < b → min (coded (least (choice order cs lo hi r a b) a (q - a))) (coded (choice order cs lo hi r a b q)) ≡ coded (least (choice order cs lo hi r a b) a (q + 1 - a))
-  choice-step q aq qb =
-      coded-least ((1 + count (sides lo hi) a b (drop (r + 1) order)) * 2 ^ 32) (choice order cs lo hi r a b) a q (omega (arith, T .rest, T .ports, P .few)) aq
-      (λ i u v. local-most (sides lo hi) (figures cs (length order)) (P .level) (figures-cheap Z) (getD order r 0) (drop (r + 1) order) a b i u (omega arith))
+    -- the least so far, and one port more
+    pub least-step : (v w : ℕ) → v ≡ coded (least (choice order cs lo hi r a b) a (q - a)) → w ≡ min v (portTotal hs ts cs (r + 1) row q below above)
+        → w ≡ coded (least (choice order cs lo hi r a b) a (q + 1 - a))
+    least-step v w e f =
+        f ∙ ap₂ min e port-right
+        ∙ coded-least ((1 + count (sides lo hi) a b (drop (r + 1) order)) * 2 ^ 32) (choice order cs lo hi r a b) a q (omega (arith, T .rest, T .ports, P .few)) aq
+        (λ i u v. local-most (sides lo hi) (figures cs (length order)) (P .level) (figures-cheap Z) (getD order r 0) (drop (r + 1) order) a b i u (omega arith))
 
 -- ---- a strip's cell
 
@@ -268,7 +273,8 @@ valued-cell S C level cheap order a b h v b64 is = go (eqb v 1844674407370955161
         let z : v ≡ 18446744073709551615 = eqb-true v 18446744073709551615 e in
         record {
           top = omega arith;
-          past = λ k u kn c. coded-none (count S a b (drop k order) * 2 ^ 32) (best S C (drop k order) a b) (most-best S C level cheap (drop k order) a b) (omega arith) (sym (same k kn c) ∙ z);
+          past = λ k u kn c. coded-none (count S a b (drop k order) * 2 ^ 32) (best S C (drop k order) a b) (most-best S C level cheap (drop k order) a b) (omega arith)
+              (sym (same k kn c) ∙ z);
           full = λ s es. absurd (omega arith);
           value = λ s es. absurd (omega arith);
           nothing = λ u. z;

@@ -93,7 +93,8 @@ bit-true false e = absurd (omega arith)
 -- ---- lists
 
 -- one pad more
-pub count-step : (S : Sides) (order : List ℕ) (a b k : ℕ) → k < length order → count S a b (drop k order) ≡ bit (fits S a b (getD order k 0)) + count S a b (drop (k + 1) order)
+pub count-step : (S : Sides) (order : List ℕ) (a b k : ℕ) → k < length order
+    → count S a b (drop k order) ≡ bit (fits S a b (getD order k 0)) + count S a b (drop (k + 1) order)
 unfolding count
 count-step S order a b k h = ap (count S a b) (drop-cons order k 0 h) ∙ ap (λ (i : ℕ). bit (fits S a b (getD order k 0)) + count S a b (drop i order)) (sym (add-one k))
 

@@ -7,15 +7,17 @@ use native.Mathlib.Omega.{arith}
 use native.Mathlib.Numerals.{add-one}
 use lib.ListN.{length, getD, drop}
 use lib.Seq.{drop-cons}
+use lib.Dec.{eqb}
+use borrow.Author.Tests.{eqb-true, eqb-false}
 use Rattle.strips.specs.Least.{Least, some}
 use Rattle.strips.specs.Lists.{keep, keep-yes, keep-no}
 use Rattle.strips.specs.Board as strip
 use Rattle.strips.specs.Prefix.{lies}
 use Rattle.table.specs.Strip.{Sides, spans, fits, bit, count, best, local}
-use Rattle.table.specs.Cell.{sides, figures, boardOf, choice, place, coded, Pads, Strip, Ready, Table, Leads, Parts}
+use Rattle.table.specs.Cell.{sides, figures, boardOf, choice, place, coded, Pads, Strip, Ready, Table, Leads, Parts, portTotal}
 use Rattle.table.proofs.Counts.{spans-by, count-step}
 use Rattle.table.proofs.Totals.{AtMost, most-best, coded-some}
-use Rattle.table.proofs.Cells.{cell-right, figures-cheap}
+use Rattle.table.proofs.Cells.{cell-right, figures-cheap, port-right}
 
 -- the pads that count are those that are kept
 count-keep : (S : Sides) (a b : ℕ) (js : List ℕ) → count S a b js ≡ length (keep (fits S a b) js)
@@ -67,7 +69,8 @@ module _ {hs ts order cs lo hi : List ℕ} (P : Pads order lo hi) (T : Table ord
   whole-is =
       ap (λ (l : List ℕ). strip.best (boardOf order cs lo hi) (keep (fits S a b) l) a b)
       (drop-cons order r 0 (O .listed) ∙ ap (λ (k : ℕ). getD order r 0 ∷ drop k order) (sym (add-one r)))
-      ∙ ap (λ (l : List ℕ). strip.best (boardOf order cs lo hi) l a b) (keep-yes (fits S a b) (getD order r 0) rest here ∙ ap (λ (l : List ℕ). getD order r 0 ∷ l) same-keep)
+      ∙ ap (λ (l : List ℕ). strip.best (boardOf order cs lo hi) l a b)
+      (keep-yes (fits S a b) (getD order r 0) rest here ∙ ap (λ (l : List ℕ). getD order r 0 ∷ l) same-keep)
 
   choice-is : (q : ℕ) → choice order cs lo hi r a b q ≡ strip.local (boardOf order cs lo hi) (getD order r 0) (keep (lies (boardOf order cs lo hi) a b) rest) a b q
   unfolding local spans
@@ -84,7 +87,7 @@ module _ {hs ts order cs lo hi : List ℕ} (P : Pads order lo hi) (T : Table ord
       omega arith
 
   module _ (has : getD ts (place a b) 0 ≡ 18446744073709551615 → ⊥) (q x : ℕ) (is : x ≡ coded (choice order cs lo hi r a b q)) where
-    pub leads-yes : a ≤ q → q < b → x ≡ getD ts (place a b) 0 → Leads (boardOf order cs lo hi) order r a b q
+    leads-yes : a ≤ q → q < b → x ≡ getD ts (place a b) 0 → Leads (boardOf order cs lo hi) order r a b q
     leads-yes low high e = record {
       low = low;
       high = high;
@@ -93,5 +96,21 @@ module _ {hs ts order cs lo hi : List ℕ} (P : Pads order lo hi) (T : Table ord
       whole = sym whole-is ∙ coded-some (best S C (drop r order) a b) (λ n. has (table-best ∙ n)) ∙ ap {B = Least} some (sym table-best ∙ sym e);
     }
 
-    pub leads-no : (x ≡ getD ts (place a b) 0 → ⊥) → Leads (boardOf order cs lo hi) order r a b q → ⊥
+    leads-no : (x ≡ getD ts (place a b) 0 → ⊥) → Leads (boardOf order cs lo hi) order r a b q → ⊥
     leads-no ne L = ne (is ∙ ap coded (choice-is q ∙ L .here) ∙ sym (ap coded (whole-is ∙ L .whole)) ∙ sym table-best)
+
+  -- what `attains` answers of a port says whether it leads
+  module _ (q : ℕ) (aq : a ≤ q) (qb : q < b) (below above least : ℕ) (eb : below ≡ place a q) (ea : above ≡ place (q + 1) b)
+      (el : least ≡ getD ts (place a b) 0) (has : least ≡ 18446744073709551615 → ⊥)
+      (x : Bool) (is : x ≡ eqb (portTotal hs ts cs (r + 1) (getD order r 0 * length order) q below above) least) where
+    abbrev sum : ℕ
+    sum = portTotal hs ts cs (r + 1) (getD order r 0 * length order) q below above
+
+    right : sum ≡ coded (choice order cs lo hi r a b q)
+    right = port-right P (T .sizes) r a b ready-strip table-parts q aq qb below above eb ea
+
+    pub attains-yes : x ≡ true → Leads (boardOf order cs lo hi) order r a b q
+    attains-yes e = leads-yes (λ n. has (el ∙ n)) q sum right aq qb (eqb-true sum least (sym is ∙ e) ∙ el)
+
+    pub attains-no : x ≡ false → Leads (boardOf order cs lo hi) order r a b q → ⊥
+    attains-no e = leads-no (λ n. has (el ∙ n)) q sum right (λ n. eqb-false sum least (sym is ∙ e) (n ∙ sym el))

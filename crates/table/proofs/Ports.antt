@@ -1,6 +1,6 @@
 -- Laws of one port's total, as the code reads it.
 use mathlib.Core.Path.{_≡_, refl, sym, ap, _∙_}
-use mathlib.Core.Bool.{Bool, true, false, cond, _&&_}
+use mathlib.Core.Bool.{true, false}
 use mathlib.Core.List.{List}
 use Prim.Native.Nat.{ℕ, _+_, _*_, _^_, _≤_, _<_, min}
 use native.Mathlib.Omega.{arith}
@@ -27,7 +27,8 @@ module _ {hs ts cs : List ℕ} {past row q below above : ℕ} (P : Port hs ts cs
   port-shut : opens hs past below above ≡ false → portTotal hs ts cs past row q below above ≡ 18446744073709551615
   port-shut e = rw e refl
 
-  pub port-smaller : (r v s : ℕ) → opens hs past below above ≡ true → r ≡ min v s → s ≡ sumAt ts cs row q below above → r ≡ min v (portTotal hs ts cs past row q below above)
+  pub port-smaller : (r v s : ℕ) → opens hs past below above ≡ true → r ≡ min v s → s ≡ sumAt ts cs row q below above
+      → r ≡ min v (portTotal hs ts cs past row q below above)
   port-smaller r v s e m t = m ∙ ap (min v) (t ∙ sym (port-open e))
 
   pub port-same : (v : ℕ) → v ≤ 18446744073709551615 → opens hs past below above ≡ false → v ≡ min v (portTotal hs ts cs past row q below above)

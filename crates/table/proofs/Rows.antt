@@ -4,7 +4,7 @@ use mathlib.Core.Logic.{⊎-elim, _≢_}
 use mathlib.Core.Bool.{Bool}
 use Rattle.strips.specs.Least.{Least}
 use mathlib.Core.List.{List, [], _∷_}
-use Prim.Native.Nat.{ℕ, _+_, _*_, _≤_, _<_, zero-le}
+use Prim.Native.Nat.{ℕ, _+_, _≤_, _<_, zero-le}
 use native.Mathlib.Omega.{arith}
 use lib.ListN.{length, getD, set}
 use lib.Seq.{getD-set-same, getD-set-other}
@@ -73,5 +73,7 @@ whole-best {order} {cs} {lo} {hi} {hs} {ts} P T =
     let n = length order in
     let e : cornerOf n + 0 ≡ cornerOf n = omega arith in
     ap (λ (k : ℕ). getD ts k 0) (sym e)
-    ∙ cell-right (sides lo hi) (figures cs n) order 0 n (getD hs (place 0 n) 0) (getD ts (place 0 n) 0) (T .rows 0 n zero-le zero-le (omega arith)) 0 zero-le (whole-count (sides lo hi) n (P .top) order ∙ omega arith)
-    ∙ ap (λ (l : List ℕ). coded (strip.best (boardOf order cs lo hi) l 0 n)) (keep-same (fits (sides lo hi) 0 n) order (λ j m. spans-by 0 n (getD lo j 0) (getD hi j 0) zero-le (P .top j)))
+    ∙ cell-right (sides lo hi) (figures cs n) order 0 n (getD hs (place 0 n) 0) (getD ts (place 0 n) 0) (T .rows 0 n zero-le zero-le (omega arith)) 0 zero-le
+    (whole-count (sides lo hi) n (P .top) order ∙ omega arith)
+    ∙ ap (λ (l : List ℕ). coded (strip.best (boardOf order cs lo hi) l 0 n))
+    (keep-same (fits (sides lo hi) 0 n) order (λ j m. spans-by 0 n (getD lo j 0) (getD hi j 0) zero-le (P .top j)))

@@ -34,7 +34,8 @@ module _ (S : Sides) (order : List ℕ) (a b : ℕ) where
 
   pub scan-some : (k m : ℕ) → m < b - a → b - a ≤ count S a b order → Scan S order a b k m → 0 < k
   scan-some k m l h s =
-      ⊎-elim (λ (u : k ≤ 0). absurd (let e : k ≡ 0 = omega arith in let c = ap (λ (i : ℕ). count S a b (drop i order)) e in let d = s .counted in omega arith)) (λ (u : 0 < k). u) (le-or-lt k 0)
+      ⊎-elim (λ (u : k ≤ 0). absurd (let e : k ≡ 0 = omega arith in let c = ap (λ (i : ℕ). count S a b (drop i order)) e in let d = s .counted in
+      omega arith)) (λ (u : 0 < k). u) (le-or-lt k 0)
 
   pub scan-step : (k m : ℕ) → 0 < k → m < b - a → Scan S order a b k m → Scan S order a b (k - 1) (m + bit (fits S a b (getD order (k - 1) 0)))
   scan-step k m nz more s =

@@ -1,7 +1,6 @@
 -- Laws of the numbers kept from one row to the next: the pads that lie above exactly a ports come in, one place after the other.
 use mathlib.Core.Path.{_≡_, refl, sym, ap, _∙_}
 use mathlib.Core.Logic.{⊎-elim}
-use mathlib.Core.Bool.{Bool, true, false}
 use mathlib.Core.List.{List, [], _∷_}
 use Prim.Native.Nat.{ℕ, _+_, _≤_, _<_, zero-le}
 use native.Mathlib.Omega.{arith}
@@ -12,8 +11,8 @@ use lib.Seq.{getD-set-same, getD-set-other}
 use borrow.Author.Tests.{le-leb, lt-leb}
 use Rattle.table.specs.Strip.{Sides, spans, fits, bit, count}
 use Rattle.table.specs.Cell.{Tally, Tallies, Entering, EnteringAll, Rooms}
-use Rattle.table.proofs.Counts.{le-or-lt, spans-lo, spans-by, spans-not-lo, spans-not-hi, count-step, bit-le}
-use Rattle.table.proofs.Scan.{count-less, count-end}
+use Rattle.table.proofs.Counts.{le-or-lt, spans-by, spans-not-lo, spans-not-hi, count-step, bit-le}
+use Rattle.table.proofs.Scan.{count-end}
 
 -- ---- one pad, in the strips from a on and from a + 1 on
 
@@ -94,7 +93,8 @@ module _ (S : Sides) (order : List ℕ) (a b k : ℕ) where
     entering-small : (m : ℕ) → Entering S order a i b k m → m ≤ length order
     entering-small m E =
         ⊎-elim
-        (λ (v : k ≤ i). let old = E .after v in let f = count-fewer S a b (drop i order) in let c = count-most S a b (drop k order) in let l = length-drop k order in omega arith)
+        (λ (v : k ≤ i). let old = E .after v in let f = count-fewer S a b (drop i order) in let c = count-most S a b (drop k order) in let l = length-drop k order in
+        omega arith)
         (λ (v : i < k). let old = E .before (omega arith) in let c = count-most S (a + 1) b (drop k order) in let l = length-drop k order in omega arith)
         (le-or-lt k i)
 
@@ -116,7 +116,8 @@ module _ (S : Sides) (order : List ℕ) (a : ℕ) where
       record { placed = t .0 .placed; seen = entering-end S order a b (getD at b 0) (getD seen b 0) (t .0); all = entering-end S order a b 0 (getD all b 0) (t .1) }
 
   -- the pad at place i lies above another number of ports
-  pub enter-other : (at seen all : List ℕ) (i : ℕ) → i < length order → (S .lo (getD order i 0) ≡ a → ⊥) → EnteringAll S order at seen all a i → EnteringAll S order at seen all a (i + 1)
+  pub enter-other : (at seen all : List ℕ) (i : ℕ) → i < length order → (S .lo (getD order i 0) ≡ a → ⊥) → EnteringAll S order at seen all a i
+      → EnteringAll S order at seen all a (i + 1)
   enter-other at seen all i h ne E b l =
       let e = bits-other a b (S .lo (getD order i 0)) (S .hi (getD order i 0)) ne in (
         entering-step S order a b (getD at b 0) i h (getD seen b 0) (getD seen b 0) (λ u. omega arith) (λ u. refl) (E b l .0),
@@ -137,7 +138,8 @@ module _ (S : Sides) (order : List ℕ) (a : ℕ) where
     pub marking-end : (at seen all : List ℕ) (b : ℕ) → length order < b → Marking S order at seen all a i b → EnteringAll S order at seen all a (i + 1)
     marking-end at seen all b h M b′ l = M .done b′ l (omega arith)
 
-    pub marking-small : (at seen all : List ℕ) (b : ℕ) → b ≤ length order → Marking S order at seen all a i b → (getD seen b 0 ≤ length order) × (getD all b 0 ≤ length order)
+    pub marking-small : (at seen all : List ℕ) (b : ℕ) → b ≤ length order → Marking S order at seen all a i b
+        → (getD seen b 0 ≤ length order) × (getD all b 0 ≤ length order)
     marking-small at seen all b h M =
         let e = M .waiting b h (omega arith) in
         (entering-small S order a b (getD at b 0) i inside (getD seen b 0) (e .0), entering-small S order a b 0 i inside (getD all b 0) (e .1))
@@ -159,8 +161,11 @@ module _ (S : Sides) (order : List ℕ) (a : ℕ) where
     marking-step at seen all b s t ls la few bn hb es et M = record {
       done = λ b′ l u. ⊎-elim
           (λ (v : b ≤ b′). let e : b′ ≡ b = omega arith in
-          rw e (rw (getD-set-same seen b s 0 (omega arith), getD-set-same all b t 0 (omega arith))
-          (rw es (more-seen b (getD at b 0) (getD seen b 0) hb (M .waiting b bn (omega arith) .0)), rw et (more-all b (getD all b 0) hb (M .waiting b bn (omega arith) .1)))))
+          rw e (rw (getD-set-same seen b s 0 (omega arith), getD-set-same all b t 0 (omega arith)) (
+            rw es (more-seen b (getD at b 0) (getD seen b 0) hb (M .waiting b bn (omega arith) .0)),
+            rw et
+                (more-all b (getD all b 0) hb (M .waiting b bn (omega arith) .1)),
+          )))
           (λ (v : b′ < b). rw (getD-set-other seen b b′ s 0 (λ e. omega arith), getD-set-other all b b′ t 0 (λ e. omega arith)) (M .done b′ l v))
           (le-or-lt b b′);
       waiting = λ b′ l u. rw (getD-set-other seen b b′ s 0 (λ e. omega arith), getD-set-other all b b′ t 0 (λ e. omega arith)) (M .waiting b′ l (omega arith));
@@ -169,18 +174,21 @@ module _ (S : Sides) (order : List ℕ) (a : ℕ) where
 -- ---- between the rows
 
 -- before the first row no pad is in
-pub tallies-none : (S : Sides) (order : List ℕ) (a : ℕ) → ((j : ℕ) → S .lo j < a) → length order ≤ 64 → Tallies S order (replicate {A = ℕ} 65 0) (replicate {A = ℕ} 65 0) (replicate {A = ℕ} 65 0) a
+pub tallies-none : (S : Sides) (order : List ℕ) (a : ℕ) → ((j : ℕ) → S .lo j < a) → length order ≤ 64
+    → Tallies S order (replicate {A = ℕ} 65 0) (replicate {A = ℕ} 65 0) (replicate {A = ℕ} 65 0) a
 tallies-none S order a h few b l =
     rw (getD-replicate {A = ℕ} 65 b 0 0 (omega arith)) (record { placed = zero-le; seen = sym (count-none S a b h order); all = sym (count-none S a b h order) })
 
 -- another place for the strip a .. b - 1, with its number of pads
-pub tallies-set : (S : Sides) (order at seen all : List ℕ) (a b k m : ℕ) → Rooms at seen all → length order ≤ 64 → b ≤ length order → k ≤ length order → m ≡ count S a b (drop k order)
+pub tallies-set : (S : Sides) (order at seen all : List ℕ) (a b k m : ℕ) → Rooms at seen all → length order ≤ 64 → b ≤ length order → k ≤ length order
+    → m ≡ count S a b (drop k order)
     → Tallies S order at seen all a → Tallies S order (set at b k) (set seen b m) all a
 tallies-set S order at seen all a b k m R few bn kn e T b′ l =
     ⊎-elim
     (λ (v : b ≤ b′). ⊎-elim
     (λ (w : b′ ≤ b). let q : b′ ≡ b = omega arith in
-    rw q (rw (getD-set-same at b k 0 (omega (arith, R .places)), getD-set-same seen b m 0 (omega (arith, R .counts))) (record { placed = kn; seen = e; all = T b bn .all })))
+    rw q (rw (getD-set-same at b k 0 (omega (arith, R .places)), getD-set-same seen b m 0 (omega (arith, R .counts)))
+    (record { placed = kn; seen = e; all = T b bn .all })))
     (λ (w : b < b′). other (λ x. omega arith)) (le-or-lt b′ b))
     (λ (v : b′ < b). other (λ x. omega arith))
     (le-or-lt b b′)

@@ -8,6 +8,7 @@ use Prim.Native.Nat.{ℕ, zero, suc, _+_, _-_, _*_, _^_, _≤_, _<_}
 use lib.ListN.{length, getD, drop}
 use Rattle.strips.specs.Lists.{keep}
 use Rattle.strips.specs.Board.{Board, LocalBest}
+use Rattle.strips.specs.Board as strip
 use Rattle.strips.specs.Prefix.{lies, Lies}
 use Rattle.table.specs.Strip.{Sides, count, board, best, local}
 
@@ -22,14 +23,18 @@ figures cs n j q = some (getD cs (j * n + q) 0)
 abbrev pub boardOf : List ℕ → List ℕ → List ℕ → List ℕ → Board
 boardOf order cs lo hi = board (sides lo hi) (figures cs (length order))
 
--- `local` of the pad at place r of order and the pads after it, from lists
-abbrev pub choice : List ℕ → List ℕ → List ℕ → List ℕ → ℕ → ℕ → ℕ → ℕ → Least
-choice order cs lo hi r a b = local (sides lo hi) (figures cs (length order)) (getD order r 0) (drop (r + 1) order) a b
-
 -- a total as the code holds it: the largest u64 stands for none
 abbrev pub coded : Least → ℕ
 coded none = 18446744073709551615
 coded (some v) = v
+
+-- the least total of all pads on all ports, as the code holds it
+abbrev pub leastOf : List ℕ → List ℕ → List ℕ → List ℕ → ℕ
+leastOf order cs lo hi = coded (strip.best (boardOf order cs lo hi) order 0 (length order))
+
+-- `local` of the pad at place r of order and the pads after it, from lists
+abbrev pub choice : List ℕ → List ℕ → List ℕ → List ℕ → ℕ → ℕ → ℕ → ℕ → Least
+choice order cs lo hi r a b = local (sides lo hi) (figures cs (length order)) (getD order r 0) (drop (r + 1) order) a b
 
 -- n pads, their numbers in order right to left, and each one's sides
 pub record Pads (order lo hi : List ℕ) : Type 0 where
@@ -83,7 +88,8 @@ cornerOf (suc b) = cornerOf b + suc b
 abbrev pub place : ℕ → ℕ → ℕ
 place a b = cornerOf b + a
 
--- what a port's total is read from: the places of the strips below and above it, `past` the least head that they may not have, and the start of the pad's row of figures
+-- what a port's total is read from: the places of the strips below and above it, `past` the least head that they may not have, and the start of the pad's row of
+-- figures
 pub record Port (hs ts cs : List ℕ) (past row q below above : ℕ) : Type 0 where
   pub heads : length hs ≡ 2145
   pub totals : length ts ≡ 2145
@@ -139,11 +145,19 @@ pub record Top (S : Sides) (order : List ℕ) (a b k : ℕ) : Type 0 where
 abbrev pub Rows : Sides → (ℕ → ℕ → Least) → List ℕ → List ℕ → List ℕ → ℕ → Type 0
 Rows S C order hs ts a = (a′ b′ : ℕ) → a ≤ a′ → a′ ≤ b′ → b′ ≤ length order → Cell S C order a′ b′ (getD hs (place a′ b′) 0) (getD ts (place a′ b′) 0)
 
+-- the same of the lists that the code has
+abbrev pub RowsOf : List ℕ → List ℕ → List ℕ → List ℕ → List ℕ → List ℕ → ℕ → Type 0
+RowsOf order cs lo hi hs ts a = Rows (sides lo hi) (figures cs (length order)) order hs ts a
+
 -- the strips that a port q of a .. b - 1 leaves below and above it are right
 abbrev pub Parts : Sides → (ℕ → ℕ → Least) → List ℕ → List ℕ → List ℕ → ℕ → ℕ → Type 0
 Parts S C order hs ts a b =
     (q : ℕ) → a ≤ q → q < b
     → Cell S C order a q (getD hs (place a q) 0) (getD ts (place a q) 0) × Cell S C order (q + 1) b (getD hs (place (q + 1) b) 0) (getD ts (place (q + 1) b) 0)
+
+-- the same of the lists that the code has
+abbrev pub PartsOf : List ℕ → List ℕ → List ℕ → List ℕ → List ℕ → List ℕ → ℕ → ℕ → Type 0
+PartsOf order cs lo hi hs ts a b = Parts (sides lo hi) (figures cs (length order)) order hs ts a b
 
 -- the tables are right, for the pads `order` with the sides lo and hi and the figures cs
 pub record Table (order cs lo hi hs ts : List ℕ) : Type 0 where

@@ -9,9 +9,8 @@ ghost use Prim.Native.Nat.{ℕ, _+_, _-_, _*_, _^_, _≤_, _<_, min};
 ghost use lib.Dec.{leb, eqb};
 ghost use lib.ListN.{length, getD, drop};
 ghost use Rattle.strips.specs.Least.{least};
-ghost use Rattle.strips.specs.Board.{best};
 ghost use Rattle.table.specs.Strip.{spans, fits, bit, count};
-ghost use Rattle.table.specs.Cell.{sides, figures, boardOf, choice, coded, Pads, Sizes, Strip, Ready, Leads, NextPort, Head, Cell, Rows, Parts, Table};
+ghost use Rattle.table.specs.Cell.{sides, figures, boardOf, choice, coded, Pads, Sizes, Strip, Ready, Leads, NextPort, Head, RowsOf, PartsOf, Table, leastOf};
 ghost use Rattle.table.specs.Cell.{cornerOf, Port, opens, sumAt, portTotal, Tallies, EnteringAll, Rooms, Top, Valued};
 
 pub const NONE: u64 = 18446744073709551615;
@@ -99,7 +98,7 @@ fn enter(at: &[u8], seen: &mut [u8], all: &mut [u8], order: &[u8], lo: &[u8], hi
     }
 }
 
-// From place k, with m pads of the strip from there on, too few, back to the place with b - a.
+// From a place with `here` of the strip's pads from there on, too few, back to the place with b - a.
 fn back(order: &[u8], lo: &[u8], hi: &[u8], a: u8, b: u8, from: usize, here: u8) -> usize
     requires { ⌜ Pads (now order) (now lo) (now hi) ⌝ }
     requires { ⌜ (from ≤ length (now order)) × (here ≡ count (sides (now lo) (now hi)) a b (drop from (now order))) ⌝ }
@@ -116,7 +115,7 @@ fn back(order: &[u8], lo: &[u8], hi: &[u8], a: u8, b: u8, from: usize, here: u8)
     k
 }
 
-// From place k, with m pads of the strip from there on, enough, on to the last place with b - a.
+// From a place with `here` of the strip's pads from there on, enough, on to the last place with b - a.
 fn on(order: &[u8], lo: &[u8], hi: &[u8], a: u8, b: u8, from: usize, here: u8) -> usize
     requires { ⌜ Pads (now order) (now lo) (now hi) ⌝ }
     requires { ⌜ (from ≤ length (now order)) × (here ≡ count (sides (now lo) (now hi)) a b (drop from (now order))) ⌝ }
@@ -133,7 +132,7 @@ fn on(order: &[u8], lo: &[u8], hi: &[u8], a: u8, b: u8, from: usize, here: u8) -
     k
 }
 
-// The place of the strip's rightmost pad, from any place with its number of pads.
+// The place of the strip's rightmost pad, from any place with the number of its pads from there on.
 fn top(order: &[u8], lo: &[u8], hi: &[u8], a: u8, b: u8, from: usize, here: u8) -> usize
     requires { ⌜ Pads (now order) (now lo) (now hi) ⌝ }
     requires { ⌜ (from ≤ length (now order)) × (here ≡ count (sides (now lo) (now hi)) a b (drop from (now order))) ⌝ }
@@ -275,7 +274,7 @@ fn least_total(
     requires { ⌜ Pads (now order) (now lo) (now hi) ⌝ }
     requires { ⌜ Sizes (now heads) (now totals) (now order) (now cost) ⌝ }
     requires { ⌜ Strip (sides (now lo) (now hi)) (now order) a b r ⌝ }
-    requires { ⌜ Parts (sides (now lo) (now hi)) (figures (now cost) (length (now order))) (now order) (now heads) (now totals) a b ⌝ }
+    requires { ⌜ PartsOf (now order) (now cost) (now lo) (now hi) (now heads) (now totals) a b ⌝ }
     ensures { λ v. ⌜ v ≡ coded (least (choice (now (order .entry)) (now (cost .entry)) (now (lo .entry)) (now (hi .entry)) r a b) a (b - a)) ⌝ }
 {
     let row = order[r] as usize * order.len();
@@ -307,7 +306,7 @@ fn strip_total(
     requires { ⌜ Pads (now order) (now lo) (now hi) ⌝ }
     requires { ⌜ Sizes (now heads) (now totals) (now order) (now cost) ⌝ }
     requires { ⌜ (a ≤ b) × (b ≤ length (now order)) × Head (sides (now lo) (now hi)) (now order) a b h ⌝ }
-    requires { ⌜ Parts (sides (now lo) (now hi)) (figures (now cost) (length (now order))) (now order) (now heads) (now totals) a b ⌝ }
+    requires { ⌜ PartsOf (now order) (now cost) (now lo) (now hi) (now heads) (now totals) a b ⌝ }
     ensures { λ v. ⌜ Valued (sides (now (lo .entry)) (now (hi .entry))) (figures (now (cost .entry)) (length (now (order .entry)))) (now (order .entry)) a b h v ⌝ }
 {
     if h == 0 {
@@ -344,9 +343,9 @@ fn fill_row(
     requires { ⌜ Rooms (now at) (now seen) (now all) ⌝ }
     requires { ⌜ a ≤ length (now order) ⌝ }
     requires { ⌜ Tallies (sides (now lo) (now hi)) (now order) (now at) (now seen) (now all) a ⌝ }
-    requires { ⌜ Rows (sides (now lo) (now hi)) (figures (now cost) (length (now order))) (now order) (now heads) (now totals) (a + 1) ⌝ }
+    requires { ⌜ RowsOf (now order) (now cost) (now lo) (now hi) (now heads) (now totals) (a + 1) ⌝ }
     ensures { λ _. ⌜ Tallies (sides (now (lo .entry)) (now (hi .entry))) (now (order .entry)) (now (at .exit)) (now (seen .exit)) (now (all .entry)) a ⌝ }
-    ensures { λ _. ⌜ Rows (sides (now (lo .entry)) (now (hi .entry))) (figures (now (cost .entry)) (length (now (order .entry)))) (now (order .entry)) (now (heads .exit)) (now (totals .exit)) a ⌝ }
+    ensures { λ _. ⌜ RowsOf (now (order .entry)) (now (cost .entry)) (now (lo .entry)) (now (hi .entry)) (now (heads .exit)) (now (totals .exit)) a ⌝ }
 {
     let n = order.len();
     let mut b = a;
@@ -372,7 +371,7 @@ pub fn fill(
     requires { ⌜ Pads (now order) (now lo) (now hi) ⌝ }
     requires { ⌜ (length (now heads) ≡ 2145) × (length (now totals) ≡ 2145) × (length (now cost) ≡ length (now order) * length (now order)) ⌝ }
     ensures { λ _. ⌜ Table (now (order .entry)) (now (cost .entry)) (now (lo .entry)) (now (hi .entry)) (now (heads .exit)) (now (totals .exit)) ⌝ }
-    ensures { λ v. ⌜ v ≡ coded (best (boardOf (now (order .entry)) (now (cost .entry)) (now (lo .entry)) (now (hi .entry))) (now (order .entry)) 0 (length (now (order .entry)))) ⌝ }
+    ensures { λ v. ⌜ v ≡ leastOf (now (order .entry)) (now (cost .entry)) (now (lo .entry)) (now (hi .entry)) ⌝ }
 {
     let mut at = [0u8; 65];
     let mut seen = [0u8; 65];

@@ -20,7 +20,8 @@ shared-slice-read-j : tie.Need-shared-slice-read-j Inv-loop μ-loop
 shared-slice-read-j c = omega arith
 
 cast-j : tie.Need-cast-j Inv-loop μ-loop
-cast-j c = let s = c .before .before .before .before .before .before .before .before .before .before in omega (arith, s .pre .0 .proper .pads .listed (c .before .before .loop .m) (c .before .loop-test .taken), s .pre .0 .proper .pads .few)
+cast-j c = let s = c .before .before .before .before .before .before .before .before .before .before in
+    omega (arith, s .pre .0 .proper .pads .listed (c .before .before .loop .m) (c .before .loop-test .taken), s .pre .0 .proper .pads .few)
 
 choose-requires : tie.Need-choose-requires Inv-loop μ-loop
 choose-requires c κs =
@@ -31,10 +32,13 @@ cast-out : tie.Need-cast-out Inv-loop μ-loop
 cast-out c = search needs
 
 mul-out : tie.Need-mul-out Inv-loop μ-loop
-mul-out c = let s = c .before .before .before .before .before .before .before .before .before .before .before .before in let i = c .before .before .before .before in omega (arith, s .pre .0 .proper .pads .listed (i .loop .m) (c .before .before .before .loop-test .taken), s .pre .0 .proper .pads .few)
+mul-out c = let s = c .before .before .before .before .before .before .before .before .before .before .before .before in let i = c .before .before .before .before in
+    omega (arith, s .pre .0 .proper .pads .listed (i .loop .m) (c .before .before .before .loop-test .taken), s .pre .0 .proper .pads .few)
 
 slice-write-out : tie.Need-slice-write-out Inv-loop μ-loop
-slice-write-out c = let s = c .before .before .before .before .before .before .before .before .before .before .before .before in let i = c .before .before .before .before in places (working-with (i .loop .out) (s .pre .0) (i .loop .inv .kept .long)) (i .loop .m) (c .before .before .before .loop-test .taken)
+slice-write-out c = let s = c .before .before .before .before .before .before .before .before .before .before .before .before in
+    let i = c .before .before .before .before in places (working-with (i .loop .out) (s .pre .0) (i .loop .inv .kept .long)) (i .loop .m)
+    (c .before .before .before .loop-test .taken)
 
 add-m : tie.Need-add-m Inv-loop μ-loop
 add-m c = omega arith
@@ -45,13 +49,15 @@ loop-less c = omega arith
 loop-again : tie.Need-loop-again Inv-loop μ-loop
 loop-again c =
     let s = c .before .before .before .before .before .before .before .before .before .before .before .before in let i = c .before .before .before .before in
-    filling-more (s .args .from) (i .loop .m) (c .choose .result) (s .pre .0 .proper) (s .pre .0 .room) (i .loop .inv) (c .before .before .before .loop-test .taken) (c .choose .ensures)
+    filling-more (s .args .from) (i .loop .m) (c .choose .result) (s .pre .0 .proper) (s .pre .0 .room) (i .loop .inv) (c .before .before .before .loop-test .taken)
+    (c .choose .ensures)
 
 same-length : tie.Need-same-length Inv-loop μ-loop
 same-length c = c .before .loop .inv .kept .long
 
 returns : tie.Need-returns Inv-loop μ-loop
-returns c = let s = c .before .before .before .before .before .before .before .before .before in filling-done (s .args .from) (c .before .loop .m) (c .before .loop .inv) (c .loop-test .left)
+returns c = let s = c .before .before .before .before .before .before .before .before .before in
+    filling-done (s .args .from) (c .before .loop .m) (c .before .loop .inv) (c .loop-test .left)
 
 pub fill-on-spec : {M : Type 1} → statement M
 fill-on-spec =

@@ -44,13 +44,18 @@ loop-less c = omega arith
 
 loop-again : tie.Need-loop-again Inv-loop μ-loop
 loop-again c =
-    let s = c .before .before .before .before .before .before .before .before in let t = c .before .before .before .before .before .loop in
-    (omega arith, high-step (s .args .order .now) (s .args .w .now) (s .args .h) (t .b) (length (s .args .order .now)) (t .i) _ (omega (arith, s .pre .0)) (t .inv .1) (rw (c .before .wide .ensures .0) at (c .lowered .ensures)))
+    let s = c .before .before .before .before .before .before .before .before in let t = c .before .before .before .before .before .loop in (
+      omega arith,
+      high-step (s .args .order .now) (s .args .w .now) (s .args .h) (t .b) (length (s .args .order .now)) (t .i) _ (omega (arith, s .pre .0)) (t .inv .1)
+          (rw (c .before .wide .ensures .0) at (c .lowered .ensures)),
+    )
 
 returns : tie.Need-returns Inv-loop μ-loop
 returns c =
     let s = c .before .before .before .before in let t = c .before .loop in
-    let e : t .i ≡ s .args .m = omega arith in t .inv .1 ∙ ap (λ k. ceil (portOf (s .args .w .now)) (s .args .h) (take k (s .args .order .now)) (length (s .args .order .now))) e
+    let e : t .i ≡ s .args .m = omega arith in t .inv .1 ∙ ap (λ k. ceil (portOf (s .args .w .now)) (s .args .h) (take k (s .args .order .now))
+    (length (s .args .order .now))) e
 
 pub high-spec : {M : Type 1} → statement M
-high-spec = tie.close (tie.spec Inv-loop μ-loop loop-holds shared-slice-read-j cast-j mul-wide shared-slice-read-wide wide-requires lowered-requires add-i loop-less loop-again returns)
+high-spec = tie.close (tie.spec Inv-loop μ-loop loop-holds shared-slice-read-j cast-j mul-wide shared-slice-read-wide wide-requires lowered-requires add-i loop-less
+    loop-again returns)

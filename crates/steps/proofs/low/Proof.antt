@@ -44,8 +44,11 @@ loop-less c = omega arith
 
 loop-again : tie.Need-loop-again Inv-loop μ-loop
 loop-again c =
-    let s = c .before .before .before .before .before .before .before .before in let t = c .before .before .before .before .before .loop in
-    (omega arith, low-step (s .args .order .now) (s .args .w .now) (s .args .l) (t .a) (t .i) _ (omega (arith, s .pre .0)) (t .inv .1) (rw (c .before .wide .ensures .0) at (c .raised .ensures)))
+    let s = c .before .before .before .before .before .before .before .before in let t = c .before .before .before .before .before .loop in (
+      omega arith,
+      low-step (s .args .order .now) (s .args .w .now) (s .args .l) (t .a) (t .i) _ (omega (arith, s .pre .0)) (t .inv .1)
+          (rw (c .before .wide .ensures .0) at (c .raised .ensures)),
+    )
 
 returns : tie.Need-returns Inv-loop μ-loop
 returns c =
@@ -53,4 +56,5 @@ returns c =
     let e : t .i ≡ s .args .m = omega arith in t .inv .1 ∙ ap (λ k. floor (portOf (s .args .w .now)) (s .args .l) (take k (s .args .order .now)) 0) e
 
 pub low-spec : {M : Type 1} → statement M
-low-spec = tie.close (tie.spec Inv-loop μ-loop loop-holds shared-slice-read-j cast-j mul-wide shared-slice-read-wide wide-requires raised-requires add-i loop-less loop-again returns)
+low-spec = tie.close (tie.spec Inv-loop μ-loop loop-holds shared-slice-read-j cast-j mul-wide shared-slice-read-wide wide-requires raised-requires add-i loop-less
+    loop-again returns)

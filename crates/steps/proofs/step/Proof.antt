@@ -25,13 +25,16 @@ shared-slice-read-j : tie.Need-shared-slice-read-j Inv-loop μ-loop
 shared-slice-read-j c = let l = c .before .before .loop in let t : 0 < l .m = omega (arith, c .before .loop-test .taken) in omega (arith, l .inv .inside)
 
 cast-j : tie.Need-cast-j Inv-loop μ-loop
-cast-j c = let l = c .before .before .loop in let t : 0 < l .m = omega (arith, c .before .loop-test .taken) in let p = l .inv .working .proper .pads in omega (arith, p .listed (l .m - 1) (looking-inside (l .m) (l .inv) t), p .few)
+cast-j c = let l = c .before .before .loop in let t : 0 < l .m = omega (arith, c .before .loop-test .taken) in let p = l .inv .working .proper .pads in
+    omega (arith, p .listed (l .m - 1) (looking-inside (l .m) (l .inv) t), p .few)
 
 mul-wide : tie.Need-mul-wide Inv-loop μ-loop
-mul-wide c = let l = c .before .before .loop in let t : 0 < l .m = omega (arith, c .before .loop-test .taken) in let p = l .inv .working .proper .pads in omega (arith, p .listed (l .m - 1) (looking-inside (l .m) (l .inv) t), p .few)
+mul-wide c = let l = c .before .before .loop in let t : 0 < l .m = omega (arith, c .before .loop-test .taken) in let p = l .inv .working .proper .pads in
+    omega (arith, p .listed (l .m - 1) (looking-inside (l .m) (l .inv) t), p .few)
 
 slice-read-wide : tie.Need-slice-read-wide Inv-loop μ-loop
-slice-read-wide c = let l = c .before .before .before .loop in let t : 0 < l .m = omega (arith, c .before .before .loop-test .taken) in places (l .inv .working) (l .m - 1) (looking-inside (l .m) (l .inv) t)
+slice-read-wide c = let l = c .before .before .before .loop in let t : 0 < l .m = omega (arith, c .before .before .loop-test .taken) in
+    places (l .inv .working) (l .m - 1) (looking-inside (l .m) (l .inv) t)
 
 wide-requires : tie.Need-wide-requires Inv-loop μ-loop
 wide-requires c κs = tt
@@ -40,41 +43,62 @@ add-from : tie.Need-add-from Inv-loop μ-loop
 add-from c = omega (arith, c .wide .ensures .1)
 
 choose-requires : tie.Need-choose-requires Inv-loop μ-loop
-choose-requires c κs = let l = c .before .before .before .before .before .loop in let t : 0 < l .m = omega (arith, c .before .before .before .before .loop-test .taken) in (l .inv .working, (looking-inside (l .m) (l .inv) t, looking-begun (l .m) (l .inv) t))
+choose-requires c κs = let l = c .before .before .before .before .before .loop in
+    let t : 0 < l .m = omega (arith, c .before .before .before .before .loop-test .taken) in
+    (l .inv .working, (looking-inside (l .m) (l .inv) t, looking-begun (l .m) (l .inv) t))
 
 cast-out : tie.Need-cast-out Inv-loop μ-loop
 cast-out c = search needs
 
 mul-out : tie.Need-mul-out Inv-loop μ-loop
-mul-out c = let l = c .before .before .before .before .before .before .before .loop in let t : 0 < l .m = omega (arith, c .before .before .before .before .before .before .loop-test .taken) in let p = l .inv .working .proper .pads in omega (arith, p .listed (l .m - 1) (looking-inside (l .m) (l .inv) t), p .few)
+mul-out c = let l = c .before .before .before .before .before .before .before .loop in
+    let t : 0 < l .m = omega (arith, c .before .before .before .before .before .before .loop-test .taken) in let p = l .inv .working .proper .pads in
+    omega (arith, p .listed (l .m - 1) (looking-inside (l .m) (l .inv) t), p .few)
 
 slice-write-out : tie.Need-slice-write-out Inv-loop μ-loop
-slice-write-out c = let l = c .before .before .before .before .before .before .before .loop in let t : 0 < l .m = omega (arith, c .before .before .before .before .before .before .loop-test .taken) in places (l .inv .working) (l .m - 1) (looking-inside (l .m) (l .inv) t)
+slice-write-out c = let l = c .before .before .before .before .before .before .before .loop in
+    let t : 0 < l .m = omega (arith, c .before .before .before .before .before .before .loop-test .taken) in
+    places (l .inv .working) (l .m - 1) (looking-inside (l .m) (l .inv) t)
 
 add-fill-on : tie.Need-add-fill-on Inv-loop μ-loop
 add-fill-on c = omega arith
 
 fill-on-requires : tie.Need-fill-on-requires Inv-loop μ-loop
 fill-on-requires c κs =
-    let s = c .before .before .before .before .before .before .before .before .before .before .before .before .before .before .before .before in let l = c .before .before .before .before .before .before .before .before .loop in let t : 0 < l .m = omega (arith, c .before .before .before .before .before .before .before .loop-test .taken) in let q = c .before .before .choose in
-    (working-with _ (l .inv .working) (length-set (l .out) (getD (s .args .order .now) (l .m - 1) 0) (q .result % 65536)), (omega (arith, l .inv .inside), looking-filled (l .m) (l .inv) t (q .result) (rw (c .before .before .before .before .wide .ensures .0) at (q .ensures)) (c .before .if1 .taken)))
+    let s = c .before .before .before .before .before .before .before .before .before .before .before .before .before .before .before .before in
+    let l = c .before .before .before .before .before .before .before .before .loop in
+    let t : 0 < l .m = omega (arith, c .before .before .before .before .before .before .before .loop-test .taken) in let q = c .before .before .choose in (
+      working-with _ (l .inv .working) (length-set (l .out) (getD (s .args .order .now) (l .m - 1) 0) (q .result % 65536)),
+      (
+        omega (arith, l .inv .inside),
+        looking-filled (l .m) (l .inv) t (q .result) (rw (c .before .before .before .before .wide .ensures .0) at (q .ensures))
+            (c .before .if1 .taken),
+      ),
+    )
 
 same-length : tie.Need-same-length Inv-loop μ-loop
 same-length c =
-    let l = c .before .before .before .before .before .before .before .before .before .before .before .loop in let t : 0 < l .m = omega (arith, c .before .before .before .before .before .before .before .before .before .before .loop-test .taken) in let q = c .before .before .before .before .before .choose in
-    looking-found (l .m) (l .inv) t (q .result) (rw (c .before .before .before .before .before .before .before .wide .ensures .0) at (q .ensures)) (c .before .before .before .before .if1 .taken) _ (c .before .before .fill-on .ensures) .kept .long
+    let l = c .before .before .before .before .before .before .before .before .before .before .before .loop in
+    let t : 0 < l .m = omega (arith, c .before .before .before .before .before .before .before .before .before .before .loop-test .taken) in
+    let q = c .before .before .before .before .before .choose in
+    looking-found (l .m) (l .inv) t (q .result) (rw (c .before .before .before .before .before .before .before .wide .ensures .0) at (q .ensures))
+    (c .before .before .before .before .if1 .taken) _ (c .before .before .fill-on .ensures) .kept .long
 
 returns : tie.Need-returns Inv-loop μ-loop
 returns c =
-    let l = c .before .before .before .before .before .before .before .before .before .before .before .loop in let t : 0 < l .m = omega (arith, c .before .before .before .before .before .before .before .before .before .before .loop-test .taken) in let q = c .before .before .before .before .before .choose in
-    looking-found (l .m) (l .inv) t (q .result) (rw (c .before .before .before .before .before .before .before .wide .ensures .0) at (q .ensures)) (c .before .before .before .before .if1 .taken) _ (c .before .before .fill-on .ensures)
+    let l = c .before .before .before .before .before .before .before .before .before .before .before .loop in
+    let t : 0 < l .m = omega (arith, c .before .before .before .before .before .before .before .before .before .before .loop-test .taken) in
+    let q = c .before .before .before .before .before .choose in
+    looking-found (l .m) (l .inv) t (q .result) (rw (c .before .before .before .before .before .before .before .wide .ensures .0) at (q .ensures))
+    (c .before .before .before .before .if1 .taken) _ (c .before .before .fill-on .ensures)
 
 loop-less : tie.Need-loop-less Inv-loop μ-loop
 loop-less c = omega arith
 
 loop-again : tie.Need-loop-again Inv-loop μ-loop
 loop-again c =
-    let l = c .before .before .before .before .before .before .before .loop in let t : 0 < l .m = omega (arith, c .before .before .before .before .before .before .loop-test .taken) in let q = c .before .choose in
+    let l = c .before .before .before .before .before .before .before .loop in
+    let t : 0 < l .m = omega (arith, c .before .before .before .before .before .before .loop-test .taken) in let q = c .before .choose in
     looking-more (l .m) (l .inv) t (q .result) (rw (c .before .before .before .wide .ensures .0) at (q .ensures)) (c .if1 .left)
 
 same-length-2 : tie.Need-same-length-2 Inv-loop μ-loop

@@ -25,29 +25,35 @@ shared-slice-read-j : tie.Need-shared-slice-read-j Inv-loop μ-loop
 shared-slice-read-j c = omega arith
 
 cast-j : tie.Need-cast-j Inv-loop μ-loop
-cast-j c = let l = c .before .before .loop in let m = c .before .before .before .before .before .before .pre in omega (arith, m .listed (l .k - 1) (omega arith), m .few)
+cast-j c = let l = c .before .before .loop in let m = c .before .before .before .before .before .before .pre in
+    omega (arith, m .listed (l .k - 1) (omega arith), m .few)
 
 mul-wide : tie.Need-mul-wide Inv-loop μ-loop
-mul-wide c = let l = c .before .before .loop in let m = c .before .before .before .before .before .before .pre in omega (arith, m .listed (l .k - 1) (omega arith), m .few)
+mul-wide c = let l = c .before .before .loop in let m = c .before .before .before .before .before .before .pre in
+    omega (arith, m .listed (l .k - 1) (omega arith), m .few)
 
 shared-slice-read-wide : tie.Need-shared-slice-read-wide Inv-loop μ-loop
-shared-slice-read-wide c = let l = c .before .before .before .loop in let m = c .before .before .before .before .before .before .before .pre in omega (arith, m .listed (l .k - 1) (omega arith), m .room)
+shared-slice-read-wide c = let l = c .before .before .before .loop in let m = c .before .before .before .before .before .before .before .pre in
+    omega (arith, m .listed (l .k - 1) (omega arith), m .room)
 
 wide-requires : tie.Need-wide-requires Inv-loop μ-loop
 wide-requires c κs = tt
 
 figure-requires : tie.Need-figure-requires Inv-loop μ-loop
-figure-requires c κs = let l = c .before .before .before .before .loop in let m = c .before .before .before .before .before .before .before .before .pre in (m .listed (l .k - 1) (omega arith), omega (arith, m .ports (l .k - 1) (omega arith), c .wide .ensures .0), m .few, m .square)
+figure-requires c κs = let l = c .before .before .before .before .loop in let m = c .before .before .before .before .before .before .before .before .pre in
+    (m .listed (l .k - 1) (omega arith), omega (arith, m .ports (l .k - 1) (omega arith), c .wide .ensures .0), m .few, m .square)
 
 add-sum : tie.Need-add-sum Inv-loop μ-loop
-add-sum c = let l = c .before .before .before .before .before .loop in let m = c .before .before .before .before .before .before .before .before .before .pre in omega (arith, c .figure .ensures .1, m .few)
+add-sum c = let l = c .before .before .before .before .before .loop in let m = c .before .before .before .before .before .before .before .before .before .pre in
+    omega (arith, c .figure .ensures .1, m .few)
 
 loop-less : tie.Need-loop-less Inv-loop μ-loop
 loop-less c = omega arith
 
 loop-again : tie.Need-loop-again Inv-loop μ-loop
 loop-again c =
-    let l = c .before .before .before .before .before .loop in let m = c .before .before .before .before .before .before .before .before .before .pre in let s = c .before .before .before .before .before .before .before .before .before .args in
+    let l = c .before .before .before .before .before .loop in let m = c .before .before .before .before .before .before .before .before .before .pre in
+    let s = c .before .before .before .before .before .before .before .before .before .args in
     let e = sum-step (figureOf (s .cost .now) (length (s .order .now))) (s .order .now) (portOf (s .w .now)) (l .k) (omega arith) (omega arith) in
     let f = rw (c .before .wide .ensures .0) at (c .figure .ensures .0) in
     (omega arith, omega (arith, e, f, l .inv .1), omega (arith, c .figure .ensures .1))
@@ -58,4 +64,5 @@ returns c =
     let e : l .k ≡ 0 = omega arith in l .inv .1 ∙ ap (λ k. sum (figureOf (s .cost .now) (length (s .order .now))) (drop k (s .order .now)) (portOf (s .w .now))) e
 
 pub total-of-spec : {M : Type 1} → statement M
-total-of-spec = tie.close (tie.spec Inv-loop μ-loop loop-holds sub-k shared-slice-read-j cast-j mul-wide shared-slice-read-wide wide-requires figure-requires add-sum loop-less loop-again returns)
+total-of-spec = tie.close (tie.spec Inv-loop μ-loop loop-holds sub-k shared-slice-read-j cast-j mul-wide shared-slice-read-wide wide-requires figure-requires add-sum
+    loop-less loop-again returns)

@@ -16,7 +16,8 @@ smaller-requires : tie.Need-smaller-requires
 smaller-requires c κs = search needs
 
 returns : tie.Need-returns
-returns c = port-smaller (c .before .before .before .before .before .before .before .pre) _ _ _ (sym (c .before .before .before .opened .ensures) ∙ c .before .before .if1 .taken) (c .smaller .ensures) (c .before .sum-at .ensures)
+returns c = port-smaller (c .before .before .before .before .before .before .before .pre) _ _ _
+    (sym (c .before .before .before .opened .ensures) ∙ c .before .before .if1 .taken) (c .smaller .ensures) (c .before .sum-at .ensures)
 
 returns-2 : tie.Need-returns-2
 returns-2 c = port-same (c .before .before .before .before .before .pre) _ (omega arith) (sym (c .before .opened .ensures) ∙ c .if1 .left)

@@ -1,4 +1,5 @@
--- `table::fill` meets its contract. The loop's invariant: the rows from a on are right, what is kept for the next row is right, and the lists keep their lengths. Assumes nothing.
+-- `table::fill` meets its contract. The loop's invariant: the rows from a on are right, what is kept for the next row is right, and the lists keep their lengths.
+-- Assumes nothing.
 use mathlib.Core.Path.{_≡_, refl, sym, ap, _∙_}
 use Prim.Native.Nat.{ℕ, _+_, _-_, _≤_}
 use lib.ListN.{length, getD}
@@ -10,7 +11,8 @@ use Rattle.table.proofs.fill.Statement.{statement}
 use Rattle.table.proofs.fill.Tie as tie
 
 abbrev Inv-loop : tie.InvT-loop
-Inv-loop heads₀ totals₀ order cost lo hi at₀ seen₀ all₀ a₀ heads totals at seen all a = (a ≤ length order + 1) × (length heads ≡ 2145) × (length totals ≡ 2145) × Rooms at seen all × Tallies (sides lo hi) order at seen all a × Rows (sides lo hi) (figures cost (length order)) order heads totals a
+Inv-loop heads₀ totals₀ order cost lo hi at₀ seen₀ all₀ a₀ heads totals at seen all a = (a ≤ length order + 1) × (length heads ≡ 2145) × (length totals ≡ 2145) × Rooms
+    at seen all × Tallies (sides lo hi) order at seen all a × Rows (sides lo hi) (figures cost (length order)) order heads totals a
 
 abbrev μ-loop : tie.MeasureT-loop
 μ-loop heads₀ totals₀ order cost lo hi at₀ seen₀ all₀ a₀ heads totals at seen all a = a
@@ -19,8 +21,15 @@ add-a : tie.Need-add-a Inv-loop μ-loop
 add-a c = omega arith
 
 loop-holds : tie.Need-loop-holds Inv-loop μ-loop
-loop-holds c = let s = c .before .before .before .before .before .before in let x = s .args in let p = s .pre in
-    (omega arith, p .1 .0, p .1 .1, record { places = refl; counts = refl; wholes = refl }, tallies-none (sides (x .lo .now) (x .hi .now)) (x .order .now) _ (λ j. omega (arith, p .0 .level j, p .0 .top j)) (p .0 .few), λ a′ b′ u v w. absurd (omega arith))
+loop-holds c = let s = c .before .before .before .before .before .before in let x = s .args in let p = s .pre in (
+  omega arith,
+  p .1 .0,
+  p .1 .1,
+  record { places = refl; counts = refl; wholes = refl },
+  tallies-none (sides (x .lo .now) (x .hi .now)) (x .order .now) _
+      (λ j. omega (arith, p .0 .level j, p .0 .top j)) (p .0 .few),
+  λ a′ b′ u v w. absurd (omega arith),
+)
 
 sub-a : tie.Need-sub-a Inv-loop μ-loop
 sub-a c = omega arith
@@ -35,27 +44,55 @@ slice-aggregate-enter-3 : tie.Need-slice-aggregate-enter-3 Inv-loop μ-loop
 slice-aggregate-enter-3 c = sym (c .before .before .before .before .loop .inv .3 .wholes)
 
 enter-requires : tie.Need-enter-requires Inv-loop μ-loop
-enter-requires c κs = let p = c .before .before .before .before .before .before .before .before .before .before .before .pre in let l = c .before .before .before .before .loop in let e : l .a - 1 + 1 ≡ l .a = omega arith in (p .0, (l .inv .3, rw e (l .inv .4)))
+enter-requires c κs = let p = c .before .before .before .before .before .before .before .before .before .before .before .pre in
+    let l = c .before .before .before .before .loop in let e : l .a - 1 + 1 ≡ l .a = omega arith in (p .0, (l .inv .3, rw e (l .inv .4)))
 
 slice-aggregate-fill-row : tie.Need-slice-aggregate-fill-row Inv-loop μ-loop
 slice-aggregate-fill-row c = sym (c .before .before .before .before .before .before .before .before .before .before .loop .inv .3 .places)
 
 slice-aggregate-fill-row-2 : tie.Need-slice-aggregate-fill-row-2 Inv-loop μ-loop
-slice-aggregate-fill-row-2 c = sym (c .before .before .before .before .before .before .enter .kept .1 .0 ∙ c .before .before .before .before .before .before .before .before .before .before .before .loop .inv .3 .counts)
+slice-aggregate-fill-row-2 c =
+    let n = c .before .before .before .before .before .before in let i = n .before .before .before .before .before .loop .inv in
+    sym (n .enter .kept .1 .0 ∙ i .3 .counts)
 
 slice-aggregate-fill-row-3 : tie.Need-slice-aggregate-fill-row-3 Inv-loop μ-loop
-slice-aggregate-fill-row-3 c = sym (c .before .before .before .before .before .before .before .enter .kept .1 .1 .0 ∙ c .before .before .before .before .before .before .before .before .before .before .before .before .loop .inv .3 .wholes)
+slice-aggregate-fill-row-3 c =
+    let n = c .before .before .before .before .before .before .before in
+    let i = n .before .before .before .before .before .loop .inv in sym (n .enter .kept .1 .1 .0 ∙ i .3 .wholes)
 
 fill-row-requires : tie.Need-fill-row-requires Inv-loop μ-loop
-fill-row-requires c κs = let p = c .before .before .before .before .before .before .before .before .before .before .before .before .before .before .before .before .before .before .before .pre in let l = c .before .before .before .before .before .before .before .before .before .before .before .before .loop in let i = l .inv in let e : l .a - 1 + 1 ≡ l .a = omega arith in
-    (p .0, (record { heads = i .1; totals = i .2; square = p .1 .2; cheap = λ k. omega (arith, c .before .before .before .before .before .before .before .before .before .before .before .before .before .before .before .shared-slice-known2 .given k) }, (record { places = c .before .before .before .before .before .before .before .before .before .before .before .before .loop .inv .3 .places; counts = c .before .before .before .before .before .before .before .enter .kept .1 .0 ∙ c .before .before .before .before .before .before .before .before .before .before .before .before .loop .inv .3 .counts; wholes = c .before .before .before .before .before .before .before .enter .kept .1 .1 .0 ∙ c .before .before .before .before .before .before .before .before .before .before .before .before .loop .inv .3 .wholes }, (omega arith, (c .before .before .before .before .before .before .before .enter .ensures, rw e (i .5))))))
+fill-row-requires c κs =
+    let n = c .before .before .before .before .before .before .before in let t = n .before .before .before .before .before in let i = t .loop .inv in
+    let s = t .before .before .before .before .before .before .before in let p = s .pre in let e : t .loop .a - 1 + 1 ≡ t .loop .a = omega arith in (
+      p .0,
+      (
+        record { heads = i .1; totals = i .2; square = p .1 .2; cheap = λ k. omega (arith, t .before .before .before .shared-slice-known2 .given k) },
+        (
+          record { places = i .3 .places; counts = n .enter .kept .1 .0 ∙ i .3 .counts; wholes = n .enter .kept .1 .1 .0 ∙ i .3 .wholes },
+          (omega arith, (n .enter .ensures, rw e (i .5))),
+        ),
+      ),
+    )
 
 loop-less : tie.Need-loop-less Inv-loop μ-loop
 loop-less c = omega arith
 
 loop-again : tie.Need-loop-again Inv-loop μ-loop
-loop-again c = let f = c .before .before .before .before .before .before .fill-row in let i = c .before .before .before .before .before .before .before .before .before .before .before .before .before .before .before .before .before .before .before .loop .inv in
-    (omega arith, f .kept .0 ∙ i .1, f .kept .1 .0 ∙ i .2, record { places = f .kept .1 .1 .0 ∙ i .3 .places; counts = f .kept .1 .1 .1 .0 ∙ c .before .before .before .before .before .before .before .before .before .before .before .before .before .before .enter .kept .1 .0 ∙ c .before .before .before .before .before .before .before .before .before .before .before .before .before .before .before .before .before .before .before .loop .inv .3 .counts; wholes = c .before .before .before .before .before .before .before .before .before .before .before .before .before .before .enter .kept .1 .1 .0 ∙ c .before .before .before .before .before .before .before .before .before .before .before .before .before .before .before .before .before .before .before .loop .inv .3 .wholes }, f .ensures .0, f .ensures .1)
+loop-again c =
+    let f = c .before .before .before .before .before .before .fill-row in
+    let n = c .before .before .before .before .before .before .before .before .before .before .before .before .before .before in
+    let i = n .before .before .before .before .before .loop .inv in (
+      omega arith,
+      f .kept .0 ∙ i .1,
+      f .kept .1 .0 ∙ i .2,
+      record {
+        places = f .kept .1 .1 .0 ∙ i .3 .places;
+        counts = f .kept .1 .1 .1 .0 ∙ n .enter .kept .1 .0 ∙ i .3 .counts;
+        wholes = n .enter .kept .1 .1 .0 ∙ i .3 .wholes;
+      },
+      f .ensures .0,
+      f .ensures .1,
+    )
 
 corner-requires : tie.Need-corner-requires Inv-loop μ-loop
 corner-requires c κs = omega (arith, c .before .before .before .before .before .before .before .before .pre .0 .few)
@@ -73,9 +110,19 @@ same-length-2 : tie.Need-same-length-2 Inv-loop μ-loop
 same-length-2 c = omega arith
 
 returns : tie.Need-returns Inv-loop μ-loop
-returns c = let l = c .before .before .before in let i = l .loop .inv in let s = c .before .before .before .before .before .before .before .before .before .before in let x = s .args in let p = s .pre in
+returns c = let l = c .before .before .before in let i = l .loop .inv in let s = c .before .before .before .before .before .before .before .before .before .before in
+    let x = s .args in let p = s .pre in
     let t : Table (x .order .now) (x .cost .now) (x .lo .now) (x .hi .now) (l .loop .heads) (l .loop .totals) =
-    record { sizes = record { heads = i .1; totals = i .2; square = p .1 .2; cheap = λ k. omega (arith, c .before .before .before .before .before .before .shared-slice-known2 .given k) }; rows = λ a′ b′ u. i .5 a′ b′ (omega arith) } in
+    record {
+      sizes = record {
+        heads = i .1;
+        totals = i .2;
+        square = p .1 .2;
+        cheap = λ k. omega
+            (arith, c .before .before .before .before .before .before .shared-slice-known2 .given k);
+      };
+      rows = λ a′ b′ u. i .5 a′ b′ (omega arith);
+    } in
     (t, ap (λ (k : ℕ). getD (l .loop .totals) k 0) (c .before .corner .ensures .0) ∙ whole-best (p .0) t)
 
 pub fill-spec : {M : Type 1} → statement M

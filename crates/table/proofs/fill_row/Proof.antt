@@ -1,4 +1,5 @@
--- `table::fill_row` meets its contract. The loop's invariant: the row is right before b (`Rows.Row`), what is kept for the next row is right, and the lists keep their lengths. Assumes nothing.
+-- `table::fill_row` meets its contract. The loop's invariant: the row is right before b (`Rows.Row`), what is kept for the next row is right, and the lists keep their
+-- lengths. Assumes nothing.
 use mathlib.Core.Path.{_≡_, _∙_}
 use Prim.Native.Nat.{_+_, _-_, _≤_}
 use lib.ListN.{length, length-set}
@@ -11,41 +12,85 @@ use Rattle.table.proofs.fill_row.Statement.{statement}
 use Rattle.table.proofs.fill_row.Tie as tie
 
 abbrev Inv-loop : tie.InvT-loop
-Inv-loop heads₀ totals₀ at₀ seen₀ all order cost lo hi a n b₀ heads totals at seen b = (a ≤ b) × (b ≤ length order + 1) × (length heads ≡ 2145) × (length totals ≡ 2145) × (length at ≡ 65) × (length seen ≡ 65) × Tallies (sides lo hi) order at seen all a × Row (sides lo hi) (figures cost (length order)) order heads totals a b
+Inv-loop heads₀ totals₀ at₀ seen₀ all order cost lo hi a n b₀ heads totals at seen b = (a ≤ b) × (b ≤ length order + 1) × (length heads ≡ 2145) × (length totals ≡ 2145)
+    × (length at ≡ 65) × (length seen ≡ 65) × Tallies (sides lo hi) order at seen all a × Row (sides lo hi) (figures cost (length order)) order heads totals a b
 
 abbrev μ-loop : tie.MeasureT-loop
 μ-loop heads₀ totals₀ at₀ seen₀ all order cost lo hi a n b₀ heads totals at seen b = length order + 1 - b
 
 loop-holds : tie.Need-loop-holds Inv-loop μ-loop
-loop-holds c = let p = c .before .before .before .before .before .before .before .before .before .pre in (omega arith, omega arith, p .1 .0 .heads, p .1 .0 .totals, p .1 .1 .0 .places, p .1 .1 .0 .counts, p .1 .1 .1 .1 .0, row-start _ _ _ _ _ _ (p .1 .1 .1 .1 .1))
+loop-holds c = let p = c .before .before .before .before .before .before .before .before .before .pre in
+    (omega arith, omega arith, p .1 .0 .heads, p .1 .0 .totals, p .1 .1 .0 .places, p .1 .1 .0 .counts, p .1 .1 .1 .1 .0, row-start _ _ _ _ _ _ (p .1 .1 .1 .1 .1))
 
 head-requires : tie.Need-head-requires Inv-loop μ-loop
-head-requires c κs = let p = c .before .before .before .before .before .before .before .before .before .before .before .before .before .pre in let i = c .before .before .before .loop .inv in (p .0, (record { places = i .4; counts = i .5; wholes = p .1 .1 .0 .wholes }, ((i .0, omega arith), i .6)))
+head-requires c κs = let p = c .before .before .before .before .before .before .before .before .before .before .before .before .before .pre in
+    let i = c .before .before .before .loop .inv in (p .0, (record { places = i .4; counts = i .5; wholes = p .1 .1 .0 .wholes }, ((i .0, omega arith), i .6)))
 
 strip-total-requires : tie.Need-strip-total-requires Inv-loop μ-loop
-strip-total-requires c κs = let p = c .before .before .before .before .before .before .before .before .before .before .before .before .before .before .before .before .before .before .before .before .pre in let i = c .before .before .before .before .before .before .before .before .before .before .loop .inv in
-    (p .0, (sizes-with (p .1 .0) (i .2) (i .3), ((i .0, omega arith, c .before .before .before .before .before .before .head .ensures .0), row-parts _ _ _ _ _ _ _ (omega arith) (i .7))))
+strip-total-requires c κs = let p = c .before .before .before .before .before .before .before .before .before .before .before .before .before .before .before .before
+    .before .before .before .before .pre in let i = c .before .before .before .before .before .before .before .before .before .before .loop .inv in (
+      p .0,
+      (
+        sizes-with (p .1 .0) (i .2) (i .3),
+        (
+          (i .0, omega arith, c .before .before .before .before .before .before .head .ensures .0),
+          row-parts _ _ _ _ _ _ _
+              (omega arith) (i .7),
+        ),
+      ),
+    )
 
 corner-requires : tie.Need-corner-requires Inv-loop μ-loop
-corner-requires c κs = omega (arith, c .before .before .before .before .before .before .before .before .before .before .before .before .before .before .before .before .before .before .before .before .before .pre .0 .few)
+corner-requires c κs = omega (
+  arith,
+  c .before .before .before .before .before .before .before .before .before .before .before .before .before .before .before .before
+      .before .before .before .before .before .pre .0 .few,
+)
 
 add-i : tie.Need-add-i Inv-loop μ-loop
-add-i c = omega (arith, c .corner .ensures .1, c .before .before .before .before .before .before .before .before .before .before .before .before .before .before .before .before .before .before .before .before .before .before .pre .0 .few)
+add-i c = omega (
+  arith,
+  c .corner .ensures .1,
+  c .before .before .before .before .before .before .before .before .before .before .before .before .before .before .before
+      .before .before .before .before .before .before .before .pre .0 .few,
+)
 
 kept-requires : tie.Need-kept-requires Inv-loop μ-loop
 kept-requires c κs = search needs
 
 cast-heads : tie.Need-cast-heads Inv-loop μ-loop
-cast-heads c = omega (arith, c .kept .ensures .1, c .before .before .before .before .before .before .before .before .before .head .ensures .0 .top, c .before .before .before .before .before .before .before .before .before .before .before .before .before .before .before .before .before .before .before .before .before .before .before .pre .0 .few)
+cast-heads c = omega (
+  arith,
+  c .kept .ensures .1,
+  c .before .before .before .before .before .before .before .before .before .head .ensures .0 .top,
+  c .before .before
+      .before .before .before .before .before .before .before .before .before .before .before .before .before .before .before .before .before .before .before .before
+      .before .pre .0 .few,
+)
 
 slice-write-heads : tie.Need-slice-write-heads Inv-loop μ-loop
-slice-write-heads c = omega (arith, c .before .corner .ensures .1, c .before .before .before .before .before .before .before .before .before .before .before .before .before .before .before .before .before .before .before .before .before .before .before .pre .0 .few)
+slice-write-heads c = omega (
+  arith,
+  c .before .corner .ensures .1,
+  c .before .before .before .before .before .before .before .before .before .before .before .before
+      .before .before .before .before .before .before .before .before .before .before .before .pre .0 .few,
+)
 
 mul-totals : tie.Need-mul-totals Inv-loop μ-loop
-mul-totals c = omega (arith, c .before .corner .ensures .1, c .before .before .before .before .before .before .before .before .before .before .before .before .before .before .before .before .before .before .before .before .before .before .before .pre .0 .few)
+mul-totals c = omega (
+  arith,
+  c .before .corner .ensures .1,
+  c .before .before .before .before .before .before .before .before .before .before .before .before .before
+      .before .before .before .before .before .before .before .before .before .before .pre .0 .few,
+)
 
 slice-write-totals : tie.Need-slice-write-totals Inv-loop μ-loop
-slice-write-totals c = omega (arith, c .before .corner .ensures .1, c .before .before .before .before .before .before .before .before .before .before .before .before .before .before .before .before .before .before .before .before .before .before .before .pre .0 .few)
+slice-write-totals c = omega (
+  arith,
+  c .before .corner .ensures .1,
+  c .before .before .before .before .before .before .before .before .before .before .before .before
+      .before .before .before .before .before .before .before .before .before .before .before .pre .0 .few,
+)
 
 add-b : tie.Need-add-b Inv-loop μ-loop
 add-b c = omega arith
@@ -54,17 +99,20 @@ loop-less : tie.Need-loop-less Inv-loop μ-loop
 loop-less c = omega arith
 
 loop-again : tie.Need-loop-again Inv-loop μ-loop
-loop-again c = let p = c .before .before .before .before .before .before .before .before .before .before .before .before .before .before .before .before .before .before .before .before .before .before .before .pre in let l = c .before .before .before .before .before .before .before .before .before .before .before .before .before .loop in let i = l .inv in let f = c .before .before .before .before .before .before .before .before .before .head in (
-  omega arith,
-  omega arith,
-  simp length-set (i .2),
-  simp length-set (i .3),
-  f .kept .0 ∙ i .4,
-  f .kept .1 .0 ∙ i .5,
-  f .ensures .1,
-  row-step _ _ _ _ _ _ (l .b) _ _ _ (omega (arith, c .before .corner .ensures .0)) (p .0 .few) (i .0) (omega arith) (i .2) (i .3)
-      (kept-cell _ _ (p .0 .level) (figures-cheap (p .1 .0)) _ _ _ _ _ _ (omega (arith, p .0 .few)) (c .before .before .strip-total .ensures) (c .kept .ensures .0)) (i .7),
-)
+loop-again c = let p = c .before .before .before .before .before .before .before .before .before .before .before .before .before .before .before .before .before .before
+    .before .before .before .before .before .pre in let l = c .before .before .before .before .before .before .before .before .before .before .before .before .before
+    .loop in let i = l .inv in let f = c .before .before .before .before .before .before .before .before .before .head in (
+      omega arith,
+      omega arith,
+      simp length-set (i .2),
+      simp length-set (i .3),
+      f .kept .0 ∙ i .4,
+      f .kept .1 .0 ∙ i .5,
+      f .ensures .1,
+      row-step _ _ _ _ _ _ (l .b) _ _ _ (omega (arith, c .before .corner .ensures .0)) (p .0 .few) (i .0) (omega arith) (i .2) (i .3)
+          (kept-cell _ _ (p .0 .level) (figures-cheap (p .1 .0)) _ _ _ _ _ _ (omega (arith, p .0 .few)) (c .before .before .strip-total .ensures) (c .kept .ensures .0))
+          (i .7),
+    )
 
 same-length : tie.Need-same-length Inv-loop μ-loop
 same-length c = omega arith

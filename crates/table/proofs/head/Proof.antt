@@ -17,10 +17,20 @@ cast-at : tie.Need-cast-at
 cast-at c = omega (arith, c .before .before .before .before .before .before .before .pre .0 .few)
 
 slice-write-at : tie.Need-slice-write-at
-slice-write-at c = omega (arith, c .before .before .before .before .before .before .before .pre .0 .few, c .before .before .before .before .before .before .before .pre .1 .0 .places)
+slice-write-at c = omega (
+  arith,
+  c .before .before .before .before .before .before .before .pre .0 .few,
+  c .before .before .before .before .before .before .before .pre
+      .1 .0 .places,
+)
 
 slice-write-seen : tie.Need-slice-write-seen
-slice-write-seen c = omega (arith, c .before .before .before .before .before .before .before .pre .0 .few, c .before .before .before .before .before .before .before .pre .1 .0 .counts)
+slice-write-seen c = omega (
+  arith,
+  c .before .before .before .before .before .before .before .pre .0 .few,
+  c .before .before .before .before .before .before .before
+      .pre .1 .0 .counts,
+)
 
 add-result : tie.Need-add-result
 add-result c = omega (arith, c .before .before .before .before .before .before .before .pre .0 .few)
@@ -34,18 +44,26 @@ same-length-2 c = search needs
 returns : tie.Need-returns
 returns c = let x = c .before .before .before .before .before .before .before .args in let p = c .before .before .before .before .before .before .before .pre in (
   empty-head _ _ _ _ (c .if1 .taken),
-  tallies-set (sides (x .lo .now) (x .hi .now)) (x .order .now) (x .at .now) (x .seen .now) (x .all .now) (x .a) (x .b) (length (x .order .now)) 0 (p .1 .0) (p .0 .few) (p .1 .1 .0 .1) (omega arith)
+  tallies-set (sides (x .lo .now) (x .hi .now)) (x .order .now) (x .at .now) (x .seen .now) (x .all .now) (x .a) (x .b) (length (x .order .now)) 0 (p .1 .0) (p .0 .few)
+      (p .1 .1 .0 .1) (omega arith)
       (sym (count-end (sides (x .lo .now) (x .hi .now)) (x .order .now) (x .a) (x .b) (length (x .order .now)) (omega arith))) (p .1 .1 .1),
 )
 
 shared-slice-read-if2 : tie.Need-shared-slice-read-if2
-shared-slice-read-if2 c = omega (arith, c .before .before .before .before .before .before .before .before .pre .0 .few, c .before .before .before .before .before .before .before .before .pre .1 .0 .wholes)
+shared-slice-read-if2 c = omega (
+  arith,
+  c .before .before .before .before .before .before .before .before .pre .0 .few,
+  c .before .before .before .before .before
+      .before .before .before .pre .1 .0 .wholes,
+)
 
 cast-if2 : tie.Need-cast-if2
 cast-if2 c = omega (arith, c .shared-slice-known5 .given (c .before .before .before .before .before .before .before .before .args .b))
 
 returns-2 : tie.Need-returns-2
-returns-2 c = let x = c .before .before .before .before .before .before .before .before .before .args in let p = c .before .before .before .before .before .before .before .before .before .pre in let t = p .1 .1 .1 (x .b) (p .1 .1 .0 .1) in (few-head _ _ _ _ (omega (arith, t .all, c .if2 .taken)), p .1 .1 .1)
+returns-2 c = let x = c .before .before .before .before .before .before .before .before .before .args in
+    let p = c .before .before .before .before .before .before .before .before .before .pre in let t = p .1 .1 .1 (x .b) (p .1 .1 .0 .1) in
+    (few-head _ _ _ _ (omega (arith, t .all, c .if2 .taken)), p .1 .1 .1)
 
 cast-top : tie.Need-cast-top
 cast-top c = omega (arith, c .before .before .before .before .before .before .before .before .before .pre .0 .few)
@@ -54,28 +72,52 @@ cast-top-2 : tie.Need-cast-top-2
 cast-top-2 c = omega (arith, c .before .before .before .before .before .before .before .before .before .pre .0 .few)
 
 slice-read-top : tie.Need-slice-read-top
-slice-read-top c = omega (arith, c .before .before .before .before .before .before .before .before .before .before .pre .0 .few, c .before .before .before .before .before .before .before .before .before .before .pre .1 .0 .places)
+slice-read-top c = omega (
+  arith,
+  c .before .before .before .before .before .before .before .before .before .before .pre .0 .few,
+  c .before .before .before .before
+      .before .before .before .before .before .before .pre .1 .0 .places,
+)
 
 cast-top-3 : tie.Need-cast-top-3
-cast-top-3 c = let x = c .before .before .before .before .before .before .before .before .before .before .args in let p = c .before .before .before .before .before .before .before .before .before .before .pre in let t = p .1 .1 .1 (x .b) (p .1 .1 .0 .1) in omega (arith, t .placed, p .0 .few)
+cast-top-3 c = let x = c .before .before .before .before .before .before .before .before .before .before .args in
+    let p = c .before .before .before .before .before .before .before .before .before .before .pre in let t = p .1 .1 .1 (x .b) (p .1 .1 .0 .1) in
+    omega (arith, t .placed, p .0 .few)
 
 slice-read-top-2 : tie.Need-slice-read-top-2
-slice-read-top-2 c = omega (arith, c .before .before .before .before .before .before .before .before .before .before .before .pre .0 .few, c .before .before .before .before .before .before .before .before .before .before .before .pre .1 .0 .counts)
+slice-read-top-2 c = omega (
+  arith,
+  c .before .before .before .before .before .before .before .before .before .before .before .pre .0 .few,
+  c .before .before .before
+      .before .before .before .before .before .before .before .before .pre .1 .0 .counts,
+)
 
 top-requires : tie.Need-top-requires
-top-requires c κs = let x = c .before .before .before .before .before .before .before .before .before .before .before .args in let p = c .before .before .before .before .before .before .before .before .before .before .before .pre in let t = p .1 .1 .1 (x .b) (p .1 .1 .0 .1) in (p .0, ((t .placed, t .seen), (omega arith, omega (arith, t .all, c .before .before .if2 .left))))
+top-requires c κs = let x = c .before .before .before .before .before .before .before .before .before .before .before .args in
+    let p = c .before .before .before .before .before .before .before .before .before .before .before .pre in let t = p .1 .1 .1 (x .b) (p .1 .1 .0 .1) in
+    (p .0, ((t .placed, t .seen), (omega arith, omega (arith, t .all, c .before .before .if2 .left))))
 
 cast-at-2 : tie.Need-cast-at-2
 cast-at-2 c = omega (arith, c .top .ensures .placed, c .before .before .before .before .before .before .before .before .before .before .before .before .pre .0 .few)
 
 slice-write-at-2 : tie.Need-slice-write-at-2
-slice-write-at-2 c = omega (arith, c .before .before .before .before .before .before .before .before .before .before .before .before .pre .0 .few, c .before .before .before .before .before .before .before .before .before .before .before .before .pre .1 .0 .places)
+slice-write-at-2 c = omega (
+  arith,
+  c .before .before .before .before .before .before .before .before .before .before .before .before .pre .0 .few,
+  c .before .before
+      .before .before .before .before .before .before .before .before .before .before .pre .1 .0 .places,
+)
 
 cast-seen : tie.Need-cast-seen
 cast-seen c = omega (arith, c .before .before .before .before .before .before .before .before .before .before .before .before .pre .0 .few)
 
 slice-write-seen-2 : tie.Need-slice-write-seen-2
-slice-write-seen-2 c = omega (arith, c .before .before .before .before .before .before .before .before .before .before .before .before .pre .0 .few, c .before .before .before .before .before .before .before .before .before .before .before .before .pre .1 .0 .counts)
+slice-write-seen-2 c = omega (
+  arith,
+  c .before .before .before .before .before .before .before .before .before .before .before .before .pre .0 .few,
+  c .before .before
+      .before .before .before .before .before .before .before .before .before .before .pre .1 .0 .counts,
+)
 
 add-result-2 : tie.Need-add-result-2
 add-result-2 c = omega (arith, c .top .ensures .placed)
@@ -87,11 +129,13 @@ same-length-4 : tie.Need-same-length-4
 same-length-4 c = search needs
 
 returns-3 : tie.Need-returns-3
-returns-3 c = let x = c .before .before .before .before .before .before .before .before .before .before .before .before .args in let p = c .before .before .before .before .before .before .before .before .before .before .before .before .pre in let k = c .top .ensures in (
-  top-head _ _ _ _ _ k,
-  tallies-set (sides (x .lo .now) (x .hi .now)) (x .order .now) (x .at .now) (x .seen .now) (x .all .now) (x .a) (x .b) (c .top .result) (x .b - x .a) (p .1 .0) (p .0 .few) (p .1 .1 .0 .1) (omega (arith, k .placed))
-      (sym (k .full)) (p .1 .1 .1),
-)
+returns-3 c = let x = c .before .before .before .before .before .before .before .before .before .before .before .before .args in
+    let p = c .before .before .before .before .before .before .before .before .before .before .before .before .pre in let k = c .top .ensures in (
+      top-head _ _ _ _ _ k,
+      tallies-set (sides (x .lo .now) (x .hi .now)) (x .order .now) (x .at .now) (x .seen .now) (x .all .now) (x .a) (x .b) (c .top .result) (x .b - x .a) (p .1 .0)
+          (p .0 .few) (p .1 .1 .0 .1) (omega (arith, k .placed))
+          (sym (k .full)) (p .1 .1 .1),
+    )
 
 pub head-spec : {M : Type 1} → statement M
 head-spec =

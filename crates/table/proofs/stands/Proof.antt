@@ -11,10 +11,12 @@ cast-j : tie.Need-cast-j
 cast-j c = let p = c .before .before .before .before .pre in omega (arith, p .0 .listed (c .before .before .before .before .args .k) (p .1), p .0 .few)
 
 shared-slice-read-inside : tie.Need-shared-slice-read-inside
-shared-slice-read-inside c = let p = c .before .before .before .before .before .pre in omega (arith, p .0 .listed (c .before .before .before .before .before .args .k) (p .1), p .0 .lows)
+shared-slice-read-inside c = let p = c .before .before .before .before .before .pre in
+    omega (arith, p .0 .listed (c .before .before .before .before .before .args .k) (p .1), p .0 .lows)
 
 shared-slice-read-inside-2 : tie.Need-shared-slice-read-inside-2
-shared-slice-read-inside-2 c = let p = c .before .before .before .before .before .before .pre in omega (arith, p .0 .listed (c .before .before .before .before .before .before .args .k) (p .1), p .0 .highs)
+shared-slice-read-inside-2 c = let p = c .before .before .before .before .before .before .pre in
+    omega (arith, p .0 .listed (c .before .before .before .before .before .before .args .k) (p .1), p .0 .highs)
 
 inside-requires : tie.Need-inside-requires
 inside-requires c κs = search needs
