@@ -3,8 +3,7 @@
 # the C tests, once as they are and once more under the sanitizers. Fails on any failure; the last line has the counts.
 #   --no-search  only what needs Measure and Draw alone
 #   SEED, TIMES  in the environment: another seed; so many times the usual number of random trials
-# The archive is x86-64 code. On another machine the tests are cross-compiled and run under qemu-user.
-# What is missing is installed by apt-get.
+# What is missing is installed by apt-get (tools/machine.sh).
 set -u
 cd "$(dirname "$0")/.." || exit 2
 flags= archive= search=yes seed=${SEED:-1} times=${TIMES:-1} passed=0 failed=0
@@ -16,20 +15,8 @@ for word; do
     esac
 done
 
-if [ "${MACHINE:-$(uname -m)}" = x86_64 ]; then
-    cross= run= static= packages="gcc g++ libc6-dev" headers=/usr/include
-else
-    cross=x86_64-linux-gnu- run=qemu-x86_64 static=-static headers=/usr/x86_64-linux-gnu/include
-    packages="gcc-x86-64-linux-gnu g++-x86-64-linux-gnu libc6-dev-amd64-cross qemu-user"
-fi
-cc=${cross}gcc cxx=${cross}g++ nm=${cross}nm
-for command in $cc $cxx $run; do
-    command -v $command >/dev/null || missing=yes
-done
-if [ "${missing:-}" ] || [ ! -f "$headers/stdio.h" ]; then
-    { apt-get update && apt-get install -y --no-install-recommends $packages; } >/dev/null 2>&1 ||
-        { echo "tests/run.sh: needs the packages $packages" >&2; exit 2; }
-fi
+. tools/machine.sh
+need_compilers
 
 if [ -z "$archive" ]; then
     archive=target/staticlib/libcheremysl.a
@@ -101,6 +88,7 @@ done
 both sheets
 both refusals
 both random 200000 20000
+both fuzz 200000 20000
 if [ $search ]; then
     both every 20000 2000
     both large 100 10

@@ -1,0 +1,43 @@
+/*
+ * audit JOB PORT..: is an old sheet sound? Sound: each pad has a port of its own and no two leaders
+ * share a point. Prints the sheet's length and bends, or what is wrong and the record at fault.
+ * The status is 0 for a sound sheet, 1 for any other, 2 if there is nothing to audit.
+ */
+#include <inttypes.h>
+
+#include "given-sheet.h"
+
+static const char *const faults[] = {
+    [CHEREMYSL_BAD_SIZE] = "the file is not 1 to 64 records of 16 bytes",
+    [CHEREMYSL_NO_ROOM] = "the sheet has fewer ports than the job has pads",
+    [CHEREMYSL_BAD_FIELD] = "a field of this record is outside its range",
+    [CHEREMYSL_PORT_NOT_ABOVE] = "this record's port is not above the one before",
+    [CHEREMYSL_NAME_TWICE] = "this record's name stood in an earlier record",
+    [CHEREMYSL_X_TWICE] = "this record's x stood in an earlier record",
+    [CHEREMYSL_BAD_ENTRY] = "this record's port is not there, or was taken by an earlier record",
+    [CHEREMYSL_TOUCHING] = "this record's leader touches that of an earlier record",
+};
+
+static int64_t measure(const struct given_sheet *s, uint32_t length_weight, uint32_t bend_weight) {
+    return cheremysl_measure(s->job, s->job_bytes, length_weight, bend_weight, s->layout,
+                             s->entries);
+}
+
+int main(int argc, char **argv) {
+    struct given_sheet s = read_given_sheet(argc, argv);
+    int64_t length = measure(&s, 1, 0), bends = measure(&s, 0, 1);
+    if (cheremysl_is_refusal(length)) {
+        int number = cheremysl_refusal_number(length), record = cheremysl_refusal_record(length);
+        printf("refused %d record %d", number, record);
+        if (number >= CHEREMYSL_BAD_FIELD) printf(" (pad %d)", pad_name(&s, (size_t)record));
+        if (number < (int)(sizeof faults / sizeof *faults)) printf(": %s", faults[number]);
+        printf("\n");
+        return 1;
+    }
+    if (s.entries > s.job_bytes / CHEREMYSL_RECORD_BYTES) {
+        printf("the sheet has more ports than the job has pads\n");
+        return 1;
+    }
+    printf("sound: length %" PRId64 ", bends %" PRId64 "\n", length, bends);
+    return 0;
+}

@@ -1,0 +1,306 @@
+/*
+ * fuzz [COUNT [SEED]]: bytes are read as a question, any bytes; the library's reply is held to the
+ * plain account, and where that has too many assignments to try, to what every reply must be.
+ *
+ * With LIBFUZZER the bytes come from clang's fuzzer. Else they are made here: at random, or from
+ * inputs that brought something new, with a few bytes changed.
+ */
+#include <stdio.h>
+#include <stdlib.h>
+#include <string.h>
+
+#include "boards.h"
+#include "plain.h"
+#include "trial.h"
+
+#define ENDS 12 /* an outcome beside the refusal numbers */
+
+static size_t records_of(const struct question *q) { return q->job_bytes / 16; }
+
+/* ---- from bytes to a question ---- */
+
+struct bytes {
+    const uint8_t *at, *end;
+};
+
+/* The next bytes as a number below k; zeros follow the last byte. */
+static uint32_t take(struct bytes *b, uint64_t k) {
+    uint64_t value = 0;
+    for (uint64_t range = 1; range < k; range *= 256)
+        value = 256 * value + (b->at < b->end ? *b->at++ : 0);
+    return (uint32_t)(value % k);
+}
+
+static uint32_t take_bits(struct bytes *b) { return take(b, (uint64_t)UINT32_MAX + 1); }
+
+/* An accepted job, unless the scale puts a height too far out. */
+static void take_job(struct bytes *b, struct question *q) {
+    static const int64_t scales[] = {1, 1, 2, 2, 2, 250, 7000, 15625};
+    static const size_t small[] = {1, 2, 3, 3, 4, 4, 5, 6};
+    size_t n = take(b, 8) > 0 ? small[take(b, 8)] : 1 + take(b, 64);
+    int64_t scale = scales[take(b, 8)], port = -(int64_t)take(b, 65), low = port;
+    for (size_t i = 0; i < n; i++) {
+        int64_t name = take(b, 8) > 0 ? 101 + (int64_t)i : 0, x = 64 * take(b, 256) + i + 1;
+        int64_t y = low - 2 + take(b, 2 * n + 4);
+        put_record(q->job, i, name, x, scale * y, scale * port);
+        port += 1 + take(b, 3);
+    }
+    q->job_bytes = 16 * n;
+}
+
+static uint32_t take_weight(struct bytes *b) {
+    static const uint32_t weights[] = {0, 0, 1, 1, 2, 3, 999, 1000};
+    return weights[take(b, 8)];
+}
+
+/* First's layout, or one that some calls of Next lead to. */
+static void best_layout(struct question *q, uint32_t steps) {
+#ifndef NO_SEARCH
+    struct question search = *q;
+    search.call = FIRST;
+    call_library(&search, search.job, &search.list);
+    for (search.call = NEXT; steps > 0; steps--) call_library(&search, search.job, &search.list);
+    q->list = search.list;
+#else
+    (void)steps;
+    any_untouching(q->job, records_of(q), q->list.layout);
+#endif
+}
+
+static void any_order(struct bytes *b, uint16_t *layout, size_t n) {
+    for (size_t i = 0; i < n; i++) {
+        size_t k = take(b, i + 1);
+        layout[i] = layout[k];
+        layout[k] = (uint16_t)i;
+    }
+}
+
+static void take_layout(struct bytes *b, struct question *q) {
+    switch (take(b, 4)) {
+    case 0: any_order(b, q->list.layout, records_of(q)); break;
+    case 1: any_untouching(q->job, records_of(q), q->list.layout); break;
+    default: best_layout(q, take(b, 4));
+    }
+}
+
+static void damage(struct bytes *b, struct question *q) {
+    static const int64_t limits[] = {0,        1,        1000000,   1000001,
+                                     -1000000, -1000001, INT32_MAX, INT32_MIN};
+    size_t n = records_of(q) + (records_of(q) == 0);
+    size_t i = take(b, n), j = take(b, n), field = 4 * take(b, 4);
+    uint16_t *list = q->list.layout, kept = list[i];
+    switch (take(b, 10)) {
+    case 0: q->job[take(b, JOB_ROOM)] = (uint8_t)take(b, 256); break;
+    case 1: q->job_bytes = take(b, JOB_ROOM + 1); break;
+    case 2: q->count = take(b, LIST_ROOM + 1); break;
+    case 3: q->a = take_bits(b); break;
+    case 4: q->b = take_bits(b); break;
+    case 5: list[i] = (uint16_t)take_bits(b); break;
+    case 6: q->a = q->call == DRAW ? (uint32_t)j : 1001; break;
+    case 7: put_number(q->job + 16 * i + field, 4, limits[take(b, 8)]); break;
+    case 8: memcpy(q->job + 16 * i + field, q->job + 16 * j + field, 4); break;
+    default:
+        list[i] = list[j];
+        list[j] = kept;
+    }
+}
+
+/* What the bytes leave open is drawn at random, but the same for the same bytes. */
+static void seed_by(const uint8_t *data, size_t size) {
+    uint64_t hash = 14695981039346656037u;
+    for (size_t k = 0; k < size; k++) hash = (hash ^ data[k]) * 1099511628211u;
+    seed_random(hash);
+}
+
+static void question_of(const uint8_t *data, size_t size, struct question *q) {
+    struct bytes b = {data, data + size};
+    seed_by(data, size);
+    memset(q, 0, sizeof *q);
+    for (size_t k = 0; k < 2 * LIST_ROOM; k++)
+        put_number((uint8_t *)&q->list + 2 * k, 2, below(65536));
+    q->call = take(&b, CALLS);
+    take_job(&b, q);
+    q->count = (q->call == DRAW ? 6 : records_of(q)) + take(&b, 3);
+    q->a = q->call == DRAW ? take(&b, records_of(q)) : take_weight(&b);
+    q->b = q->call == DRAW ? take(&b, records_of(q)) : take_weight(&b);
+    if (q->call == NEXT || q->call == MEASURE) take_layout(&b, q);
+    uint32_t times = take(&b, 8);
+    for (; times > 4; times--) damage(&b, q);
+}
+
+/* ---- replies that are too many to try: jobs of more than PLAIN_PADS pads ---- */
+
+static int64_t measured(const struct question *q, const union list *list) {
+    struct question m = *q;
+    m.call = MEASURE;
+    m.list = *list;
+    return plain_reply(&m).answer;
+}
+
+/* Pads joined to ports in order of height: no assignment has less length, touching or not. */
+static int64_t least_length(const uint8_t *job, size_t n) {
+    int64_t length = 0;
+    for (size_t i = 0; i < n; i++) {
+        int64_t y = get_y(job, i);
+        size_t rank = 0;
+        for (size_t j = 0; j < n; j++) rank += get_y(job, j) < y || (get_y(job, j) == y && j < i);
+        length += get_x(job, i) + llabs(y - get_port(job, rank));
+    }
+    return length;
+}
+
+/* An untouching layout of this total, and the entries from n on kept. */
+static bool is_sheet(const struct question *q, const struct reply *r, int64_t total) {
+    size_t n = records_of(q), rest = (LIST_ROOM - n) * sizeof(uint16_t);
+    return r->answer == total && measured(q, &r->list) == total &&
+           memcmp(r->list.layout + n, q->list.layout + n, rest) == 0;
+}
+
+static bool before(const struct question *q, const union list *a, const union list *b) {
+    return plain_before(q->job, records_of(q), a->layout, b->layout);
+}
+
+/*
+ * A layout found at random is not better than First's, nor as good and before it; nor is it as good
+ * and passed over by Next, whose question held a best layout.
+ */
+static bool passed_over(const struct reply *first, const struct question *next,
+                        const struct reply *reply) {
+    union list found = next->list;
+    any_untouching(next->job, records_of(next), found.layout);
+    int64_t total = measured(next, &found);
+    if (total > first->answer) return false;
+    if (total < first->answer || before(next, &found, &first->list)) return true;
+    bool earlier = reply->answer == -1 || before(next, &found, &reply->list);
+    return reply->answer >= -1 && before(next, &next->list, &found) && earlier;
+}
+
+/* First's sheet, and what Next says of the question's layout, or of a random one for First. */
+static bool large_sheet(const struct question *q) {
+    size_t n = records_of(q);
+    struct question first = *q, next = *q;
+    first.call = FIRST;
+    next.call = NEXT;
+    if (q->call == FIRST) any_untouching(q->job, n, next.list.layout);
+    struct reply f = ask(&first, AT_END), r = ask(&next, AT_START);
+    int64_t given = measured(&next, &next.list);
+    bool ok = is_sheet(&first, &f, f.answer);
+    if (q->b == 0) ok &= f.answer == q->a * least_length(q->job, n);
+    if (given != f.answer)
+        r = keeps(&next, refused(10, 0));
+    else if (r.answer == -1)
+        r = keeps(&next, -1);
+    else
+        ok &= is_sheet(&next, &r, f.answer) && before(q, &next.list, &r.list);
+    for (int k = 0; k < 8; k++) ok &= !passed_over(&f, &next, &r);
+    return check(ok, q, "not a best sheet") && expect(&first, f) && expect(&next, r);
+}
+
+/* ---- the trial ---- */
+
+/* The refusal's number, ENDS, or 0 for an accepted question; -1 if the library failed. */
+static int outcome(const uint8_t *data, size_t size, struct question *q) {
+    question_of(data, size, q);
+    struct reply r = plain_reply(q);
+    if (r.answer == PLAIN_UNKNOWN) return large_sheet(q) ? 0 : -1;
+    if (!expect(q, r)) return -1;
+    return r.answer == -1 ? ENDS : r.answer < 0 ? (int)(r.answer / -65536) : 0;
+}
+
+#ifdef LIBFUZZER
+
+static void at_exit(void) { done(); }
+
+int LLVMFuzzerInitialize(int *argc, char ***argv) {
+    (void)argc;
+    (void)argv;
+    return atexit(at_exit);
+}
+
+int LLVMFuzzerTestOneInput(const uint8_t *data, size_t size) {
+    static struct question q;
+    if (outcome(data, size, &q) >= 0) return 0;
+    fflush(stdout); /* the failure, as check printed it */
+    abort();
+}
+
+#else
+
+#define SIZE 400     /* the longest input */
+#define KEPT 1000    /* more than there are kinds of outcome */
+#define ENOUGH 20000 /* inputs for every refusal to have come */
+
+struct input {
+    uint8_t data[SIZE];
+    size_t size;
+};
+
+static struct input kept[KEPT];
+static size_t kept_count;
+static long came[CALLS][ENDS + 1]; /* how often each outcome came */
+
+/* Keeps an input if no other had its call, its outcome and about its number of records. */
+static void keep_if_new(const struct input *in, const struct question *q, int reason) {
+    static bool seen[CALLS][ENDS + 1][8 + JOB_ROOM / 128 + 1];
+    size_t n = records_of(q);
+    bool *mark = &seen[q->call][reason][n < 8 ? n : 8 + n / 8];
+    came[q->call][reason]++;
+    if (!*mark) kept[kept_count++] = *in;
+    *mark = true;
+}
+
+static void random_input(struct input *in) {
+    in->size = below(below(2) ? 40 : SIZE + 1);
+    for (size_t k = 0; k < in->size; k++) in->data[k] = (uint8_t)below(256);
+}
+
+static void mutate(struct input *in) {
+    const struct input *other = &kept[below((uint32_t)kept_count)];
+    size_t at = below((uint32_t)in->size + 1), from = below((uint32_t)other->size + 1);
+    switch (below(6)) {
+    case 0: in->data[at % SIZE] = (uint8_t)below(256); break;
+    case 1: in->data[at % SIZE] ^= (uint8_t)(1u << below(8)); break;
+    case 2: in->data[at % SIZE] += (uint8_t)(below(9) - 4); break;
+    case 3: in->size = at; break;
+    case 4: in->size = at + below((uint32_t)(SIZE - at) + 1); break;
+    default: /* its beginning, and the end of another */
+        in->size = at + other->size - from < SIZE ? at + other->size - from : SIZE;
+        memcpy(in->data + at, other->data + from, in->size - at);
+    }
+}
+
+static void next_input(struct input *in, uint64_t seed) {
+    seed_random(seed);
+    if (kept_count == 0 || below(8) == 0) {
+        random_input(in);
+        return;
+    }
+    *in = kept[below((uint32_t)kept_count)];
+    for (uint32_t times = 1 + below(4); times > 0; times--) mutate(in);
+}
+
+static void report(long count) {
+    for (int call = 0; call < CALLS; call++) {
+        printf("%-8s %ld accepted, %ld ends\n", call_names[call], came[call][0], came[call][ENDS]);
+        for (const int *number = refusals_of[call]; *number != 0; number++)
+            check(count < ENOUGH || came[call][*number] > 0, NULL, "a refusal that never came");
+    }
+    printf("%ld inputs, %zu of them kept\n", count, kept_count);
+}
+
+int main(int argc, char **argv) {
+    static struct input in;
+    static struct question q;
+    long count = argc > 1 ? atol(argv[1]) : 200000;
+    uint64_t seed = argc > 2 ? strtoull(argv[2], NULL, 10) : 1;
+    begin();
+    for (long k = 0; k < count; k++) {
+        next_input(&in, (seed << 32) + (uint64_t)k);
+        int reason = outcome(in.data, in.size, &q);
+        if (reason >= 0) keep_if_new(&in, &q, reason);
+    }
+    report(count);
+    return done();
+}
+
+#endif

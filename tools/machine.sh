@@ -1,0 +1,30 @@
+# tools/machine.sh, to be sourced: how this machine compiles C and runs programs. The library's archive and its programs
+# are x86-64 code; on another machine C is cross-compiled, and what is x86-64 runs under qemu-user.
+#   cc, cxx, nm  the compilers, and nm for what they make
+#   static       a word for linking; run: words before a program's name. Both empty on x86-64
+#   MACHINE      in the environment: another machine's name, to try its ways on this one
+
+if [ "${MACHINE:-$(uname -m)}" = x86_64 ]; then
+    cross= run= static= headers=/usr/include compilers="gcc g++ libc6-dev"
+else
+    cross=x86_64-linux-gnu- static=-static headers=/usr/x86_64-linux-gnu/include
+    run="qemu-x86_64 -L /usr/x86_64-linux-gnu -E LD_LIBRARY_PATH=/usr/x86_64-linux-gnu/lib"
+    compilers="gcc-x86-64-linux-gnu g++-x86-64-linux-gnu libc6-dev-amd64-cross qemu-user"
+fi
+cc=${cross}gcc cxx=${cross}g++ nm=${cross}nm
+
+# need PACKAGES COMMAND_OR_FILE..: installs the packages by apt-get if one of the others is missing
+need() {
+    packages=$1
+    shift
+    for thing; do
+        { command -v "$thing" || [ -f "$thing" ]; } >/dev/null && continue
+        { apt-get update && apt-get install -y --no-install-recommends $packages; } >/dev/null 2>&1 && return
+        echo "$0: needs the packages $packages" >&2
+        exit 2
+    done
+}
+
+# What is needed to compile C and to run it; to run a program only.
+need_compilers() { need "$compilers" $cc $cxx ${run%% *} $headers/stdio.h; }
+need_run() { [ -z "$run" ] || need "qemu-user libc6-amd64-cross" ${run%% *} /usr/x86_64-linux-gnu/lib/libc.so.6; }
