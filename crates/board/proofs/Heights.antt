@@ -5,15 +5,7 @@ use native.Mathlib.Omega.{arith}
 use lib.Dec.{T}
 use lib.IntN.{ℤ, pos, negsuc, natAbs, _+ℤ_}
 use lib.Signed.{mag, nonNeg}
-use mir.Syntax.{w64}
-use mir.Val.{toZ, ofZ}
-use mir.Facts.{toZ-ofZ}
-use Rattle.numbers.specs.Whole.{up, dn, plus-num}
-use Rattle.board.specs.Plain.{abs-num}
-
--- A number that fits 64 bits is read back from its bits.
-pub read-back : (z : ℤ) → mag z < 2 ^ 63 → toZ w64 (ofZ w64 z) ≡ z
-read-back z h = toZ-ofZ {w = w64} (record { sfits = h })
+use Rattle.numbers.specs.Whole.{up, dn, abs-num, plus-num}
 
 pub record Natural (z : ℤ) : Type 0 where
   pub plain : T (nonNeg z)

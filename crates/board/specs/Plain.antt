@@ -12,9 +12,9 @@ use lib.Dec.{eqb}
 use borrow.Author.Tests.{ne-eqb}
 use lib.ListN.{length, getD, set, length-set, List·getD-eq-default}
 use lib.Seq.{getD-set-same, getD-set-other}
-use lib.IntN.{ℤ, pos, negsuc, natAbs}
+use lib.IntN.{ℤ, natAbs}
 use lib.Signed.{_≤ℤ_, _<ℤ_}
-use Rattle.numbers.specs.Whole.{whole, up, dn, plus-num, apart-num}
+use Rattle.numbers.specs.Whole.{whole, abs-num, plus-num, apart-num}
 use Rattle.paper.specs.Job.{count}
 use Rattle.paper.specs.Leaders.{distance, lengthOf, bendsOf}
 use Rattle.paper.specs.Layouts.{Board, boardOf, weighted}
@@ -61,10 +61,6 @@ raised-le z w a c e d = ((λ h. omega (whole, plus-num z 1000000, plus-num w 100
 
 raised-apart : (z w : ℤ) (a c : ℕ) → Raised z a → Raised w c → (a - c) + (c - a) ≡ distance z w
 raised-apart z w a c e d = omega (whole, apart-num z w, plus-num z 1000000, plus-num w 1000000)
-
-pub abs-num : (z : ℤ) → natAbs z ≡ up z + dn z
-abs-num (pos n) = omega arith
-abs-num (negsuc n) = omega arith
 
 -- A height in its range, raised.
 pub raised-small : (z : ℤ) (a : ℕ) → natAbs z ≤ 1000000 → Raised z a → a ≤ 2000000

@@ -2,7 +2,6 @@
 use mathlib.Core.List.{List}
 use Prim.Native.Nat.{ℕ, _≤_}
 use lib.ListN.{length}
-use Rattle.steps.specs.declared.Answer.{Answer}
 use Rattle.steps.specs.declared.Answer.the-variants.{Total, End, NotBest}
 use Rattle.paper.specs.declared.Answer.the-variants.{Total as Sum, End as Last, Refused}
 use Rattle.paper.specs.Job.{count}

@@ -1,13 +1,13 @@
 -- Whatever calls keep to the two promises, there is exactly one run; it lists every good sheet, each exactly once, in order, and nothing else; and
 -- however far one has asked, no more than top sheets came and the run goes on to its end. Assumes nothing.
-use mathlib.Core.Path.{_≡_, refl, ap}
+use mathlib.Core.Path.{_≡_, refl}
 use mathlib.Core.List.{List, [], _∷_, _++_}
 use Prim.Native.Nat.{ℕ, zero, suc, _+_, _≤_, _<_, suc-le-suc}
 use native.Mathlib.Nat.{not-suc-le-zero, le-of-suc-le-suc, zero-lt-suc}
 use native.Mathlib.Decide.{decLt}
 use native.Mathlib.Omega.{arith}
 use lib.ListN.{length, getD}
-use Rattle.listing.specs.Calls.{Property, Relation, Compared, before, same, after, Order, Earliest, EarliestAfter, Answer, sheet, end, FirstMeets, NextMeets, Calls, Asked, Run, Steps, SoFar, Once, Listing}
+use Rattle.listing.specs.Calls.{Property, Relation, Compared, before, same, after, Order, Earliest, EarliestAfter, Answer, sheet, end, Calls, Asked, Run, Steps, SoFar, Once, Listing}
 
 -- ---- one answer only: what the promises determine
 
@@ -27,18 +27,6 @@ module _ (top : ℕ) (Before : Relation) (Good : Property) (o : Order Before Goo
       go (before h) = absurd (b .least u (a .good) (a .later) h)
       go (same e) = e
       go (after h) = absurd (a .least v (b .good) (b .later) h)
-
-  pub first-unique : (r s : Answer) → FirstMeets Before Good r → FirstMeets Before Good s → r ≡ s
-  first-unique (sheet u) (sheet v) a b = ap sheet (earliest-unique u v a b)
-  first-unique (sheet u) end a b = absurd (b u (a .good))
-  first-unique end (sheet v) a b = absurd (a v (b .good))
-  first-unique end end a b = refl
-
-  pub next-unique : (w : List ℕ) (r s : Answer) → NextMeets Before Good w r → NextMeets Before Good w s → r ≡ s
-  next-unique w (sheet u) (sheet v) a b = ap sheet (after-unique w u v a b)
-  next-unique w (sheet u) end a b = absurd (b u (a .good) (a .later))
-  next-unique w end (sheet v) a b = absurd (a v (b .good) (b .later))
-  next-unique w end end a b = refl
 
 -- ---- the theorem
 

@@ -39,6 +39,11 @@ pub true-iff : {A : Type 0} (a : Bool) → T a ↔ A → (a ≡ true) ↔ A
 true-iff true f = ((λ e. f .0 tt), (λ x. refl))
 true-iff false f = ((λ e. f .0 (subst T (sym e) tt)), (λ x. absurd (f .1 x)))
 
+-- What a test tells can be decided.
+pub dec-iff : {A : Type 0} (a : Bool) → T a ↔ A → Dec A
+dec-iff true f = yes (f .0 tt)
+dec-iff false f = no (f .1)
+
 -- Equal numbers; a smaller whole number.
 pub eqb-iff : (a b : ℕ) → T (eqb a b) ↔ (a ≡ b)
 eqb-iff a b = (eqb→eq a b, λ e. subst (λ (c : ℕ). T (eqb a c)) e (eqb-refl a))

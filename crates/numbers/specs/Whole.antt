@@ -1,7 +1,7 @@
 -- Whole numbers for `omega`, which reads naturals alone. The integer z is up z - dn z; `omega whole` reads z ≤ w, z < w, z = w and |z - w| among the hypotheses and
 -- proves them as goals. Assumes nothing.
 use mathlib.Core.Path.{_≡_, refl, ap}
-use mathlib.Core.Logic.{_≢_, _⊎_, inl, inr}
+use mathlib.Core.Logic.{_⊎_, inl, inr}
 use mathlib.Core.Bool.{Bool, true, false, cond, not}
 use Prim.Native.Nat.{ℕ, zero, suc, _+_, _*_, _-_, _≤_, _<_}
 use native.Mathlib.Decide.{decLe, decLt}
@@ -71,12 +71,13 @@ nlt-num z w n = go (decLt (up z + dn w) (up w + dn z))
     go (yes h) = absurd (n (num-lt z w h))
     go (no h) = omega arith
 
-pub ne-num : (z w : ℤ) → z ≢ w → up z + dn w ≢ up w + dn z
-ne-num z w n h = n (num-eq z w h)
-
 pub ruleset whole = (arith, le-num, num-le, lt-num, num-lt, eq-num, num-eq)
 
--- ---- sums, distances and multiples
+-- ---- sizes, sums, distances and multiples
+
+pub abs-num : (z : ℤ) → natAbs z ≡ up z + dn z
+abs-num (pos n) = omega arith
+abs-num (negsuc n) = omega arith
 
 -- a - b, for two naturals
 pub sub-num : (a b : ℕ) → up (subℕ a b) + b ≡ a + dn (subℕ a b)
@@ -90,18 +91,6 @@ sub-num a b = go (ltb a b) (ltb→lt a b) (nltb→le a b)
 pub plus-num : (z : ℤ) (s : ℕ) → up (z +ℤ pos s) + dn z ≡ up z + s + dn (z +ℤ pos s)
 plus-num (pos a) s = omega arith
 plus-num (negsuc a) s = omega (arith, sub-num s (suc a))
-
-pub add-num : (z w : ℤ) → up (z +ℤ w) + dn z + dn w ≡ up z + up w + dn (z +ℤ w)
-add-num (pos a) (pos b) = omega arith
-add-num (pos a) (negsuc b) = omega (arith, sub-num a (suc b))
-add-num (negsuc a) (pos b) = omega (arith, sub-num b (suc a))
-add-num (negsuc a) (negsuc b) = omega arith
-
-pub minus-num : (z : ℤ) (s : ℕ) → up (z -ℤ pos s) + dn z + s ≡ up z + dn (z -ℤ pos s)
-minus-num (pos a) zero = omega arith
-minus-num (pos a) (suc s) = omega (arith, sub-num a (suc s))
-minus-num (negsuc a) zero = omega (arith, sub-num 0 (suc a))
-minus-num (negsuc a) (suc s) = omega arith
 
 natAbs-sub : (a b : ℕ) → natAbs (subℕ a b) ≡ (a - b) + (b - a)
 natAbs-sub a b = go (ltb a b) (ltb→lt a b) (nltb→le a b)
@@ -145,25 +134,9 @@ le-or-le z w = go (decLe (up z + dn w) (up w + dn z))
     go (yes l) = inl (omega whole)
     go (no l) = inr (omega whole)
 
-pub dec-le : (z w : ℤ) → Dec (z ≤ℤ w)
-dec-le z w = go (decLe (up z + dn w) (up w + dn z))
-  where
-    go : Dec (up z + dn w ≤ up w + dn z) → Dec (z ≤ℤ w)
-    go (yes l) = yes (num-le z w l)
-    go (no l) = no (λ h. l (le-num z w h))
-
 -- ---- upside down
 
 pub neg-nums : (z : ℤ) → (up (negℤ z) ≡ dn z) × (dn (negℤ z) ≡ up z)
 neg-nums (pos zero) = (refl, refl)
 neg-nums (pos (suc n)) = (refl, refl)
 neg-nums (negsuc n) = (refl, refl)
-
-pub apart-neg : (z w : ℤ) → apart (negℤ z) (negℤ w) ≡ apart z w
-apart-neg z w = omega (arith, neg-nums z, neg-nums w, apart-num z w, apart-num (negℤ z) (negℤ w))
-
-pub times-neg : (k : ℕ) (z : ℤ) → negℤ (pos k *ℤ negℤ z) ≡ pos k *ℤ z
-times-neg k z =
-    num-eq (negℤ (pos k *ℤ negℤ z)) (pos k *ℤ z)
-    (rw (neg-nums (pos k *ℤ negℤ z) .0, neg-nums (pos k *ℤ negℤ z) .1, times-up k (negℤ z), times-dn k (negℤ z), times-up k z, times-dn k z, neg-nums z .0, neg-nums z .1)
-    refl)

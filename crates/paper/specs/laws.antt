@@ -21,6 +21,7 @@ pub mod Quarter
 pub mod Drawn
 pub mod Vectors
 -- Existence, by straightening and by trying every assignment:
+pub mod Straighten
 pub mod Existence
 pub mod Trying
 pub mod Rank

@@ -1,7 +1,8 @@
 -- `board::raised` meets its contract. Assumes nothing.
 use native.Mathlib.Omega.{arith}
 use lib.IntN.{pos, _+ℤ_}
-use Rattle.board.proofs.Heights.{read-back, Natural, raised-natural}
+use Rattle.board.proofs.Heights.{Natural, raised-natural}
+use Rattle.numbers.specs.Bits.{read-back}
 use Rattle.board.proofs.raised.Statement.{statement}
 use Rattle.board.proofs.raised.Tie as tie
 

@@ -1,32 +1,22 @@
 -- `calls::draw` meets its contract. Assumes nothing.
-use mathlib.Core.Path.{_≡_, refl, sym, _∙_}
+use mathlib.Core.Path.{refl}
 use native.Mathlib.Omega.{arith}
 use denote.Ref.{now}
 use lib.ListN.{length}
 use borrow.Author.Needs.{needs}
-use Rattle.paper.specs.declared.Refusal.{Refusal}
-use Rattle.paper.specs.declared.Verdict.the-variants.{Sound, Refused}
 use Rattle.paper.specs.Layouts.{boardOf, leader}
-use Rattle.paper.specs.Refusals.{Passed, RefusedBy, drawTrials}
-use Rattle.paper.specs.laws.Trials.{judged-sound, judged-refused}
+use Rattle.paper.specs.Refusals.{drawTrials}
+use Rattle.paper.specs.laws.Trials.{Judged, judged-sound, judged-refused}
 use Rattle.paper.specs.laws.Judged.{draw-judged}
 use Rattle.paper.specs.laws.Drawn.{Draws, drawn-is, coordinates-few, passed-on-sheet, draw-answers}
 use Rattle.paper.specs.laws.Accepted.{draw-accepted}
 use Rattle.calls.proofs.draw.Statement.{statement}
 use Rattle.calls.proofs.draw.Tie as tie
 
--- what the verdict tells
-passed : (c : tie.After-of-draw) → c .of-draw .result ≡ Sound
-    → let a = c .before .before .before .args in Passed (drawTrials (now (a .job)) (a .i) (a .q) (length (now (a .points))))
-passed c e =
-    let a = c .before .before .before .args in
-    judged-sound _ _ (draw-judged (now (a .job)) (a .i) (a .q) (length (now (a .points)))) (sym (c .of-draw .ensures) ∙ e)
-
-refused : (c : tie.After-of-draw) (r : Refusal) → c .of-draw .result ≡ Refused r
-    → let a = c .before .before .before .args in RefusedBy (drawTrials (now (a .job)) (a .i) (a .q) (length (now (a .points)))) r
-refused c r e =
-    let a = c .before .before .before .args in
-    judged-refused _ _ r (draw-judged (now (a .job)) (a .i) (a .q) (length (now (a .points)))) (sym (c .of-draw .ensures) ∙ e)
+-- the verdict is the right one
+judged : (c : tie.After-of-draw)
+    → let a = c .before .before .before .args in Judged (c .of-draw .result) (drawTrials (now (a .job)) (a .i) (a .q) (length (now (a .points))))
+judged c = let a = c .before .before .before .args in rw (c .of-draw .ensures) (draw-judged (now (a .job)) (a .i) (a .q) (length (now (a .points))))
 
 of-draw-requires : tie.Need-of-draw-requires
 of-draw-requires c κs = search needs
@@ -35,13 +25,13 @@ enum-told : tie.Need-enum-told
 enum-told c = search needs
 
 lead-requires : tie.Need-lead-requires
-lead-requires c κs = passed (c .before .before) (c .enum-told .given .1)
+lead-requires c κs = judged-sound _ _ (judged (c .before .before)) (c .enum-told .given .1)
 
 put-requires : tie.Need-put-requires
 put-requires c κs =
     let told = c .before .before in
     let a = told .before .before .before .before .before .args in
-    let p = passed (told .before .before) (told .enum-told .given .1) in
+    let p = judged-sound _ _ (judged (told .before .before)) (told .enum-told .given .1) in
     omega (arith, coordinates-few (c .before .lead .result), draw-accepted (now (a .job)) (a .i) (a .q) (length (now (a .points))) p .1)
 
 enum-known-v : tie.Need-enum-known-v
@@ -55,13 +45,13 @@ returns c =
     let made = c .before .before .before .before in
     let told = made .before in
     let a = told .before .before .before .before .before .args in
-    let p = passed (told .before .before) (told .enum-told .given .1) in
+    let p = judged-sound _ _ (judged (told .before .before)) (told .enum-told .given .1) in
     let l = leader (boardOf (now (a .job))) (a .i) (a .q) in
     let is : Draws l (made .lead .result) = rw (made .lead .ensures) (drawn-is l (passed-on-sheet (now (a .job)) (a .i) (a .q) (length (now (a .points))) p)) in
     rw (c .before .before .put .ensures) (draw-answers (now (a .job)) (a .i) (a .q) (now (a .points)) (made .lead .result) p is)
 
 returns-2 : tie.Need-returns-2
-returns-2 c = (refused (c .before .before .before) _ (c .before .v .given .1), refl)
+returns-2 c = (judged-refused _ _ _ (judged (c .before .before .before)) (c .before .v .given .1), refl)
 
 pub draw-spec : {M : Type 1} → statement M
 draw-spec =

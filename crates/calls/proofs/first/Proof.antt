@@ -1,23 +1,19 @@
 -- `calls::first` meets its contract. Assumes nothing.
-use mathlib.Core.Path.{_≡_, refl, sym, _∙_}
+use mathlib.Core.Path.{refl}
 use denote.Ref.{now}
 use borrow.Author.Needs.{needs}
-use Rattle.paper.specs.declared.Refusal.{Refusal}
-use Rattle.paper.specs.declared.Verdict.the-variants.{Sound, Refused}
 use lib.ListN.{length}
-use Rattle.paper.specs.Refusals.{Passed, RefusedBy, firstTrials}
-use Rattle.paper.specs.laws.Trials.{judged-sound, judged-refused}
+use Rattle.paper.specs.Refusals.{firstTrials}
+use Rattle.paper.specs.laws.Trials.{Judged, judged-sound, judged-refused}
 use Rattle.paper.specs.laws.Judged.{first-judged}
 use Rattle.calls.proofs.Facts.{first-facts, first-answers}
 use Rattle.calls.proofs.first.Statement.{statement}
 use Rattle.calls.proofs.first.Tie as tie
 
--- what the verdict tells
-passed : (c : tie.After-of-first) → c .of-first .result ≡ Sound → let a = c .before .before .before .args in Passed (firstTrials (now (a .job)) (a .lw) (a .bw) (length (now (a .list))))
-passed c e = let a = c .before .before .before .args in judged-sound _ _ (first-judged (now (a .job)) (a .lw) (a .bw) (length (now (a .list)))) (sym (c .of-first .ensures) ∙ e)
-
-refused : (c : tie.After-of-first) (r : Refusal) → c .of-first .result ≡ Refused r → let a = c .before .before .before .args in RefusedBy (firstTrials (now (a .job)) (a .lw) (a .bw) (length (now (a .list)))) r
-refused c r e = let a = c .before .before .before .args in judged-refused _ _ r (first-judged (now (a .job)) (a .lw) (a .bw) (length (now (a .list)))) (sym (c .of-first .ensures) ∙ e)
+-- the verdict is the right one
+judged : (c : tie.After-of-first)
+    → let a = c .before .before .before .args in Judged (c .of-first .result) (firstTrials (now (a .job)) (a .lw) (a .bw) (length (now (a .list))))
+judged c = let a = c .before .before .before .args in rw (c .of-first .ensures) (first-judged (now (a .job)) (a .lw) (a .bw) (length (now (a .list))))
 
 of-first-requires : tie.Need-of-first-requires
 of-first-requires c κs = search needs
@@ -29,7 +25,7 @@ first-on-requires : tie.Need-first-on-requires
 first-on-requires c κs =
     let told = c .before in
     let a = told .before .before .before .before .before .args in
-    first-facts (now (a .job)) (a .lw) (a .bw) (now (a .list)) (passed (told .before .before) (told .enum-told .given .1))
+    first-facts (now (a .job)) (a .lw) (a .bw) (now (a .list)) (judged-sound _ _ (judged (told .before .before)) (told .enum-told .given .1))
 
 enum-known-v : tie.Need-enum-known-v
 enum-known-v c = search needs
@@ -43,10 +39,10 @@ returns c =
     let told = d .before .before in
     let a = told .before .before .before .before .before .args in
     first-answers (now (a .job)) (a .lw) (a .bw) (now (a .list)) (d .first-on .last .1 .1 .1 .0) (d .first-on .result)
-    (passed (told .before .before) (told .enum-told .given .1)) (d .first-on .ensures)
+    (judged-sound _ _ (judged (told .before .before)) (told .enum-told .given .1)) (d .first-on .ensures)
 
 returns-2 : tie.Need-returns-2
-returns-2 c = (refused (c .before .before .before) _ (c .before .v .given .1), refl)
+returns-2 c = (judged-refused _ _ _ (judged (c .before .before .before)) (c .before .v .given .1), refl)
 
 pub first-spec : {M : Type 1} → statement M
 first-spec =

@@ -3,7 +3,7 @@ use Prim.Native.Nat.{_≤_, _<_}
 use denote.Ref.{now}
 use native.Mathlib.Omega.{arith}
 use mir.Facts.{toZ-ofZ}
-use borrow.Author.Needs.{needs, sfits-of}
+use borrow.Author.Needs.{sfits-of}
 use Rattle.paper.specs.Job.{count}
 use Rattle.paper.specs.laws.Accepted.{Accepted, draw-accepted}
 use Rattle.paper.specs.laws.Drawn.{passed-on-sheet}

@@ -1,22 +1,18 @@
 -- `calls::next` meets its contract. Assumes nothing.
-use mathlib.Core.Path.{_≡_, refl, sym, _∙_}
+use mathlib.Core.Path.{refl}
 use denote.Ref.{now}
 use borrow.Author.Needs.{needs}
-use Rattle.paper.specs.declared.Refusal.{Refusal}
-use Rattle.paper.specs.declared.Verdict.the-variants.{Sound, Refused}
-use Rattle.paper.specs.Refusals.{Passed, RefusedBy, measureTrials}
-use Rattle.paper.specs.laws.Trials.{judged-sound, judged-refused}
+use Rattle.paper.specs.Refusals.{measureTrials}
+use Rattle.paper.specs.laws.Trials.{Judged, judged-sound, judged-refused}
 use Rattle.paper.specs.laws.Judged.{measure-judged}
 use Rattle.paper.specs.laws.Accepted.{measure-refused}
 use Rattle.calls.proofs.next.Statement.{statement}
 use Rattle.calls.proofs.next.Tie as tie
 
--- what the verdict tells
-passed : (c : tie.After-of-measure) → c .of-measure .result ≡ Sound → let a = c .before .before .before .before .args in Passed (measureTrials (now (a .job)) (a .lw) (a .bw) (now (a .list)))
-passed c e = let a = c .before .before .before .before .args in judged-sound _ _ (measure-judged (now (a .job)) (a .lw) (a .bw) (now (a .list))) (sym (c .of-measure .ensures) ∙ e)
-
-refused : (c : tie.After-of-measure) (r : Refusal) → c .of-measure .result ≡ Refused r → let a = c .before .before .before .before .args in RefusedBy (measureTrials (now (a .job)) (a .lw) (a .bw) (now (a .list))) r
-refused c r e = let a = c .before .before .before .before .args in judged-refused _ _ r (measure-judged (now (a .job)) (a .lw) (a .bw) (now (a .list))) (sym (c .of-measure .ensures) ∙ e)
+-- the verdict is the right one
+judged : (c : tie.After-of-measure)
+    → let a = c .before .before .before .before .args in Judged (c .of-measure .result) (measureTrials (now (a .job)) (a .lw) (a .bw) (now (a .list)))
+judged c = let a = c .before .before .before .before .args in rw (c .of-measure .ensures) (measure-judged (now (a .job)) (a .lw) (a .bw) (now (a .list)))
 
 of-measure-requires : tie.Need-of-measure-requires
 of-measure-requires c κs = search needs
@@ -25,7 +21,7 @@ enum-told : tie.Need-enum-told
 enum-told c = search needs
 
 step-requires : tie.Need-step-requires
-step-requires c κs = let told = c .before in passed (told .before .before) (told .enum-told .given .1)
+step-requires c κs = let told = c .before in judged-sound _ _ (judged (told .before .before)) (told .enum-told .given .1)
 
 enum-known-v : tie.Need-enum-known-v
 enum-known-v c = search needs
@@ -42,7 +38,7 @@ same-length-2 c = search needs
 returns-2 : tie.Need-returns-2
 returns-2 c =
     let a = c .before .before .before .before .before .before .before .args in
-    (measure-refused (now (a .job)) (a .lw) (a .bw) (now (a .list)) _ (refused (c .before .before .before) _ (c .before .v .given .1)), refl)
+    (measure-refused (now (a .job)) (a .lw) (a .bw) (now (a .list)) _ (judged-refused _ _ _ (judged (c .before .before .before)) (c .before .v .given .1)), refl)
 
 pub next-spec : {M : Type 1} → statement M
 next-spec =

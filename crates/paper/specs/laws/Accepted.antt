@@ -1,6 +1,6 @@
 -- What a call may go by once its trials are passed.
-use mathlib.Core.Path.{_≡_, refl}
-use mathlib.Core.Logic.{_≢_, _⊎_, inl, inr, Dec·not-not}
+use mathlib.Core.Path.{_≡_, refl, ap}
+use mathlib.Core.Logic.{_≢_, inl, inr, ⊎-elim, Dec·not-not}
 use mathlib.Core.List.{List, [], _∷_}
 use Prim.Native.Nat.{ℕ, zero, suc, _*_, _%_, _-_, _≤_, _<_}
 use native.Mathlib.Nat.{lt-of-not-le, le-of-suc-le-suc, not-suc-le-zero, eq-or-lt-of-le}
@@ -8,7 +8,6 @@ use native.Mathlib.Decide.{ℕ-discrete}
 use native.Mathlib.Omega.{arith}
 use lib.ListN.{length}
 use lib.IntN.{natAbs}
-use lib.Signed.{_<ℤ_}
 use Rattle.numbers.specs.Whole.{whole, nle-num}
 use Rattle.paper.specs.declared.Refusal.{Refusal}
 use Rattle.paper.specs.Job.{count, reservedOf, xOf, yOf, portOf}
@@ -42,16 +41,13 @@ few-records job size = let long = not-lt (λ l. size (inr (inr l))) in omega ari
 -- 5 is passed: port heights rise.
 pub passed-rising : (job : List ℕ) → Passed (jobTrials job) → Rising (boardOf job)
 passed-rising job passed a zero l k = absurd (not-suc-le-zero l)
-passed-rising job passed a (suc c) l k = go (passed-rising job passed a c) (eq-or-lt-of-le (le-of-suc-le-suc l))
-  where
-    above : portOf job c <ℤ portOf job (suc c)
-    above =
-        let e : suc c - 1 ≡ c = omega arith in
-        omega (whole, nle-num (portOf job (suc c)) (portOf job c) (λ h. passed .1 .0 (suc c) k (omega arith, rw e h)))
-
-    go : (a < c → c < count job → portOf job a <ℤ portOf job c) → (a ≡ c) ⊎ (a < c) → portOf job a <ℤ portOf job (suc c)
-    go before (inl e) = rw e above
-    go before (inr h) = omega (whole, before h (omega arith), above)
+passed-rising job passed a (suc c) l k =
+    let e : suc c - 1 ≡ c = omega arith in
+    let above = nle-num (portOf job (suc c)) (portOf job c) (λ h. passed .1 .0 (suc c) k (omega arith, rw e h)) in
+    ⊎-elim
+    (λ d. omega (whole, above, ap (portOf job) d))
+    (λ h. omega (whole, above, passed-rising job passed a c h (omega arith)))
+    (eq-or-lt-of-le (le-of-suc-le-suc l))
 
 job-accepted : (job : List ℕ) → ¬ BadSize job → Passed (jobTrials job) → Accepted job
 job-accepted job size passed =
@@ -115,13 +111,7 @@ module _ (job : List ℕ) (lw bw : ℕ) (list : List ℕ) where
       entries i l (inl h) = omega (arith, u .layout .inside i l)
       entries i l (inr (j, k, e)) = u .layout .own i j k l e
 
-  -- Next's are exactly if Measure's are and the list holds a best layout;
-  pub next-accepted : Dec (Best (boardOf job) (weighted (boardOf job) lw bw) (held list)) → Passed (nextTrials job lw bw list)
-      → Passed (measureTrials job lw bw list) × Best (boardOf job) (weighted (boardOf job) lw bw) (held list)
-  next-accepted d p =
-      let (passed, (c10, _)) = append-passed (measureTrials job lw bw list) (bestTrial (boardOf job) (weighted (boardOf job) lw bw) list ∷ []) p in
-      (passed, Dec·not-not d .0 (λ n. c10 0 (omega arith) (measure-accepted passed .1, n)))
-
+  -- Next's are if Measure's are and the list holds a best layout;
   pub best-passed : Passed (measureTrials job lw bw list) → Best (boardOf job) (weighted (boardOf job) lw bw) (held list) → Passed (nextTrials job lw bw list)
   best-passed p b = passed-append (measureTrials job lw bw list) (bestTrial (boardOf job) (weighted (boardOf job) lw bw) list ∷ []) p ((λ i l (u, n). n b), tt)
 

@@ -1,5 +1,5 @@
 -- Layouts on a board: which ports count, 01's criterion for all pairs of pads, and each pad's own port.
-use mathlib.Core.Path.{_≡_, refl, ap}
+use mathlib.Core.Path.{_≡_, refl, sym, ap}
 use mathlib.Core.Logic.{_≢_, _⊎_, inl, inr, ⊎-elim, _↔_}
 use Prim.Native.Nat.{ℕ, zero, suc, _<_}
 use native.Mathlib.Decide.{decLt, ℕ-discrete}
@@ -13,11 +13,7 @@ use Rattle.paper.specs.laws.Totals.{sum-same, total-is}
 -- ---- only the ports of the board's pads count
 
 module _ (b : Board) (f g : ℕ → ℕ) (same : Same b f g) where
-  -- Which pads touch depends only on the pads' ports;
-  pub touching-same : (i j : ℕ) → i < b .pads → j < b .pads → Touching b f i j → Touching b g i j
-  touching-same i j k l t = rw (← same i k, ← same j l) t
-
-  -- so does being a layout,
+  -- Being a layout depends only on the pads' ports,
   pub layout-same : Layout b f → Layout b g
   layout-same s = record {
     inside = λ i l. omega (arith, s .inside i l, same i l);
@@ -89,14 +85,18 @@ untouching-of b f inside apart = record {
   apart = apart;
 }
 
--- In a layout only one pad has a given port.
-pub own-pad : (b : Board) (f : ℕ → ℕ) → Layout b f → (i j : ℕ) → i < b .pads → j < b .pads → f i ≡ f j → i ≡ j
-own-pad b f s i j k l e = go (decLt j i) (decLt i j)
+-- Of n different numbers each stands in one place.
+pub own-number : (n : ℕ) (f : ℕ → ℕ) → ((i j : ℕ) → j < i → i < n → f i ≢ f j) → (i j : ℕ) → i < n → j < n → f i ≡ f j → i ≡ j
+own-number n f own i j k l e = go (decLt j i) (decLt i j)
   where
     go : Dec (j < i) → Dec (i < j) → i ≡ j
-    go (yes h) d = absurd (s .own i j h k e)
-    go (no h) (yes d) = absurd (omega (arith, s .own j i d l))
+    go (yes h) d = absurd (own i j h k e)
+    go (no h) (yes d) = absurd (own j i d l (sym e))
     go (no h) (no d) = omega arith
+
+-- In a layout only one pad has a given port.
+pub own-pad : (b : Board) (f : ℕ → ℕ) → Layout b f → (i j : ℕ) → i < b .pads → j < b .pads → f i ≡ f j → i ≡ j
+own-pad b f s = own-number (b .pads) f (s .own)
 
 -- f, with n changed to f n
 pick : {A : Type 0} → Dec A → ℕ → ℕ → ℕ

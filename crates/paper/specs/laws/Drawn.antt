@@ -109,21 +109,6 @@ bent-one l p q =
     let port = point-one 0 (l .port) (p .port) (q .port) in
     λ i. record { pad = pad i; bend = bend i; port = port i }
 
--- No leader is drawn straight and bent.
-pub not-straight-and-bent : (l : Leader) {d : Two} {e : Three} → DrawnStraight l d → DrawnBent l e → ⊥
-not-straight-and-bent l p q = q .bends (p .level)
-
--- Two answers that draw one leader are one.
-pub drawn-one : (l : Leader) (d e : Drawn) → Draws l d → Draws l e → d ≡ e
-drawn-one l (Straight d) (Straight e) p q = ap Straight (straight-one l p q)
-drawn-one l (Straight d) (Bent e) p q = absurd (not-straight-and-bent l p q)
-drawn-one l (Bent d) (Straight e) p q = absurd (not-straight-and-bent l q p)
-drawn-one l (Bent d) (Bent e) p q = ap Bent (bent-one l p q)
-
--- What draws a leader is `leaderDrawn`.
-pub drawn-only : (l : Leader) (d : Drawn) → OnSheet l → Draws l d → d ≡ leaderDrawn l
-drawn-only l d h p = drawn-one l d (leaderDrawn l) p (drawn-is l h)
-
 -- ---- the call Draw
 
 -- A Draw that passes its trials has a leader within the ranges.

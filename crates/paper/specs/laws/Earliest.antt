@@ -2,33 +2,27 @@
 use mathlib.Core.Path.{_≡_, ap, _∙_}
 use mathlib.Core.Logic.{_⊎_, inl, inr}
 use mathlib.Core.List.{List, _++_}
-use Prim.Native.Nat.{ℕ, zero, suc, _+_, _-_, _<_, _≤_}
+use Prim.Native.Nat.{ℕ, _+_, _-_, _<_, _≤_}
 use native.Mathlib.Omega.{arith}
 use lib.ListN.{length, getD, drop, length-append, length-drop, List·getD-append}
 use lib.Seq.{getD-append-add, getD-drop}
 use Rattle.paper.specs.Layouts.{Board, Untouching, total, Best, Before, FirstBest, NextBest, LastBest}
 use Rattle.paper.specs.Promises.{Kept}
 use Rattle.paper.specs.laws.Proper.{Differ}
+use Rattle.paper.specs.laws.Straighten.{descend}
 use Rattle.paper.specs.laws.Rank.{rank, rank-rises}
 use Rattle.paper.specs.laws.Trying.{row, row-length, row-at, Tells, laterTest}
 use Rattle.paper.specs.laws.Trying.{some-word-dec, some-less-dec, untouching-tells, cheaper-tells, before-tells, best-tells, later-tells}
 
 -- From a function with the property P one comes to a least one, if a lesser one can be found or denied, and a number falls from each to a lesser one.
-module _ {P : (ℕ → ℕ) → Type 0} {Less : (ℕ → ℕ) → (ℕ → ℕ) → Type 0} (size : (ℕ → ℕ) → ℕ)
-    (falls : (g f : ℕ → ℕ) → P g → Less g f → size g < size f) (try : (f : ℕ → ℕ) → Dec ((g : ℕ → ℕ) × (Less g f × P g))) where
-  least-within : (k : ℕ) (f : ℕ → ℕ) → P f → size f ≤ k → (g : ℕ → ℕ) × P g × ((h : ℕ → ℕ) → P h → ¬ Less h g)
-  least-within zero f p l = (f, p, λ h q r. omega (arith, falls h f q r))
-  least-within (suc k) f p l = go (try f) (least-within k)
-    where
-      Least : Type 0
-      Least = (g : ℕ → ℕ) × P g × ((h : ℕ → ℕ) → P h → ¬ Less h g)
-
-      go : Dec ((g : ℕ → ℕ) × (Less g f × P g)) → ((g : ℕ → ℕ) → P g → size g ≤ k → Least) → Least
-      go (yes (g, (r, q))) ih = ih g q (omega (arith, falls g f q r))
-      go (no n) ih = (f, p, λ h q r. n (h, (r, q)))
-
-  least-exists : (f : ℕ → ℕ) → P f → (g : ℕ → ℕ) × P g × ((h : ℕ → ℕ) → P h → ¬ Less h g)
-  least-exists f p = least-within (size f) f p (omega arith)
+least-exists : {P : (ℕ → ℕ) → Type 0} {Less : (ℕ → ℕ) → (ℕ → ℕ) → Type 0} (size : (ℕ → ℕ) → ℕ)
+    → ((g f : ℕ → ℕ) → P g → Less g f → size g < size f) → ((f : ℕ → ℕ) → Dec ((g : ℕ → ℕ) × (Less g f × P g)))
+    → (f : ℕ → ℕ) → P f → (g : ℕ → ℕ) × P g × ((h : ℕ → ℕ) → P h → ¬ Less h g)
+least-exists {P} {Less} size falls try = descend size (λ f p. go f (try f))
+  where
+    go : (f : ℕ → ℕ) → Dec ((g : ℕ → ℕ) × (Less g f × P g)) → ((h : ℕ → ℕ) → P h → ¬ Less h f) ⊎ ((g : ℕ → ℕ) × P g × (size g < size f))
+    go f (yes (g, (r, q))) = inr (g, q, falls g f q r)
+    go f (no n) = inl (λ h q r. n (h, (r, q)))
 
 module _ (b : Board) (cost : ℕ → ℕ → ℕ) (differ : Differ b) where
   -- Where there is an untouching layout there is a best one,

@@ -1,39 +1,64 @@
 -- Every accepted job has an untouching layout; and leaders that do not touch need not be longer.
-use mathlib.Core.Path.{_≡_, refl}
-use Prim.Native.Nat.{ℕ, zero, suc, _≤_, _<_}
+use mathlib.Core.Path.{_≡_}
+use mathlib.Core.Logic.{_≢_, _⊎_, inl, inr}
+use Prim.Native.Nat.{ℕ, _+_, _≤_, _<_}
+use native.Mathlib.Decide.{decLt}
 use native.Mathlib.Omega.{arith}
-use Rattle.straight.specs.Layouts as straight
-use Rattle.straight.specs.Heights.{straightening-costs-nothing, untouching-exists as free-exists}
-use Rattle.paper.specs.Leaders.{Between, lengthOf}
+use lib.IntN.{ℤ}
+use Rattle.numbers.specs.Whole.{whole, apart-num}
+use Rattle.numbers.specs.Tests.{dec-iff}
+use Rattle.paper.specs.Leaders.{Between, distance, lengthOf}
 use Rattle.paper.specs.Layouts.{Board, leader, Layout, Untouching, sum}
 use Rattle.paper.specs.laws.Proper.{Proper}
+use Rattle.paper.specs.laws.Tests.{between}
+use Rattle.paper.specs.laws.Touching.{between-iff}
 use Rattle.paper.specs.laws.Boards.{untouched-iff, untouching-of}
+use Rattle.paper.specs.laws.Straighten.{Gain, Uncross, straighten}
 
--- The theory's sum is the paper's.
-sum-is : (n : ℕ) (c : ℕ → ℕ) → straight.sum n c ≡ sum n c
-unfolding sum straight.sum
-sum-is zero c = refl
-sum-is (suc n) c = omega (arith, sum-is n c)
+-- The way from a to c is no longer than that by m; and as long, where m lies between them.
+triangle : (a m c : ℤ) → distance a c ≤ distance a m + distance m c
+triangle a m c = omega (arith, apart-num a c, apart-num a m, apart-num m c)
+
+on-the-way : (a m c : ℤ) → Between m a c → distance a c ≡ distance a m + distance m c
+on-the-way a m c (inl t) = omega (whole, apart-num a c, apart-num a m, apart-num m c)
+on-the-way a m c (inr t) = omega (whole, apart-num a c, apart-num a m, apart-num m c)
 
 module _ (b : Board) (proper : Proper b) where
-  -- By 01's criterion, ports inside the board on which no leader touches that of a pad further left are an untouching layout.
-  untouching : (g : ℕ → ℕ) → straight.Layout (b .pads) (λ q. q < b .ports) g
-      → straight.Free (b .pads) (b .x) (λ q j r. ¬ Between (b .port q) (b .y j) (b .port r)) g → Untouching b g
-  untouching g s free = untouching-of b g (s .inside) (untouched-iff b g (proper .differ) .1 (λ i j k l. free i k j l))
+  -- Two ports are at two heights.
+  away : (a q : ℕ) → a < b .ports → q < b .ports → a ≢ q → 0 < distance (b .port a) (b .port q)
+  away a q k l ne = go (decLt a q)
+    where
+      go : Dec (a < q) → 0 < distance (b .port a) (b .port q)
+      go (yes m) = omega (whole, apart-num (b .port a) (b .port q), proper .rising a q m l)
+      go (no m) = omega (whole, apart-num (b .port a) (b .port q), proper .rising q a (omega arith) k)
 
-  -- THEOREM: an untouching layout exists.
-  pub untouching-exists : (f : ℕ → ℕ) × Untouching b f
-  untouching-exists =
-      let s = free-exists (b .pads) (b .ports) (b .x) (b .y) (b .port) (proper .rising) (proper .enough) in
-      (s .0, untouching (s .0) (s .1) (s .2))
+  -- The length of the leader of pad i to port q; and by 01's criterion a leader on port a does not touch that of pad j, further left, on port q.
+  abbrev long : ℕ → ℕ → ℕ
+  long i q = lengthOf (leader b i q)
+
+  abbrev Clear : ℕ → ℕ → ℕ → Type 0
+  Clear a j q = ¬ Between (b .port a) (b .y j) (b .port q)
+
+  -- Where a leader touches one further left, the heights of the pad and the two ports stand in a row, and a swap gains what lies between the ports.
+  uncross : Uncross b long Clear
+  unfolding lengthOf
+  uncross a j q k l ne = go (dec-iff (between (b .port a) (b .y j) (b .port q)) (between-iff (b .port a) (b .y j) (b .port q)))
+    where
+      go : Dec (Between (b .port a) (b .y j) (b .port q)) → Clear a j q ⊎ Gain long a j q
+      go (no t) = inl t
+      go (yes t) =
+          let w = on-the-way (b .y j) (b .port a) (b .port q) t in
+          inr (omega (arith, w, away a q k l ne), λ i. omega (arith, w, triangle (b .y i) (b .port a) (b .port q)))
 
   -- THEOREM: for every layout, touching or not, there is an untouching one whose leaders together are no longer.
   pub straight-total : (f : ℕ → ℕ) → Layout b f
       → (g : ℕ → ℕ) × Untouching b g × (sum (b .pads) (λ i. lengthOf (leader b i (g i))) ≤ sum (b .pads) (λ i. lengthOf (leader b i (f i))))
-  unfolding lengthOf
   straight-total f l =
-      let s = straightening-costs-nothing (b .pads) (b .ports) (b .x) (b .y) (b .port) (proper .rising) f (record { inside = l .inside; own = l .own }) in (
-        s .0,
-        untouching (s .0) (s .1) (s .2),
-        omega (arith, s .3, sum-is (b .pads) (λ i. lengthOf (leader b i (s .0 i))), sum-is (b .pads) (λ i. lengthOf (leader b i (f i)))),
-      )
+      let (g, s, free, less) = straighten b long Clear uncross f l in
+      (g, untouching-of b g (s .inside) (untouched-iff b g (proper .differ) .1 free), less)
+
+  -- THEOREM: an untouching layout exists. It is a straightening of 'pad i on port i'.
+  pub untouching-exists : (f : ℕ → ℕ) × Untouching b f
+  untouching-exists =
+      let s = straight-total (λ i. i) (record { inside = λ i l. omega (arith, proper .enough); own = omega arith }) in
+      (s .0, s .1)

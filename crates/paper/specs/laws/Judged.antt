@@ -145,9 +145,6 @@ draw-tried job i q room =
     tried-none))))
 
 -- THEOREM: for every input, the run of a call's findings gives the right verdict: the refusal that 01 says, or none.
-pub job-judged : (job : List ℕ) → Judged (run Sound (jobFindings job)) (jobTrials job)
-job-judged job = job-tried job .judged
-
 pub first-judged : (job : List ℕ) (lw bw room : ℕ) → Judged (run Sound (firstFindings job lw bw room)) (firstTrials job lw bw room)
 first-judged job lw bw room = first-tried job lw bw room .judged
 

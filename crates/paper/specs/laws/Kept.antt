@@ -1,5 +1,5 @@
 -- Lists that keep their entries from n on.
-use mathlib.Core.Path.{_≡_, refl, sym, _∙_}
+use mathlib.Core.Path.{_≡_, sym, _∙_}
 use mathlib.Core.List.{List}
 use Prim.Native.Nat.{ℕ, _<_}
 use native.Mathlib.Decide.{decLt}
@@ -7,9 +7,6 @@ use native.Mathlib.Omega.{arith}
 use lib.ListN.{getD}
 use lib.Seq.{ext-getD}
 use Rattle.paper.specs.Promises.{Kept}
-
-pub kept-self : (n : ℕ) (l : List ℕ) → Kept n l l
-kept-self n l = record { long = refl; rest = λ k h. refl }
 
 pub kept-trans : (n : ℕ) (l m o : List ℕ) → Kept n l m → Kept n m o → Kept n l o
 kept-trans n l m o a b = record { long = b .long ∙ a .long; rest = λ k h. b .rest k h ∙ a .rest k h }

@@ -132,10 +132,6 @@ pub end-told : (job : List ℕ) (lw bw : ℕ) (before after : List ℕ)
     → NextPromise job lw bw before (negsuc 0) after → NextAnswers job lw bw before End after
 end-told job lw bw before after = next-told job lw bw before End after tt
 
-pub measure-total-told : (job : List ℕ) (lw bw : ℕ) (list : List ℕ) (t : ℕ)
-    → MeasurePromise job lw bw list (pos t) → MeasureAnswers job lw bw list (Total t)
-measure-total-told job lw bw list t = measure-told job lw bw list (Total t) tt
-
 -- ---- Draw
 
 module _ (job : List ℕ) (i q : ℕ) (before after : List Float) where

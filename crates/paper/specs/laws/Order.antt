@@ -6,7 +6,7 @@ use native.Mathlib.Decide.{decLt, ℕ-discrete}
 use native.Mathlib.Omega.{arith}
 use Rattle.paper.specs.Layouts.{Board, Before, FirstBest, NextBest, LastBest}
 use Rattle.paper.specs.laws.Proper.{Differ, Same}
-use Rattle.paper.specs.laws.Boards.{best-same}
+use Rattle.paper.specs.laws.Boards.{own-number, best-same}
 
 -- No layout comes before itself.
 pub before-irrefl : (b : Board) (f : ℕ → ℕ) → ¬ Before b f f
@@ -25,12 +25,7 @@ before-same b f g f′ g′ d e h =
 module _ (b : Board) (differ : Differ b) where
   -- pads of one x are one pad
   one-pad : (i j : ℕ) → i < b .pads → j < b .pads → b .x i ≡ b .x j → i ≡ j
-  one-pad i j h k e = go (decLt j i) (decLt i j)
-    where
-      go : Dec (j < i) → Dec (i < j) → i ≡ j
-      go (yes l) d = absurd (differ i j l h e)
-      go (no l) (yes d) = absurd (differ j i d k (sym e))
-      go (no l) (no d) = omega arith
+  one-pad = own-number (b .pads) (b .x) differ
 
   -- What comes before a layout comes before all that this one is before.
   pub before-trans : (f g h : ℕ → ℕ) → Before b f g → Before b g h → Before b f h
@@ -61,10 +56,6 @@ module _ (b : Board) (differ : Differ b) where
             alike = λ j k m. s .alike j k (omega arith) ∙ t .alike j k m;
           }
 
-  -- Of two layouts at most one comes before the other.
-  pub before-asym : (f g : ℕ → ℕ) → Before b f g → ¬ Before b g f
-  before-asym f g h k = before-irrefl b f (before-trans f g f h k)
-
 -- The rightmost of the first n pads at which two layouts differ; or they differ at none.
 record Rightmost (x f g : ℕ → ℕ) (n : ℕ) : Type 0 where
   pad : ℕ
@@ -72,7 +63,8 @@ record Rightmost (x f g : ℕ → ℕ) (n : ℕ) : Type 0 where
   differ : f pad ≢ g pad
   alike : (j : ℕ) → j < n → x pad < x j → f j ≡ g j
 
-below-suc : {P : ℕ → Type 0} (n : ℕ) → ((i : ℕ) → i < n → P i) → P n → (i : ℕ) → i < suc n → P i
+-- What holds of all numbers below n and of n holds of all below n + 1.
+pub below-suc : {P : ℕ → Type 0} (n : ℕ) → ((i : ℕ) → i < n → P i) → P n → (i : ℕ) → i < suc n → P i
 below-suc {P} n h k i l = go (decLt i n)
   where
     go : Dec (i < n) → P i

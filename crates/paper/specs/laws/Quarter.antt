@@ -2,12 +2,12 @@
 -- (`quarter-only`), and it tells the number (`quarter-injective`). Assumes nothing.
 use mathlib.Core.Path.{_≡_, refl, sym, ap, _∙_, subst}
 use Prim.Native.Nat.{ℕ, _*_, _^_, _≤_, _<_}
-use native.Mathlib.Nat.{lt-of-lt-of-le, mul-assoc, mul-one, eq-of-mul-eq-mul-right, zero-lt-suc, zero-mul, mul-pos, lt-irrefl, suc-inj}
-use mathlib.Core.Bool.{true, false, true≢false, false≢true}
+use native.Mathlib.Nat.{lt-of-lt-of-le, mul-assoc, mul-one, zero-lt-suc, zero-mul, mul-pos, lt-irrefl}
+use mathlib.Core.Bool.{true, false, true≢false}
 use lib.Dec.{lit<, lit≤}
 use lib.Pow.{shl-lt}
 use lib.IntN.{ℤ, pos, negsuc, natAbs, negℤ}
-use lib.Ieee.{Float, fin, binary32, up, down, round, ofInt, mul, neg}
+use lib.Ieee.{Float, fin, binary32, up, round, ofInt, mul, neg}
 use lib.Ieee.Exact.{HasValue, round-exact}
 use lib.Ieee.Back.{round-whole}
 use lib.Ieee.Fits.{round-fits, down-pos}
@@ -40,27 +40,6 @@ four-times-one {a} {b} v p q =
 -- It is the quarter.
 pub quarter-only : {a : Float} (v : ℤ) → natAbs v < 2 ^ 24 → FourTimesIs a v → a ≡ quarter v
 quarter-only v h p = four-times-one v p (quarter-is v h)
-
--- ---- what is drawn tells the number
-
-sign-size : (v w : ℤ) → negative v ≡ negative w → natAbs v ≡ natAbs w → v ≡ w
-sign-size (pos m) (pos n) s e = ap pos e
-sign-size (pos m) (negsuc n) s e = absurd (false≢true s)
-sign-size (negsuc m) (pos n) s e = absurd (true≢false s)
-sign-size (negsuc m) (negsuc n) s e = ap negsuc (suc-inj e)
-
-one-number : (a : Float) (v w : ℤ) → HasValue a (negative v) (natAbs v) 4 → HasValue a (negative w) (natAbs w) 4 → v ≡ w
-one-number (fin s m e) v w p q =
-    sign-size v w (sym (p .0) ∙ q .0)
-    (eq-of-mul-eq-mul-right (down e) (down-pos e) (natAbs v) (natAbs w) (sym (p .1) ∙ q .1))
-
--- Four times one float is one number.
-pub four-times-tells : {a : Float} (v w : ℤ) → FourTimesIs a v → FourTimesIs a w → v ≡ w
-four-times-tells {a} v w p q = one-number a v w (p .exact) (q .exact)
-
--- Different numbers have different quarters.
-pub quarter-injective : (v w : ℤ) → natAbs v < 2 ^ 24 → natAbs w < 2 ^ 24 → quarter v ≡ quarter w → v ≡ w
-quarter-injective v w h k e = four-times-tells v w (quarter-is v h) (subst (λ (a : Float). FourTimesIs a w) (sym e) (quarter-is w k))
 
 -- ---- zero
 
@@ -110,7 +89,3 @@ four-times-mul {a} v p =
     scaled binary32 a (negative v) (natAbs v) 4 (pos 2) (zero-lt-suc 3) (p .exact)
     ∙ round-same binary32 (negative v) (natAbs v * 4) 4 (natAbs v) 1 (zero-lt-suc 3) (zero-lt-suc 0) (mul-one (natAbs v * 4))
     ∙ sym (cast-is v)
-
--- So is the machine's product of the quarter of v and 4.
-pub four-quarters : (v : ℤ) → natAbs v < 2 ^ 24 → mul binary32 (quarter v) (fin false 1 (pos 2)) ≡ ofInt binary32 v
-four-quarters v h = four-times-mul v (quarter-is v h)

@@ -108,13 +108,3 @@ module _ (p : ℕ → Bool) where
       here (At i) t e = absurd (at≢nowhere e)
       here Nowhere true e = absurd (at≢nowhere e)
       here Nowhere false e = refl
-
-  -- the test holds at some number below n or at none
-  pub not-some-at : (n : ℕ) → some p n ≡ false → (k : ℕ) → k < n → p k ≡ false
-  unfolding some
-  not-some-at zero e k l = absurd (not-suc-le-zero l)
-  not-some-at (suc n) e k l =
-      ⊎-elim
-      (λ q. rw q (or-false-right (some p n) (p n) e))
-      (λ lt. not-some-at n (or-false-left (some p n) (p n) e) k lt)
-      (eq-or-lt-of-le (le-of-suc-le-suc l))

@@ -1,32 +1,29 @@
 -- Sums of costs, and the total of a layout as 01 says it.
-use mathlib.Core.Path.{_≡_, refl}
-use mathlib.Core.Logic.{_↔_}
+use mathlib.Core.Path.{_≡_, refl, sym, ap}
+use mathlib.Core.Logic.{_≢_, _↔_, ite, if-pos, if-neg}
 use mathlib.Core.Bool.{Bool, true, false, cond}
 use Prim.Native.Nat.{ℕ, zero, suc, _+_, _*_, _≤_, _<_}
+use native.Mathlib.Decide.{ℕ-discrete}
 use native.Mathlib.Nat.{mul-le-mul}
 use native.Mathlib.Numerals.{add-one}
 use native.Mathlib.Omega.{arith}
 use lib.Dec.{T, eqb, eqb→eq}
-use lib.IntN.{ℤ, pos, negsuc, natAbs}
-use Rattle.numbers.specs.Whole.{whole, up, dn, apart-num}
+use lib.IntN.{natAbs}
+use Rattle.numbers.specs.Whole.{whole, abs-num, apart-num}
 use Rattle.paper.specs.Leaders.{Leader, distance, lengthOf, bendsOf}
 use Rattle.paper.specs.Layouts.{Board, leader, sum, weighted, total}
 
 -- ---- sums
 
--- A loop that adds up c starts at 0,
+-- A loop that adds up c starts at 0
 pub sum-none : (c : ℕ → ℕ) → 0 ≡ sum 0 c
 unfolding sum
 sum-none c = refl
 
--- adds the next term,
+-- and adds the next term.
 pub sum-more : (c : ℕ → ℕ) (i s x : ℕ) → s ≡ sum i c → x ≡ c i → s + x ≡ sum (i + 1) c
 unfolding sum
 sum-more c i s x e d = rw (add-one, e, d)
-
--- and after the last term has the sum.
-pub sum-done : (c : ℕ → ℕ) (i n s : ℕ) → s ≡ sum i c → i ≤ n → n ≤ i → s ≡ sum n c
-sum-done c i n s e h k = let d : i ≡ n = omega arith in rw (← d) e
 
 -- Sums of the same terms are the same.
 pub sum-same : (n : ℕ) (c d : ℕ → ℕ) → ((i : ℕ) → i < n → c i ≡ d i) → sum n c ≡ sum n d
@@ -34,11 +31,39 @@ unfolding sum
 sum-same zero c d h = refl
 sum-same (suc n) c d h = omega (arith, sum-same n c d (λ i l. h i (omega arith)), h n (omega arith))
 
--- With no term larger the sum is no larger.
-pub sum-le : (n : ℕ) (c d : ℕ → ℕ) → ((i : ℕ) → i < n → c i ≤ d i) → sum n c ≤ sum n d
+-- Sums of the same terms but at i; but at i and j.
+sum-but : (n i : ℕ) (c d : ℕ → ℕ) → i < n → ((k : ℕ) → k < n → k ≢ i → c k ≡ d k) → sum n c + d i ≡ sum n d + c i
 unfolding sum
-sum-le zero c d h = omega arith
-sum-le (suc n) c d h = omega (arith, sum-le n c d (λ i l. h i (omega arith)), h n (omega arith))
+sum-but zero i c d l h = absurd (omega arith)
+sum-but (suc n) i c d l h = go (ℕ-discrete i n) (sum-but n i c d)
+  where
+    go : Dec (i ≡ n) → (i < n → ((k : ℕ) → k < n → k ≢ i → c k ≡ d k) → sum n c + d i ≡ sum n d + c i) → sum n c + c n + d i ≡ sum n d + d n + c i
+    go (yes e) ih = omega (arith, sum-same n c d (λ k m. h k (omega arith) (omega arith)), ap c e, ap d e)
+    go (no e) ih = omega (arith, ih (omega arith) (λ k m. h k (omega arith)), h n (omega arith) (omega arith))
+
+pub sum-but-two : (n i j : ℕ) (c d : ℕ → ℕ) → i < n → j < n → i ≢ j → ((k : ℕ) → k < n → k ≢ i → k ≢ j → c k ≡ d k)
+    → sum n c + d i + d j ≡ sum n d + c i + c j
+sum-but-two n i j c d l m ne h =
+    omega (
+      arith,
+      sum-but n i c half l (λ k o p. sym (if-neg (ℕ-discrete k i) p (d k) (c k))),
+      sum-but n j half d m (λ k o p. rest k o p (ℕ-discrete k i)),
+      if-pos (ℕ-discrete i i) refl (d i) (c i),
+      if-neg (ℕ-discrete j i) (λ e. ne (sym e)) (d j) (c j),
+    )
+  where
+    half : ℕ → ℕ
+    half k = ite (ℕ-discrete k i) (d k) (c k)
+
+    rest : (k : ℕ) → k < n → k ≢ j → (t : Dec (k ≡ i)) → ite t (d k) (c k) ≡ d k
+    rest k o p (yes e) = refl
+    rest k o p (no e) = h k o e p
+
+-- No term is larger than the sum.
+pub term-le : (n : ℕ) (c : ℕ → ℕ) (i : ℕ) → i < n → c i ≤ sum n c
+term-le n c i l =
+    let but = sum-but n i c (λ k. ite (ℕ-discrete k i) 0 (c k)) l (λ k o p. sym (if-neg (ℕ-discrete k i) p 0 (c k))) in
+    omega (arith, but, if-pos (ℕ-discrete i i) refl 0 (c i))
 
 -- n terms of at most k each come to at most n * k.
 pub sum-at-most : (n k : ℕ) (c : ℕ → ℕ) → ((i : ℕ) → i < n → c i ≤ k) → sum n c ≤ n * k
@@ -82,10 +107,6 @@ bends-bound l = go (eqb (distance (l .y) (l .port)) 0)
     go : (t : Bool) → cond t 0 1 ≤ 1
     go true = omega arith
     go false = omega arith
-
-abs-num : (z : ℤ) → natAbs z ≡ up z + dn z
-abs-num (pos n) = omega arith
-abs-num (negsuc n) = omega arith
 
 -- The longest leader that fields in their ranges give.
 pub length-bound : (l : Leader) → l .x ≤ 1000000 → natAbs (l .y) ≤ 1000000 → natAbs (l .port) ≤ 1000000 → lengthOf l ≤ 3000000

@@ -21,16 +21,9 @@ between-iff m a b =
     (and-iff (leZ a m) (leZ m b) (le-iff a m) (le-iff m b))
     (and-iff (leZ b m) (leZ m a) (le-iff b m) (le-iff m a))
 
--- Either end lies between, and the ends may change places.
+-- An end lies between.
 pub between-end : (a b : ℤ) → Between b a b
 between-end a b = ⊎-elim (λ h. inl (h, ≤ℤ-refl b)) (λ h. inr (≤ℤ-refl b, h)) (le-or-le a b)
-
-pub between-sym : (m a b : ℤ) → Between m a b → Between m b a
-between-sym m a b (inl h) = inr h
-between-sym m a b (inr h) = inl h
-
-pub between-start : (a b : ℤ) → Between a a b
-between-start a b = between-sym a b a (between-end b a)
 
 -- Touching goes both ways.
 pub touch-sym : (l m : Leader) → Touch l m → Touch m l

@@ -1,5 +1,5 @@
 -- Trials in general: an input has one verdict; trials put one after the other; and computed findings that judge the trials they are made for.
-use mathlib.Core.Path.{_≡_, refl, sym, ap, subst, _∙_}
+use mathlib.Core.Path.{_≡_, refl, sym, subst, _∙_}
 use mathlib.Core.Logic.{inl, inr, _↔_}
 use mathlib.Core.Bool.{Bool, true, false}
 use mathlib.Core.List.{List, [], _∷_, _++_}
@@ -15,7 +15,7 @@ use Rattle.paper.specs.declared.Verdict.{Verdict}
 use Rattle.paper.specs.declared.Verdict.the-variants.{Sound, Refused}
 use Rattle.paper.specs.Refusals.{Trial, Clean, FirstFault, Passed, RefusedBy}
 use Rattle.paper.specs.laws.Search.{first, at-is, none-at}
-use Rattle.paper.specs.laws.Verdicts.{Finding, outcome, next, run, run-append, run-stopped, atWhole}
+use Rattle.paper.specs.laws.Verdicts.{Finding, outcome, run, run-append, run-stopped, atWhole}
 
 -- ---- one verdict
 
@@ -38,7 +38,7 @@ not-both [] r p a = a
 not-both (t ∷ ts) r p (inl a) = p .0 (r .at) (a .1 .inside) (a .1 .here)
 not-both (t ∷ ts) r p (inr a) = not-both ts r (p .1) (a .1)
 
--- it is refused in one way;
+-- it is refused in one way.
 pub refused-one : (ts : List Trial) (r s : Refusal) → RefusedBy ts r → RefusedBy ts s → r ≡ s
 refused-one [] r s a b = absurd a
 refused-one (t ∷ ts) r s (inl a) (inl b) =
@@ -55,13 +55,6 @@ judged-sound v ts j e = subst (λ (w : Verdict). Judged w ts) e j
 
 pub judged-refused : (v : Verdict) (ts : List Trial) (r : Refusal) → Judged v ts → v ≡ Refused r → RefusedBy ts r
 judged-refused v ts r j e = subst (λ (w : Verdict). Judged w ts) e j
-
--- so that there is one right verdict.
-pub judged-one : (ts : List Trial) (v w : Verdict) → Judged v ts → Judged w ts → v ≡ w
-judged-one ts Sound Sound a b = refl
-judged-one ts Sound (Refused s) a b = absurd (not-both ts s a b)
-judged-one ts (Refused r) Sound a b = absurd (not-both ts r b a)
-judged-one ts (Refused r) (Refused s) a b = ap Refused (refused-one ts r s a b)
 
 -- ---- one list of trials after another
 
@@ -140,7 +133,3 @@ tried-more {t} {f} {fs} {ts} a k = record { judged = judged-run (outcome (t .rea
 -- One list of findings after another; the second may go by the first list's trials being passed.
 pub tried-append : {fs gs : List Finding} {ts us : List Trial} → Tried fs ts → (Passed ts → Tried gs us) → Tried (fs ++ gs) (ts ++ us)
 tried-append {fs} {gs} {ts} {us} a k = record { judged = rw (run-append Sound fs gs) (judged-run (run Sound fs) gs ts us (a .judged) (λ p. k p .judged)) }
-
--- One finding more after a verdict; it may go by the trials before being passed.
-pub judged-next : (v : Verdict) (ts : List Trial) (t : Trial) (f : Found) → Judged v ts → (Passed ts → Finds t f) → Judged (next v (t .reason, f)) (ts ++ (t ∷ []))
-judged-next v ts t f a k = judged-run v ((t .reason, f) ∷ []) ts (t ∷ []) a (λ p. trial-judged t f (k p))

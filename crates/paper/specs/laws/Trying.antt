@@ -1,16 +1,16 @@
 -- Trying every assignment of ports to pads, as a program would: tests that tell whether a layout is best, the first, the next or the last.
-use mathlib.Core.Path.{_≡_, refl, sym, ap, subst}
+use mathlib.Core.Path.{_≡_, refl, sym, ap}
 use mathlib.Core.Logic.{_⊎_, inl, inr, ⊎-elim, _↔_}
-use mathlib.Core.Bool.{Bool, true, false, not, _&&_, _||_}
-use mathlib.Core.List.{List, [], _∷_, _++_, map, Memᴰ·append-left, Memᴰ·append-right, Memᴰ·map, Memᴰ·of-map}
-use mathlib.Core.List.{List·Memᴰ, List·Memᴰ·head, List·Memᴰ·not-nil, List·Memᴰ·cases-cons, List·Memᴰ·append-cases, List·Memᴰ·eq-of-singleton}
+use mathlib.Core.Bool.{Bool, false, not, _&&_, _||_}
+use mathlib.Core.List.{List, [], _∷_, _++_, map, Memᴰ·append-left, Memᴰ·append-right, Memᴰ·map}
+use mathlib.Core.List.{List·Memᴰ, List·Memᴰ·head, List·Memᴰ·not-nil, List·Memᴰ·cases-cons}
 use Prim.Native.Nat.{ℕ, zero, suc, _<_, _≤_, suc-le-suc}
 use native.Mathlib.Decide.{decLt, ℕ-discrete}
 use native.Mathlib.Nat.{le-of-suc-le-suc, not-suc-le-zero, zero-lt-suc}
 use native.Mathlib.Omega.{arith}
 use lib.Dec.{T, leb, ltb, eqb}
 use lib.ListN.{length}
-use Rattle.numbers.specs.Tests.{either, and-iff, or-iff, not-iff, leb-iff, ltb-iff, eqb-iff}
+use Rattle.numbers.specs.Tests.{either, dec-iff, and-iff, or-iff, not-iff, leb-iff, ltb-iff, eqb-iff}
 use Rattle.paper.specs.Layouts.{Board, held, Touching, Untouching, total, Best, Before, FirstBest, NextBest, LastBest}
 use Rattle.paper.specs.Refusals.{Earlier}
 use Rattle.paper.specs.laws.Proper.{Differ, Same}
@@ -56,45 +56,14 @@ heads-all (suc p) ws q w l m = go (decLt q p) (λ d. heads-all p ws q w d m)
     go (yes d) ih = Memᴰ·append-left (map (λ v. p ∷ v) ws) (ih d)
     go (no d) ih = let e : q ≡ p = omega arith in rw e (Memᴰ·append-right (heads p ws) (Memᴰ·map (λ v. p ∷ v) m))
 
--- Every function with values below p is among them, as its row,
+-- Every function with values below p is among them, as its row.
 pub words-all : (n p : ℕ) (f : ℕ → ℕ) → ((i : ℕ) → i < n → f i < p) → List·Memᴰ (row n f) (words n p)
 unfolding words row
 words-all zero p f h = List·Memᴰ·head refl
 words-all (suc n) p f h =
     heads-all p (words n p) (f 0) (row n (λ i. f (suc i))) (h 0 (zero-lt-suc n)) (words-all n p (λ i. f (suc i)) (λ i l. h (suc i) (suc-le-suc l)))
 
-heads-only : (p : ℕ) (ws : List (List ℕ)) (Q : List ℕ → Type 0) → ((q : ℕ) (v : List ℕ) → q < p → List·Memᴰ v ws → Q (q ∷ v))
-    → (w : List ℕ) → List·Memᴰ w (heads p ws) → Q w
-unfolding heads
-heads-only zero ws Q h w m = absurd (List·Memᴰ·not-nil m)
-heads-only (suc p) ws Q h w m =
-    ⊎-elim
-    (heads-only p ws Q (λ q v l. h q v (omega arith)) w)
-    (λ k. let r = Memᴰ·of-map (λ v. p ∷ v) ws k in subst Q (r .2) (h p (r .0) (omega arith) (r .1)))
-    (List·Memᴰ·append-cases (heads p ws) m)
-
--- and nothing else is.
-pub words-only : (n p : ℕ) (w : List ℕ) → List·Memᴰ w (words n p) → (length w ≡ n) × ((i : ℕ) → i < n → held w i < p)
-unfolding words
-words-only zero p w m = (ap length (List·Memᴰ·eq-of-singleton m), λ i l. absurd (not-suc-le-zero l))
-words-only (suc n) p w m = heads-only p (words n p) Word (λ q v l k. longer q v l (words-only n p v k)) w m
-  where
-    Word : List ℕ → Type 0
-    Word w = (length w ≡ suc n) × ((i : ℕ) → i < suc n → held w i < p)
-
-    longer : (q : ℕ) (v : List ℕ) → q < p → (length v ≡ n) × ((i : ℕ) → i < n → held v i < p) → Word (q ∷ v)
-    longer q v l s = (ap suc (s .0), entry)
-      where
-        entry : (i : ℕ) → i < suc n → held (q ∷ v) i < p
-        entry zero d = l
-        entry (suc i) d = s .1 i (le-of-suc-le-suc d)
-
 -- ---- tests, and what they say
-
--- What a test tells can be decided.
-pub dec-iff : {A : Type 0} (a : Bool) → T a ↔ A → Dec A
-dec-iff true f = yes (f .0 tt)
-dec-iff false f = no (f .1)
 
 -- Some list of ws passes.
 unfoldable pub any : (List ℕ → Bool) → List (List ℕ) → Bool
@@ -201,9 +170,6 @@ module _ (b : Board) (differ : Differ b) where
 
   pub untouching-tells : Tells b (untouchingTest b) (Untouching b)
   untouching-tells = record { iff = untouching-iff; same = untouching-same b }
-
-  pub untouching-dec : (f : ℕ → ℕ) → Dec (Untouching b f)
-  untouching-dec f = dec-iff (untouchingTest b f) (untouching-iff f)
 
 -- At some pad f has the smaller port number, and at no pad to the right of it do f and g differ.
 unfoldable pub differRight : Board → (ℕ → ℕ) → (ℕ → ℕ) → ℕ → ℕ → Bool

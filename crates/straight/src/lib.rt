@@ -1,1 +1,0 @@
-// No code: the theorems are in specs/.
