@@ -81,10 +81,15 @@ fn lies_between(m: i64, a: i64, b: i64) -> bool
     (a <= m) & (m <= b) | (b <= m) & (m <= a)
 }
 
+// x says which arm passes the other pad: one test is enough.
 pub fn leaders_touch(x: u32, y: i64, port: i64, x2: u32, y2: i64, port2: i64) -> bool
     ensures { λ r. ⌜ r ≡ touching (record { x = x; y = y; port = port }) (record { x = x2; y = y2; port = port2 }) ⌝ }
 {
-    (x2 < x) & lies_between(port, y2, port2) | (x < x2) & lies_between(port2, y, port)
+    if x2 < x {
+        lies_between(port, y2, port2)
+    } else {
+        (x < x2) & lies_between(port2, y, port)
+    }
 }
 
 pub fn touches(job: &[u8], list: &[u16], i: u16, j: u16) -> bool

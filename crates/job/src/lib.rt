@@ -29,15 +29,11 @@ fn word(job: &[u8], k: usize) -> u32
     (half(job, k) as u32) + 65536 * (half(job, k + 2) as u32)
 }
 
-// A number of 32 bits, read as two's complement.
+// A number of 32 bits, read as two's complement: without a branch, so that it is one load.
 fn signed(n: u32) -> i64
     ensures { λ r. ⌜ (r ≡ twos n) × (mag r < 2147483648) ⌝ }
 {
-    if n < 2147483648 {
-        n as i64
-    } else {
-        (n as i64) - 4294967296
-    }
+    ((((n as u64) + 2147483648) % 4294967296) as i64) - 2147483648
 }
 
 // A difference of heights without its sign.
