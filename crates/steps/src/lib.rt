@@ -44,36 +44,30 @@ fn lowered(b: usize, q: usize, h: usize) -> usize
     if q < b { q } else { b }
 }
 
-// The first port of the strip that the first m pads leave to a pad above l ports.
-fn low(order: &[u8], w: &[u16], l: usize, m: usize) -> usize
-    requires { ⌜ m ≤ length (now order) ⌝ }
-    requires { ⌜ ((k : ℕ) → k < length (now order) → getD (now order) k 0 < length (now w)) ⌝ }
-    ensures { λ r. ⌜ r ≡ floor (portOf (now (w .entry))) l (take m (now (order .entry))) 0 ⌝ }
-{
-    let mut a = 0;
-    let mut i = 0;
-    while i < m {
-        let j = order[i] as usize;
-        a = raised(a, wide(w[j]), l);
-        i += 1;
-    }
-    a
+// A strip of ports: its first, and the one after its last.
+struct Strip {
+    a: usize,
+    b: usize,
 }
 
-// The port after the last of that strip; h ports are at the pad's height or below.
-fn high(order: &[u8], w: &[u16], h: usize, m: usize) -> usize
+// The strip that the first m pads leave to a pad above l ports, with h at its height or below.
+fn left_to(order: &[u8], w: &[u16], l: usize, h: usize, m: usize) -> Strip
     requires { ⌜ m ≤ length (now order) ⌝ }
     requires { ⌜ ((k : ℕ) → k < length (now order) → getD (now order) k 0 < length (now w)) ⌝ }
-    ensures { λ r. ⌜ r ≡ ceil (portOf (now (w .entry))) h (take m (now (order .entry))) (length (now (order .entry))) ⌝ }
+    ensures { λ r. ⌜ r .a ≡ floor (portOf (now (w .entry))) l (take m (now (order .entry))) 0 ⌝ }
+    ensures { λ r. ⌜ r .b ≡ ceil (portOf (now (w .entry))) h (take m (now (order .entry))) (length (now (order .entry))) ⌝ }
 {
+    let mut a = 0;
     let mut b = order.len();
     let mut i = 0;
     while i < m {
         let j = order[i] as usize;
-        b = lowered(b, wide(w[j]), h);
+        let q = wide(w[j]);
+        a = raised(a, q, l);
+        b = lowered(b, q, h);
         i += 1;
     }
-    b
+    Strip { a, b }
 }
 
 fn larger(x: usize, y: usize) -> usize
@@ -101,8 +95,9 @@ fn choose(
     ensures { λ q. ⌜ Chosen (LocallyBest (now (order .entry)) (now (cost .entry)) (now (lo .entry)) (now (hi .entry)) (now (w .entry)) m) from q ⌝ }
 {
     let j = order[m] as usize;
-    let a = low(order, w, lo[j] as usize, m);
-    let b = high(order, w, hi[j] as usize, m);
+    let strip = left_to(order, w, lo[j] as usize, hi[j] as usize, m);
+    let a = strip.a;
+    let b = strip.b;
     let start = larger(a, from);
     if b <= start {
         return 64;

@@ -17,6 +17,7 @@ use Rattle.table.specs.Cell.{sides, figures, choice, place, coded, Pads,
 use Rattle.table.proofs.Counts.{le-or-lt, lt-or-le, bit-le, bit-true, count-step, parted-least, parts-most, parted-less, count-drop}
 use Rattle.table.proofs.Corners.{corner-top}
 use Rattle.table.proofs.Masks.{plus, best-in, local-parted, local-blocked}
+use Rattle.table.proofs.Ports.{Lower}
 use Rattle.table.proofs.Totals.{local-none, crowded, same-from, idle, AtMost, most-best, coded-none, coded-some, local-most, coded-least}
 use Rattle.table.proofs.Scan.{count-end}
 
@@ -170,7 +171,7 @@ module _ {hs ts order cs lo hi : List ℕ} (P : Pads order lo hi) (Z : Sizes hs 
   b64 = omega (arith, T .ports, P .few)
 
   answer : (x y : Bool) → ltb (r + 1) h-below ≡ x → ltb (r + 1) h-above ≡ y
-      → cond (x && y) (sumAt ts cs row q (place a q) (place (q + 1) b)) 18446744073709551615 ≡ coded (choice order cs lo hi r a b q)
+      → cond (x && y) (sumAt ts ts cs row q (place a q) (place (q + 1) b)) 18446744073709551615 ≡ coded (choice order cs lo hi r a b q)
   answer true true u v =
       sym (ap coded (some-parts (sides lo hi) (figures cs (length order)) (P .level) (figures-cheap Z) order r a b q (T .listed) b64 aq qb (T .rest)
       h-below x-below (D q aq qb .0) h-above x-above (D q aq qb .1) (getD order r 0) (ltb-true (r + 1) h-below u) (ltb-true (r + 1) h-above v)))
@@ -181,24 +182,25 @@ module _ {hs ts order cs lo hi : List ℕ} (P : Pads order lo hi) (Z : Sizes hs 
       sym (ap coded (no-below (sides lo hi) (figures cs (length order)) (P .level) (figures-cheap Z) order r a b q (T .listed) b64 aq qb (T .rest)
       h-below x-below (D q aq qb .0) h-above x-above (D q aq qb .1) (getD order r 0) (ltb-false (r + 1) h-below u)))
 
-  module _ (below above : ℕ) (eb : below ≡ place a q) (ea : above ≡ place (q + 1) b) where
+  module _ {hb tb : List ℕ} (below above : ℕ) (L : Lower hb tb hs ts a q below) (ea : above ≡ place (q + 1) b) where
     -- what the code adds up for a port is the total with the pad on it
-    pub port-right : portTotal hs ts cs (r + 1) row q below above ≡ coded (choice order cs lo hi r a b q)
-    port-right = rw (eb, ea) (answer (ltb (r + 1) h-below) (ltb (r + 1) h-above) refl refl)
+    pub port-right : portTotal hb tb hs ts cs (r + 1) row q below above ≡ coded (choice order cs lo hi r a b q)
+    port-right = rw (L .head, L .total, ea) (answer (ltb (r + 1) h-below) (ltb (r + 1) h-above) refl refl)
 
-    pub port-ready : Port hs ts cs (r + 1) row q below above
+    pub port-ready : Port hb tb hs ts cs (r + 1) row q below above
     port-ready = record {
-      heads = Z .heads;
-      totals = Z .totals;
-      low = let t = corner-top q (omega (arith, b64)) in omega (arith, b64);
-      high = let t = corner-top b b64 in omega (arith, b64);
+      low-head = L .head-listed;
+      low-total = L .total-listed;
+      high-head = let t = corner-top b b64 in omega (arith, b64, Z .heads);
+      high-total = let t = corner-top b b64 in omega (arith, b64, Z .totals);
       listed = let f = row-fits (length order) (getD order r 0) q (P .listed r (T .listed)) (omega (arith, T .ports)) in omega (arith, Z .square);
-      small = rw (eb, ea) (λ u v. small-parts (sides lo hi) (figures cs (length order)) (P .level) (figures-cheap Z) order r a b q (T .listed) b64 aq qb (T .rest)
+      small = rw (L .head, L .total, ea) (λ u v. small-parts (sides lo hi) (figures cs (length order)) (P .level) (figures-cheap Z) order r a b q (T .listed) b64 aq qb
+          (T .rest)
           h-below x-below (D q aq qb .0) h-above x-above (D q aq qb .1) (getD order r 0) u v);
     }
 
     -- the least so far, and one port more
-    pub least-step : (v w : ℕ) → v ≡ coded (least (choice order cs lo hi r a b) a (q - a)) → w ≡ min v (portTotal hs ts cs (r + 1) row q below above)
+    pub least-step : (v w : ℕ) → v ≡ coded (least (choice order cs lo hi r a b) a (q - a)) → w ≡ min v (portTotal hb tb hs ts cs (r + 1) row q below above)
         → w ≡ coded (least (choice order cs lo hi r a b) a (q + 1 - a))
     least-step v w e f =
         f ∙ ap₂ min e port-right

@@ -17,6 +17,7 @@ use Rattle.table.specs.Strip.{Sides, spans, fits, bit, count, best, loca
 use Rattle.table.specs.Cell.{sides, figures, boardOf, choice, place, coded, Pads, Strip, Ready, Table, Leads, Parts, portTotal}
 use Rattle.table.proofs.Counts.{spans-by, count-step}
 use Rattle.table.proofs.Totals.{AtMost, most-best, coded-some}
+use Rattle.table.proofs.Ports.{in-table}
 use Rattle.table.proofs.Cells.{cell-right, figures-cheap, port-right}
 
 -- the pads that count are those that are kept
@@ -102,12 +103,12 @@ module _ {hs ts order cs lo hi : List ℕ} (P : Pads order lo hi) (T : Table ord
   -- what `attains` answers of a port says whether it leads
   module _ (q : ℕ) (aq : a ≤ q) (qb : q < b) (below above least : ℕ) (eb : below ≡ place a q) (ea : above ≡ place (q + 1) b)
       (el : least ≡ getD ts (place a b) 0) (has : least ≡ 18446744073709551615 → ⊥)
-      (x : Bool) (is : x ≡ eqb (portTotal hs ts cs (r + 1) (getD order r 0 * length order) q below above) least) where
+      (x : Bool) (is : x ≡ eqb (portTotal hs ts hs ts cs (r + 1) (getD order r 0 * length order) q below above) least) where
     abbrev sum : ℕ
-    sum = portTotal hs ts cs (r + 1) (getD order r 0 * length order) q below above
+    sum = portTotal hs ts hs ts cs (r + 1) (getD order r 0 * length order) q below above
 
     right : sum ≡ coded (choice order cs lo hi r a b q)
-    right = port-right P (T .sizes) r a b ready-strip table-parts q aq qb below above eb ea
+    right = port-right P (T .sizes) r a b ready-strip table-parts q aq qb below above (in-table (T .sizes) a q below aq (omega (arith, O .ports, P .few)) eb) ea
 
     pub attains-yes : x ≡ true → Leads (boardOf order cs lo hi) order r a b q
     attains-yes e = leads-yes (λ n. has (el ∙ n)) q sum right aq qb (eqb-true sum least (sym is ∙ e) ∙ el)

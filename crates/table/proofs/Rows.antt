@@ -6,12 +6,12 @@ use Rattle.strips.specs.Least.{Least}
 use mathlib.Core.List.{List, [], _∷_}
 use Prim.Native.Nat.{ℕ, _+_, _≤_, _<_, zero-le}
 use native.Mathlib.Omega.{arith}
-use lib.ListN.{length, getD, set}
+use lib.ListN.{length, getD, set, length-set}
 use lib.Seq.{getD-set-same, getD-set-other}
 use Rattle.strips.specs.Lists.{keep-same}
 use Rattle.strips.specs.Board as strip
 use Rattle.table.specs.Strip.{Sides, fits, bit, count, best}
-use Rattle.table.specs.Cell.{sides, figures, boardOf, cornerOf, place, coded, Pads, Sizes, Cell, Rows, Parts, Table}
+use Rattle.table.specs.Cell.{sides, figures, boardOf, cornerOf, place, coded, Pads, Sizes, Cell, Rows, Parts, Copied, Table}
 use Rattle.table.proofs.Counts.{le-or-lt, spans-by}
 use Rattle.table.proofs.Corners.{corner-top, place-start, place-end}
 use Rattle.table.proofs.Cells.{cell-right}
@@ -56,6 +56,30 @@ module _ (S : Sides) (C : ℕ → ℕ → Least) (order : List ℕ) where
       subst (λ (k : ℕ). Cell S C order k b′ (getD hs (place k b′) 0) (getD ts (place k b′) 0)) e (R .done b′ (omega arith) (omega arith)))
       (λ (x : a < a′). R .after a′ b′ (omega arith) v w)
       (le-or-lt a′ a)
+
+-- the row's short lists get each cell that the tables get
+pub copied-start : (rh rt hs ts : List ℕ) (a : ℕ) → length rh ≡ 65 → length rt ≡ 65 → Copied rh rt hs ts a a
+copied-start rh rt hs ts a lh lt = record { heads = lh; totals = lt; same = λ q u v. absurd (omega arith) }
+
+same-after : (rs hs : List ℕ) (a b h p q : ℕ) → p ≡ place a b → length rs ≡ 65 → length hs ≡ 2145 → a ≤ b → b ≤ 64 → a ≤ q → q < b + 1
+    → (q < b → getD rs q 0 ≡ getD hs (place a q) 0) → getD (set rs b h) q 0 ≡ getD (set hs p h) (place a q) 0
+same-after rs hs a b h p q e lr lh ab b64 aq qb was = rw e (⊎-elim
+    (λ (x : b ≤ q). let s : b ≡ q = omega arith in subst (λ (k : ℕ). getD (set rs b h) k 0 ≡ getD (set hs (place a b) h) (place a k) 0) s
+    (let t = corner-top b b64 in getD-set-same rs b h 0 (omega arith) ∙ sym (getD-set-same hs (place a b) h 0 (omega arith))))
+    (λ (x : q < b). getD-set-other rs b q h 0 (λ n. absurd (omega arith)) ∙ was x
+    ∙ sym (getD-set-other hs (place a b) (place a q) h 0 (λ n. let s = place-end a q a b aq ab n in absurd (omega arith))))
+    (le-or-lt b q))
+
+pub copied-step : (rh rt hs ts : List ℕ) (a b h v p : ℕ) → p ≡ place a b → a ≤ b → b ≤ 64 → length hs ≡ 2145 → length ts ≡ 2145
+    → Copied rh rt hs ts a b → Copied (set rh b h) (set rt b v) (set hs p h) (set ts p v) a (b + 1)
+copied-step rh rt hs ts a b h v p e ab b64 lh lt K = record {
+  heads = length-set rh b h ∙ K .heads;
+  totals = length-set rt b v ∙ K .totals;
+  same = λ q u w. (
+    same-after rh hs a b h p q e (K .heads) lh ab b64 u w (λ x. K .same q u x .0),
+    same-after rt ts a b v p q e (K .totals) lt ab b64 u w (λ x. K .same q u x .1),
+  );
+}
 
 -- ---- the whole board
 

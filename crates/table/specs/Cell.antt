@@ -88,27 +88,27 @@ cornerOf (suc b) = cornerOf b + suc b
 abbrev pub place : ℕ → ℕ → ℕ
 place a b = cornerOf b + a
 
--- what a port's total is read from: the places of the strips below and above it, `past` the least head that they may not have, and the start of the pad's row of
--- figures
-pub record Port (hs ts cs : List ℕ) (past row q below above : ℕ) : Type 0 where
-  pub heads : length hs ≡ 2145
-  pub totals : length ts ≡ 2145
-  pub low : below < 2145
-  pub high : above < 2145
+-- what a port's total is read from: the places of the strips below (in hb and tb) and above it (in hs and ts), `past` the least head that they may not have, and
+-- the start of the pad's row of figures
+pub record Port (hb tb hs ts cs : List ℕ) (past row q below above : ℕ) : Type 0 where
+  pub low-head : below < length hb
+  pub low-total : below < length tb
+  pub high-head : above < length hs
+  pub high-total : above < length ts
   pub listed : row + q < length cs
-  pub small : past < getD hs below 0 → past < getD hs above 0 → (getD ts below 0 ≤ 2 ^ 38) × (getD ts above 0 ≤ 2 ^ 38)
+  pub small : past < getD hb below 0 → past < getD hs above 0 → (getD tb below 0 ≤ 2 ^ 38) × (getD ts above 0 ≤ 2 ^ 38)
 
 -- both strips have a layout of pads after the one that takes the port
-abbrev pub opens : List ℕ → ℕ → ℕ → ℕ → Bool
-opens hs past below above = ltb past (getD hs below 0) && ltb past (getD hs above 0)
+abbrev pub opens : List ℕ → List ℕ → ℕ → ℕ → ℕ → Bool
+opens hb hs past below above = ltb past (getD hb below 0) && ltb past (getD hs above 0)
 
 -- the total with the pad on the port
-abbrev pub sumAt : List ℕ → List ℕ → ℕ → ℕ → ℕ → ℕ → ℕ
-sumAt ts cs row q below above = getD cs (row + q) 0 + (getD ts below 0 + getD ts above 0)
+abbrev pub sumAt : List ℕ → List ℕ → List ℕ → ℕ → ℕ → ℕ → ℕ → ℕ
+sumAt tb ts cs row q below above = getD cs (row + q) 0 + (getD tb below 0 + getD ts above 0)
 
 -- the same as the code holds it, the largest u64 where a part has no layout
-abbrev pub portTotal : List ℕ → List ℕ → List ℕ → ℕ → ℕ → ℕ → ℕ → ℕ → ℕ
-portTotal hs ts cs past row q below above = cond (opens hs past below above) (sumAt ts cs row q below above) 18446744073709551615
+abbrev pub portTotal : List ℕ → List ℕ → List ℕ → List ℕ → List ℕ → ℕ → ℕ → ℕ → ℕ → ℕ → ℕ
+portTotal hb tb hs ts cs past row q below above = cond (opens hb hs past below above) (sumAt tb ts cs row q below above) 18446744073709551615
 
 -- what is kept for the strips that end at b, from one row to the next: of the strip a .. b - 1, m pads stand at place k or after it, and t in all
 pub record Tally (S : Sides) (order : List ℕ) (a b k m t : ℕ) : Type 0 where
@@ -158,6 +158,12 @@ Parts S C order hs ts a b =
 -- the same of the lists that the code has
 abbrev pub PartsOf : List ℕ → List ℕ → List ℕ → List ℕ → List ℕ → List ℕ → ℕ → ℕ → Type 0
 PartsOf order cs lo hi hs ts a b = Parts (sides lo hi) (figures cs (length order)) order hs ts a b
+
+-- the short lists rh and rt have at q what the tables have of the strip a .. q - 1, for each q from a to b - 1
+pub record Copied (rh rt hs ts : List ℕ) (a b : ℕ) : Type 0 where
+  pub heads : length rh ≡ 65
+  pub totals : length rt ≡ 65
+  pub same : (q : ℕ) → a ≤ q → q < b → (getD rh q 0 ≡ getD hs (place a q) 0) × (getD rt q 0 ≡ getD ts (place a q) 0)
 
 -- the tables are right, for the pads `order` with the sides lo and hi and the figures cs
 pub record Table (order cs lo hi hs ts : List ℕ) : Type 0 where

@@ -2,7 +2,8 @@
 //
 // A strip is a run of ports a .. b - 1, and its cell stands at place a of b's column, `corner(b) + a`, in two tables:
 // `heads` has 1 more than the place in `order` of the strip's rightmost pad, or 0 where the strip has too few pads or
-// no layout, and `totals` the best total of the strip's pads, or NONE.
+// no layout, and `totals` the best total of the strip's pads, or NONE. While row a is filled, two short lists, `lows`
+// and `sums`, have the cells of its strips at b: the parts below a port are read there.
 ghost use mathlib.Core.Path.{_≡_};
 ghost use mathlib.Core.Bool.{cond};
 ghost use Prim.Native.Nat.{ℕ, _+_, _-_, _*_, _^_, _≤_, _<_, min};
@@ -11,7 +12,7 @@ ghost use lib.ListN.{length, getD, drop};
 ghost use Rattle.strips.specs.Least.{least};
 ghost use Rattle.table.specs.Strip.{spans, fits, bit, count};
 ghost use Rattle.table.specs.Cell.{sides, figures, boardOf, choice, coded, Pads, Sizes, Strip, Ready, Leads, NextPort, Head, RowsOf, PartsOf, Table, leastOf};
-ghost use Rattle.table.specs.Cell.{cornerOf, Port, opens, sumAt, portTotal, Tallies, EnteringAll, Rooms, Top, Valued};
+ghost use Rattle.table.specs.Cell.{cornerOf, Port, opens, sumAt, portTotal, Tallies, EnteringAll, Rooms, Top, Valued, Copied};
 
 pub const NONE: u64 = 18446744073709551615;
 
@@ -194,28 +195,38 @@ fn smaller(x: u64, y: u64) -> u64
     if x < y { x } else { y }
 }
 
-// Whether both strips that a port leaves have a layout of pads after the one that takes it.
-fn opened(heads: &[u8], past: u8, below: usize, above: usize) -> bool
-    requires { ⌜ (below < length (now heads)) × (above < length (now heads)) ⌝ }
-    ensures { λ r. ⌜ r ≡ opens (now (heads .entry)) past below above ⌝ }
+// Whether both strips that a port leaves have a layout of pads after the one that takes it; the lower is read in `lows`.
+fn opened(lows: &[u8], heads: &[u8], past: u8, below: usize, above: usize) -> bool
+    requires { ⌜ (below < length (now lows)) × (above < length (now heads)) ⌝ }
+    ensures { λ r. ⌜ r ≡ opens (now (lows .entry)) (now (heads .entry)) past below above ⌝ }
 {
-    if heads[below] <= past {
+    if lows[below] <= past {
         return false;
     }
     past < heads[above]
 }
 
 // The total with a pad, whose row of figures starts at `row`, on port q, which opens the two strips.
-fn sum_at(totals: &[u64], cost: &[u32], row: usize, q: usize, below: usize, above: usize) -> u64
-    requires { ⌜ (below < length (now totals)) × (above < length (now totals)) × (row + q < length (now cost)) ⌝ }
-    requires { ⌜ (getD (now totals) below 0 ≤ 2 ^ 38) × (getD (now totals) above 0 ≤ 2 ^ 38) ⌝ }
-    ensures { λ r. ⌜ r ≡ sumAt (now (totals .entry)) (now (cost .entry)) row q below above ⌝ }
+fn sum_at(
+    sums: &[u64],
+    totals: &[u64],
+    cost: &[u32],
+    row: usize,
+    q: usize,
+    below: usize,
+    above: usize,
+) -> u64
+    requires { ⌜ (below < length (now sums)) × (above < length (now totals)) × (row + q < length (now cost)) ⌝ }
+    requires { ⌜ (getD (now sums) below 0 ≤ 2 ^ 38) × (getD (now totals) above 0 ≤ 2 ^ 38) ⌝ }
+    ensures { λ r. ⌜ r ≡ sumAt (now (sums .entry)) (now (totals .entry)) (now (cost .entry)) row q below above ⌝ }
 {
-    cost[row + q] as u64 + (totals[below] + totals[above])
+    cost[row + q] as u64 + (sums[below] + totals[above])
 }
 
 // The least total so far, v, and that of one port more.
 fn better(
+    lows: &[u8],
+    sums: &[u64],
     heads: &[u8],
     totals: &[u64],
     cost: &[u32],
@@ -223,14 +234,14 @@ fn better(
     past: u8,
     row: usize,
     q: usize,
-    below: usize,
     above: usize,
 ) -> u64
-    requires { ⌜ Port (now heads) (now totals) (now cost) past row q below above ⌝ }
-    ensures { λ r. ⌜ r ≡ min v (portTotal (now (heads .entry)) (now (totals .entry)) (now (cost .entry)) past row q below above) ⌝ }
+    requires { ⌜ Port (now lows) (now sums) (now heads) (now totals) (now cost) past row q q above ⌝ }
+    ensures { λ r. ⌜ r ≡ min v (portTotal (now (lows .entry)) (now (sums .entry)) (now (heads .entry)) (now (totals .entry))
+        (now (cost .entry)) past row q q above) ⌝ }
 {
-    if opened(heads, past, below, above) {
-        smaller(v, sum_at(totals, cost, row, q, below, above))
+    if opened(lows, heads, past, q, above) {
+        smaller(v, sum_at(sums, totals, cost, row, q, q, above))
     } else {
         v
     }
@@ -248,12 +259,13 @@ fn attains(
     below: usize,
     above: usize,
 ) -> bool
-    requires { ⌜ Port (now heads) (now totals) (now cost) past row q below above ⌝ }
+    requires { ⌜ Port (now heads) (now totals) (now heads) (now totals) (now cost) past row q below above ⌝ }
     requires { ⌜ (v ≡ 18446744073709551615 → ⊥) ⌝ }
-    ensures { λ r. ⌜ r ≡ eqb (portTotal (now (heads .entry)) (now (totals .entry)) (now (cost .entry)) past row q below above) v ⌝ }
+    ensures { λ r. ⌜ r ≡ eqb (portTotal (now (heads .entry)) (now (totals .entry)) (now (heads .entry)) (now (totals .entry))
+        (now (cost .entry)) past row q below above) v ⌝ }
 {
-    if opened(heads, past, below, above) {
-        sum_at(totals, cost, row, q, below, above) == v
+    if opened(heads, heads, past, below, above) {
+        sum_at(totals, totals, cost, row, q, below, above) == v
     } else {
         false
     }
@@ -261,6 +273,8 @@ fn attains(
 
 // The best total of the strip a .. b - 1 whose rightmost pad stands at place r: the least over its ports.
 fn least_total(
+    lows: &[u8],
+    sums: &[u64],
     heads: &[u8],
     totals: &[u64],
     order: &[u8],
@@ -275,24 +289,25 @@ fn least_total(
     requires { ⌜ Sizes (now heads) (now totals) (now order) (now cost) ⌝ }
     requires { ⌜ Strip (sides (now lo) (now hi)) (now order) a b r ⌝ }
     requires { ⌜ PartsOf (now order) (now cost) (now lo) (now hi) (now heads) (now totals) a b ⌝ }
+    requires { ⌜ Copied (now lows) (now sums) (now heads) (now totals) a b ⌝ }
     ensures { λ v. ⌜ v ≡ coded (least (choice (now (order .entry)) (now (cost .entry)) (now (lo .entry)) (now (hi .entry)) r a b) a (b - a)) ⌝ }
 {
     let row = order[r] as usize * order.len();
     let past = (r + 1) as u8;
     let base = corner(b) + 1;
-    let mut below = corner(a) + a;
     let mut v = NONE;
     let mut q = a;
     while q < b {
-        v = better(heads, totals, cost, v, past, row, q, below, base + q);
+        v = better(lows, sums, heads, totals, cost, v, past, row, q, base + q);
         q += 1;
-        below += q;
     }
     v
 }
 
 // The best total of the strip a .. b - 1 with head h.
 fn strip_total(
+    lows: &[u8],
+    sums: &[u64],
     heads: &[u8],
     totals: &[u64],
     order: &[u8],
@@ -307,6 +322,7 @@ fn strip_total(
     requires { ⌜ Sizes (now heads) (now totals) (now order) (now cost) ⌝ }
     requires { ⌜ (a ≤ b) × (b ≤ length (now order)) × Head (sides (now lo) (now hi)) (now order) a b h ⌝ }
     requires { ⌜ PartsOf (now order) (now cost) (now lo) (now hi) (now heads) (now totals) a b ⌝ }
+    requires { ⌜ Copied (now lows) (now sums) (now heads) (now totals) a b ⌝ }
     ensures { λ v. ⌜ Valued (sides (now (lo .entry)) (now (hi .entry))) (figures (now (cost .entry)) (length (now (order .entry)))) (now (order .entry)) a b h v ⌝ }
 {
     if h == 0 {
@@ -315,7 +331,7 @@ fn strip_total(
     if a == b {
         return 0;
     }
-    least_total(heads, totals, order, cost, lo, hi, h - 1, a, b)
+    least_total(lows, sums, heads, totals, order, cost, lo, hi, h - 1, a, b)
 }
 
 // The head as the table has it: 0 where the strip has no layout.
@@ -327,6 +343,8 @@ fn kept(h: usize, v: u64) -> usize
 
 // Fills the row of the strips that start at a, when those that start above a are right.
 fn fill_row(
+    lows: &mut [u8],
+    sums: &mut [u64],
     heads: &mut [u8],
     totals: &mut [u64],
     at: &mut [u8],
@@ -341,7 +359,7 @@ fn fill_row(
     requires { ⌜ Pads (now order) (now lo) (now hi) ⌝ }
     requires { ⌜ Sizes (now heads) (now totals) (now order) (now cost) ⌝ }
     requires { ⌜ Rooms (now at) (now seen) (now all) ⌝ }
-    requires { ⌜ a ≤ length (now order) ⌝ }
+    requires { ⌜ (length (now lows) ≡ 65) × (length (now sums) ≡ 65) × (a ≤ length (now order)) ⌝ }
     requires { ⌜ Tallies (sides (now lo) (now hi)) (now order) (now at) (now seen) (now all) a ⌝ }
     requires { ⌜ RowsOf (now order) (now cost) (now lo) (now hi) (now heads) (now totals) (a + 1) ⌝ }
     ensures { λ _. ⌜ Tallies (sides (now (lo .entry)) (now (hi .entry))) (now (order .entry)) (now (at .exit)) (now (seen .exit)) (now (all .entry)) a ⌝ }
@@ -351,10 +369,13 @@ fn fill_row(
     let mut b = a;
     while b <= n {
         let h = head(at, seen, all, order, lo, hi, a, b);
-        let v = strip_total(heads, totals, order, cost, lo, hi, a, b, h);
+        let v = strip_total(lows, sums, heads, totals, order, cost, lo, hi, a, b, h);
         let i = corner(b) + a;
-        heads[i] = kept(h, v) as u8;
+        let k = kept(h, v) as u8;
+        heads[i] = k;
         totals[i] = v;
+        lows[b] = k;
+        sums[b] = v;
         b += 1;
     }
 }
@@ -376,11 +397,15 @@ pub fn fill(
     let mut at = [0u8; 65];
     let mut seen = [0u8; 65];
     let mut all = [0u8; 65];
+    let mut lows = [0u8; 65];
+    let mut sums = [0u64; 65];
     let mut a = order.len() + 1;
     while 0 < a {
         a -= 1;
         enter(&at, &mut seen, &mut all, order, lo, hi, a);
         fill_row(
+            &mut lows,
+            &mut sums,
             heads,
             totals,
             &mut at,

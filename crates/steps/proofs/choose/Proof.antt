@@ -13,12 +13,12 @@ cast-j : tie.Need-cast-j
 cast-j c = let s = c .before .before .before .before .before .before .before .before in
     omega (arith, s .pre .0 .proper .pads .listed (s .args .m) (s .pre .1 .0), s .pre .0 .proper .pads .few)
 
-shared-slice-read-low : tie.Need-shared-slice-read-low
-shared-slice-read-low c = let s = c .before .before .before .before .before .before .before .before .before in
+shared-slice-read-left-to : tie.Need-shared-slice-read-left-to
+shared-slice-read-left-to c = let s = c .before .before .before .before .before .before .before .before .before in
     omega (arith, s .pre .0 .proper .pads .listed (s .args .m) (s .pre .1 .0), s .pre .0 .proper .pads .lows)
 
-cast-low : tie.Need-cast-low
-cast-low c = let s = c .before .before .before .before .before .before .before .before .before in
+cast-left-to : tie.Need-cast-left-to
+cast-left-to c = let s = c .before .before .before .before .before .before .before .before .before in
     omega (
       arith,
       s .pre .0 .proper .pads .level (getD (s .args .order .now) (s .args .m) 0),
@@ -26,38 +26,34 @@ cast-low c = let s = c .before .before .before .before .before .before .before .
       s .pre .0 .proper .pads .few,
     )
 
-low-requires : tie.Need-low-requires
-low-requires c κs = let s = c .before .before .before .before .before .before .before .before .before in (omega (arith, (s .pre .1 .0)), places (s .pre .0))
-
-shared-slice-read-high : tie.Need-shared-slice-read-high
-shared-slice-read-high c = let s = c .before .before .before .before .before .before .before .before .before .before .before in
+shared-slice-read-left-to-2 : tie.Need-shared-slice-read-left-to-2
+shared-slice-read-left-to-2 c = let s = c .before .before .before .before .before .before .before .before .before .before in
     omega (arith, s .pre .0 .proper .pads .listed (s .args .m) (s .pre .1 .0), s .pre .0 .proper .pads .highs)
 
-cast-high : tie.Need-cast-high
-cast-high c = let s = c .before .before .before .before .before .before .before .before .before .before .before in
+cast-left-to-2 : tie.Need-cast-left-to-2
+cast-left-to-2 c = let s = c .before .before .before .before .before .before .before .before .before .before in
     omega (arith, s .pre .0 .proper .pads .top (getD (s .args .order .now) (s .args .m) 0), s .pre .0 .proper .pads .few)
 
-high-requires : tie.Need-high-requires
-high-requires c κs = let s = c .before .before .before .before .before .before .before .before .before .before .before in
+left-to-requires : tie.Need-left-to-requires
+left-to-requires c κs = let s = c .before .before .before .before .before .before .before .before .before .before in
     (omega (arith, (s .pre .1 .0)), places (s .pre .0))
 
 larger-requires : tie.Need-larger-requires
 larger-requires c κs = search needs
 
 returns : tie.Need-returns
-returns c = let s = c .before .before .before .before .before .before .before .before .before .before .before .before .before .before in
-    choose-past (s .pre .0) (s .args .m) (s .pre .1 .0) (c .before .before .before .before .low .result) (c .before .before .high .result) (s .args .from)
-    (c .before .before .before .before .low .ensures) (c .before .before .high .ensures) (omega (arith, c .before .larger .ensures, c .if1 .taken))
+returns c = let s = c .before .before .before .before .before .before .before .before .before .before .before .before .before in let t = c .before .before .left-to in
+    choose-past (s .pre .0) (s .args .m) (s .pre .1 .0) (t .result .a) (t .result .b) (s .args .from) (t .ensures .0) (t .ensures .1)
+    (omega (arith, c .before .larger .ensures, c .if1 .taken))
 
 next-port-requires : tie.Need-next-port-requires
 next-port-requires c κs =
-    let s = c .before .before .before .before .before .before .before .before .before .before .before .before .before .before in (
+    let s = c .before .before .before .before .before .before .before .before .before .before .before .before .before in let t = c .before .before .left-to in (
       s .pre .0 .proper .pads,
       (
         s .pre .0 .table,
         (
-          choose-ready (s .pre .0) (s .args .m) (s .pre .1 .0) (c .before .before .before .before .low .result)
-              (c .before .before .high .result) (s .args .from) (c .before .before .before .before .low .ensures) (c .before .before .high .ensures) (s .pre .1 .1),
+          choose-ready (s .pre .0) (s .args .m) (s .pre .1 .0) (t .result .a) (t .result .b) (s .args .from) (t .ensures .0) (t .ensures .1) (s .pre .1 .1),
           (omega (arith, c .before .larger .ensures), omega (arith, c .if1 .left)),
         ),
       ),
@@ -65,18 +61,16 @@ next-port-requires c κs =
 
 returns-2 : tie.Need-returns-2
 returns-2 c =
-    let s = c .before .before .before .before .before .before .before .before .before .before .before .before .before .before .before .before in
-    choose-found (s .pre .0) (s .args .m) (s .pre .1 .0) (c .before .before .before .before .before .before .low .result)
-    (c .before .before .before .before .high .result) (s .args .from) (c .before .before .before .before .before .before .low .ensures)
-    (c .before .before .before .before .high .ensures) (c .before .next-port .result)
+    let s = c .before .before .before .before .before .before .before .before .before .before .before .before .before .before .before in
+    let t = c .before .before .before .before .left-to in
+    choose-found (s .pre .0) (s .args .m) (s .pre .1 .0) (t .result .a) (t .result .b) (s .args .from) (t .ensures .0) (t .ensures .1) (c .before .next-port .result)
     (rw (c .before .before .before .larger .ensures) at (c .before .next-port .ensures)) (c .if2 .taken)
 
 returns-3 : tie.Need-returns-3
 returns-3 c =
-    let s = c .before .before .before .before .before .before .before .before .before .before .before .before .before .before .before .before in
-    choose-none (s .pre .0) (s .args .m) (s .pre .1 .0) (c .before .before .before .before .before .before .low .result)
-    (c .before .before .before .before .high .result) (s .args .from) (c .before .before .before .before .before .before .low .ensures)
-    (c .before .before .before .before .high .ensures) (c .before .next-port .result)
+    let s = c .before .before .before .before .before .before .before .before .before .before .before .before .before .before .before in
+    let t = c .before .before .before .before .left-to in
+    choose-none (s .pre .0) (s .args .m) (s .pre .1 .0) (t .result .a) (t .result .b) (s .args .from) (t .ensures .0) (t .ensures .1) (c .before .next-port .result)
     (rw (c .before .before .before .larger .ensures) at (c .before .next-port .ensures)) (c .if2 .left)
 
 pub choose-spec : {M : Type 1} → statement M
@@ -85,12 +79,11 @@ choose-spec =
     (tie.spec
     shared-slice-read-j
     cast-j
-    shared-slice-read-low
-    cast-low
-    low-requires
-    shared-slice-read-high
-    cast-high
-    high-requires
+    shared-slice-read-left-to
+    cast-left-to
+    shared-slice-read-left-to-2
+    cast-left-to-2
+    left-to-requires
     larger-requires
     returns
     next-port-requires

@@ -11,11 +11,12 @@ use Rattle.table.proofs.fill.Statement.{statement}
 use Rattle.table.proofs.fill.Tie as tie
 
 abbrev Inv-loop : tie.InvT-loop
-Inv-loop heads₀ totals₀ order cost lo hi at₀ seen₀ all₀ a₀ heads totals at seen all a = (a ≤ length order + 1) × (length heads ≡ 2145) × (length totals ≡ 2145) × Rooms
-    at seen all × Tallies (sides lo hi) order at seen all a × Rows (sides lo hi) (figures cost (length order)) order heads totals a
+Inv-loop heads₀ totals₀ order cost lo hi at₀ seen₀ all₀ lows₀ sums₀ a₀ heads totals at seen all lows sums a = (a ≤ length order + 1)
+    × (length heads ≡ 2145) × (length totals ≡ 2145) × Rooms at seen all × Tallies (sides lo hi) order at seen all a
+    × Rows (sides lo hi) (figures cost (length order)) order heads totals a × (length lows ≡ 65) × (length sums ≡ 65)
 
 abbrev μ-loop : tie.MeasureT-loop
-μ-loop heads₀ totals₀ order cost lo hi at₀ seen₀ all₀ a₀ heads totals at seen all a = a
+μ-loop heads₀ totals₀ order cost lo hi at₀ seen₀ all₀ lows₀ sums₀ a₀ heads totals at seen all lows sums a = a
 
 add-a : tie.Need-add-a Inv-loop μ-loop
 add-a c = omega arith
@@ -29,6 +30,8 @@ loop-holds c = let s = c .before .before .before .before .before .before in let 
   tallies-none (sides (x .lo .now) (x .hi .now)) (x .order .now) _
       (λ j. omega (arith, p .0 .level j, p .0 .top j)) (p .0 .few),
   λ a′ b′ u v w. absurd (omega arith),
+  refl,
+  refl,
 )
 
 sub-a : tie.Need-sub-a Inv-loop μ-loop
@@ -48,50 +51,72 @@ enter-requires c κs = let p = c .before .before .before .before .before .before
     let l = c .before .before .before .before .loop in let e : l .a - 1 + 1 ≡ l .a = omega arith in (p .0, (l .inv .3, rw e (l .inv .4)))
 
 slice-aggregate-fill-row : tie.Need-slice-aggregate-fill-row Inv-loop μ-loop
-slice-aggregate-fill-row c = sym (c .before .before .before .before .before .before .before .before .before .before .loop .inv .3 .places)
+slice-aggregate-fill-row c = sym (c .before .before .before .before .before .before .before .before .loop .inv .6)
 
 slice-aggregate-fill-row-2 : tie.Need-slice-aggregate-fill-row-2 Inv-loop μ-loop
-slice-aggregate-fill-row-2 c =
-    let n = c .before .before .before .before .before .before in let i = n .before .before .before .before .before .loop .inv in
-    sym (n .enter .kept .1 .0 ∙ i .3 .counts)
+slice-aggregate-fill-row-2 c = sym (c .before .before .before .before .before .before .before .before .before .loop .inv .7)
 
 slice-aggregate-fill-row-3 : tie.Need-slice-aggregate-fill-row-3 Inv-loop μ-loop
-slice-aggregate-fill-row-3 c =
-    let n = c .before .before .before .before .before .before .before in
-    let i = n .before .before .before .before .before .loop .inv in sym (n .enter .kept .1 .1 .0 ∙ i .3 .wholes)
+slice-aggregate-fill-row-3 c = sym (c .before .before .before .before .before .before .before .before .before .before .before .before .loop .inv .3 .places)
+
+slice-aggregate-fill-row-4 : tie.Need-slice-aggregate-fill-row-4 Inv-loop μ-loop
+slice-aggregate-fill-row-4 c = let n = c .before .before .before .before .before .before .before .before in sym (n .enter .kept .1 .0 ∙ n .before .before .before .before
+    .before .loop .inv .3 .counts)
+
+slice-aggregate-fill-row-5 : tie.Need-slice-aggregate-fill-row-5 Inv-loop μ-loop
+slice-aggregate-fill-row-5 c = let n = c .before .before .before .before .before .before .before .before .before in sym (n .enter .kept .1 .1 .0 ∙ n .before .before
+    .before .before .before .loop .inv .3 .wholes)
 
 fill-row-requires : tie.Need-fill-row-requires Inv-loop μ-loop
 fill-row-requires c κs =
-    let n = c .before .before .before .before .before .before .before in let t = n .before .before .before .before .before in let i = t .loop .inv in
-    let s = t .before .before .before .before .before .before .before in let p = s .pre in let e : t .loop .a - 1 + 1 ≡ t .loop .a = omega arith in (
+    let n = c .before .before .before .before .before .before .before .before .before in let t = n .before .before .before .before .before in let i = t .loop .inv in
+    let p = t .before .before .before .before .before .before .before .pre in let e : t .loop .a - 1 + 1 ≡ t .loop .a = omega arith in (
       p .0,
       (
         record { heads = i .1; totals = i .2; square = p .1 .2; cheap = λ k. omega (arith, t .before .before .before .shared-slice-known2 .given k) },
         (
           record { places = i .3 .places; counts = n .enter .kept .1 .0 ∙ i .3 .counts; wholes = n .enter .kept .1 .1 .0 ∙ i .3 .wholes },
-          (omega arith, (n .enter .ensures, rw e (i .5))),
+          (
+            (
+              i .6,
+              i .7,
+              omega (
+                arith,
+                i .0,
+                c .before .before .before .before .before .before .before .before .before .before .before .before .before .loop-test
+                    .taken,
+              ),
+            ),
+            (n .enter .ensures, rw e (i .5)),
+          ),
         ),
       ),
     )
 
 loop-less : tie.Need-loop-less Inv-loop μ-loop
-loop-less c = omega arith
+loop-less c = omega (
+  arith,
+  c .before .before .before .before .before .before .before .before .before .before .before .before .before .before .before .before .before
+      .before .before .before .before .before .loop-test .taken,
+)
 
 loop-again : tie.Need-loop-again Inv-loop μ-loop
 loop-again c =
-    let f = c .before .before .before .before .before .before .fill-row in
-    let n = c .before .before .before .before .before .before .before .before .before .before .before .before .before .before in
+    let f = c .before .before .before .before .before .before .before .before .fill-row in
+    let n = c .before .before .before .before .before .before .before .before .before .before .before .before .before .before .before .before .before .before in
     let i = n .before .before .before .before .before .loop .inv in (
-      omega arith,
-      f .kept .0 ∙ i .1,
-      f .kept .1 .0 ∙ i .2,
+      omega (arith, i .0),
+      f .kept .1 .1 .0 ∙ i .1,
+      f .kept .1 .1 .1 .0 ∙ i .2,
       record {
-        places = f .kept .1 .1 .0 ∙ i .3 .places;
-        counts = f .kept .1 .1 .1 .0 ∙ n .enter .kept .1 .0 ∙ i .3 .counts;
+        places = f .kept .1 .1 .1 .1 .0 ∙ i .3 .places;
+        counts = f .kept .1 .1 .1 .1 .1 .0 ∙ n .enter .kept .1 .0 ∙ i .3 .counts;
         wholes = n .enter .kept .1 .1 .0 ∙ i .3 .wholes;
       },
       f .ensures .0,
       f .ensures .1,
+      f .kept .0 ∙ i .6,
+      f .kept .1 .0 ∙ i .7,
     )
 
 corner-requires : tie.Need-corner-requires Inv-loop μ-loop
@@ -141,6 +166,8 @@ fill-spec =
     slice-aggregate-fill-row
     slice-aggregate-fill-row-2
     slice-aggregate-fill-row-3
+    slice-aggregate-fill-row-4
+    slice-aggregate-fill-row-5
     fill-row-requires
     loop-less
     loop-again

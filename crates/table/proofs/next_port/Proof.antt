@@ -6,7 +6,7 @@ use lib.ListN.{getD}
 use Rattle.table.specs.Cell.{boardOf, Leads, place}
 use Rattle.table.proofs.Counts.{le-or-lt}
 use Rattle.table.proofs.Corners.{corner-step, corner-top}
-use Rattle.table.proofs.Ports.{row-small}
+use Rattle.table.proofs.Ports.{row-small, in-table}
 use Rattle.table.proofs.Cells.{port-ready}
 use Rattle.table.proofs.Leading.{ready-strip, table-parts, leads-none, attains-yes, attains-no}
 use native.Mathlib.Omega.{arith}
@@ -88,7 +88,9 @@ attains-requires c κs = let s = c .before .before .before .before .before .befo
     let p = s .pre in let l = c .before .loop in (
       port-ready (p .0) (p .1 .0 .sizes) (x .r) (x .a) (x .b) (ready-strip (p .0) (p .1 .0) (x .r) (x .a) (x .b) (p .1 .1 .0))
           (table-parts (p .0) (p .1 .0) (x .r) (x .a) (x .b) (p .1 .1 .0)) (l .q) (omega (arith, l .inv .0, p .1 .1 .1 .0))
-          (c .loop-test .taken) _ _ (l .inv .2) (omega (arith, c .before .before .before .before .before .corner .ensures .0)),
+          (c .loop-test .taken) _ _
+          (in-table (p .1 .0 .sizes) (x .a) (l .q) _ (omega (arith, l .inv .0, p .1 .1 .1 .0)) (omega (arith, p .1 .1 .0 .ports, p .0 .few)) (l .inv .2))
+          (omega (arith, c .before .before .before .before .before .corner .ensures .0)),
       c .before .before .before .if1 .left,
     )
 
