@@ -21,20 +21,11 @@ use Rattle.paper.specs.Leaders.{Between}
 use Rattle.paper.specs.Layouts.{Board, Untouching, sum, total, Best, Before, FirstBest, NextBest, LastBest}
 use Rattle.paper.specs.laws.Proper.{Proper}
 use Rattle.paper.specs.laws.Totals.{sum-same}
-use Rattle.paper.specs.laws.Boards.{untouched-iff, untouching-of}
+use Rattle.paper.specs.laws.Boards.{own-number, untouched-iff, untouching-of}
 use Rattle.board.specs.Lists.{FieldsOf, OrderOf, WorkOf}
 use Rattle.board.specs.Sides.{low-high, high-low, clear-iff}
 
 -- ---- the order of the pads
-
--- Two pads have different x.
-apart-x : {b : Board} → Proper b → (i j : ℕ) → i < b .pads → j < b .pads → b .x i ≡ b .x j → i ≡ j
-apart-x P i j h l e = go (decLt j i) (decLt i j)
-  where
-    go : Dec (j < i) → Dec (i < j) → i ≡ j
-    go (yes d) c = absurd (P .differ i j d h e)
-    go (no d) (yes c) = absurd (P .differ j i c l (sym e))
-    go (no d) (no c) = omega arith
 
 -- Sorted by falling x, the pads stand from right to left.
 pub order-of : {b : Board} {xs ys hs order : List ℕ} → Proper b → FieldsOf b xs ys hs → Sorted xs order (length xs) → OrderOf b order
@@ -58,8 +49,8 @@ order-of {b} {xs} {ys} {hs} {order} P X S = record { arranged = A; falls = stric
             → getD xs (getD order q 0) 0 ≡ b .x (getD order q 0) → Dec (b .x (getD order q 0) < b .x (getD order p 0)) → b .x (getD order q 0) < b .x (getD order p 0)
         go s e d (yes c) = c
         go s e d (no c) =
-            let z = A .apart q p l (omega arith) (apart-x P (getD order q 0) (getD order p 0) (at q l) (at p (omega arith)) (omega arith)) in
-            absurd (omega arith)
+            let same = own-number (b .pads) (b .x) (P .differ) (getD order q 0) (getD order p 0) (at q l) (at p (omega arith)) (omega arith) in
+            absurd (omega (arith, A .apart q p l (omega arith) same))
 
 -- ---- sums
 

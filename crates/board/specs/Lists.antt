@@ -6,14 +6,10 @@ use Prim.Native.Nat.{ℕ, _+_, _*_, _≤_, _<_}
 use lib.ListN.{length, getD}
 use lib.IntN.{ℤ, pos, _+ℤ_}
 use lib.Signed.{_≤ℤ_, _<ℤ_}
+use Rattle.numbers.specs.Filled.{Filled}
 use Rattle.order.specs.Arrangement.{Arrangement}
 use Rattle.paper.specs.Layouts.{Board, boardOf, weighted}
 use Rattle.paper.specs.laws.Proper.{Proper}
-
--- The list has n entries, and each of the first k is as P says.
-pub record Filled (n : ℕ) (P : ℕ → ℕ → Type 0) (list : List ℕ) (k : ℕ) : Type 0 where
-  pub long : length list ≡ n
-  pub at : (j : ℕ) → j < k → P j (getD list j 0)
 
 -- Heights are held as naturals: r stands for the height z.
 abbrev pub Raised : ℤ → ℕ → Type 0

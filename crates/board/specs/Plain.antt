@@ -10,38 +10,16 @@ use native.Mathlib.Decide.{decLt}
 use native.Mathlib.Omega.{arith}
 use lib.Dec.{eqb}
 use borrow.Author.Tests.{ne-eqb}
-use lib.ListN.{length, getD, set, length-set, List·getD-eq-default}
-use lib.Seq.{getD-set-same, getD-set-other}
+use lib.ListN.{length, getD, set, List·getD-eq-default}
 use lib.IntN.{ℤ, natAbs}
 use lib.Signed.{_≤ℤ_, _<ℤ_}
 use Rattle.numbers.specs.Whole.{whole, abs-num, plus-num, apart-num}
 use Rattle.paper.specs.Job.{count}
 use Rattle.paper.specs.Leaders.{distance, lengthOf, bendsOf}
 use Rattle.paper.specs.Layouts.{Board, boardOf, weighted}
-use Rattle.board.specs.Lists.{Filled, Raised, FieldsOf, FirstOnes, SidesOf, CostsOf}
+use Rattle.numbers.specs.Filled.{Filled, filled-more, filled-to, place-in}
+use Rattle.board.specs.Lists.{Raised, FieldsOf, FirstOnes, SidesOf, CostsOf}
 use Rattle.paper.specs.laws.Accepted.{Accepted}
-
--- ---- filling a list
-
--- At first nothing is filled;
-pub filled-none : {n : ℕ} {P : ℕ → ℕ → Type 0} {list : List ℕ} → length list ≡ n → Filled n P list 0
-filled-none e = record { long = e; at = λ j h. absurd (omega arith) }
-
--- a store fills the next entry;
-pub filled-more : {n : ℕ} {P : ℕ → ℕ → Type 0} {list : List ℕ} {k : ℕ} → k < n → Filled n P list k → (v : ℕ) → P k v → Filled n P (set list k v) (k + 1)
-filled-more {n} {P} {list} {k} h F v p = record { long = length-set list k v ∙ F .long; at = λ j l. go j l (decLt j k) }
-  where
-    go : (j : ℕ) → j < k + 1 → Dec (j < k) → P j (getD (set list k v) j 0)
-    go j l (yes d) = rw (getD-set-other list k j v 0 (λ e. omega arith)) (F .at j d)
-    go j l (no d) = let e : j ≡ k = omega arith in rw (e, getD-set-same list k v 0 (omega (arith, F .long))) p
-
--- and when no entry is left all are filled.
-pub filled-done : {n : ℕ} {P : ℕ → ℕ → Type 0} {list : List ℕ} {k : ℕ} → n ≤ k → Filled n P list k → Filled n P list n
-filled-done h F = record { long = F .long; at = λ j l. F .at j (omega arith) }
-
--- Filled up to k is filled up to m, where these are the same.
-pub filled-to : {n : ℕ} {P : ℕ → ℕ → Type 0} {list : List ℕ} {k m : ℕ} → k ≡ m → Filled n P list k → Filled n P list m
-filled-to e F = rw (← e) F
 
 -- an entry past the end reads as 0
 small : {n : ℕ} (list : List ℕ) (m : ℕ) → length list ≡ n → ((j : ℕ) → j < n → getD list j 0 ≤ m) → (j : ℕ) → getD list j 0 ≤ m
@@ -193,11 +171,7 @@ Weighed xs ys hs lw bw cs k =
 pub row-end : (j p q : ℕ) → q ≡ p → j * p + q ≡ (j + 1) * p
 row-end j p q e = rw (add-one j, suc-mul j p) (omega arith)
 
--- Each pad's place with each port is in the table,
-pub place-in : (n p j q : ℕ) → j < n → q < p → j * p + q < n * p
-place-in n p j q h l = omega (arith, mul-le-mul-right p h, suc-mul j p)
-
--- and it is the place of one pad only.
+-- A place is that of one pad only.
 pub place-pad : (p i r j q : ℕ) → r < p → q < p → i * p + r ≡ j * p + q → i ≡ j
 place-pad p i r j q h l e = go (decLt i j) (decLt j i)
   where

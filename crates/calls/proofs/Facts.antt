@@ -1,31 +1,20 @@
 -- From what the search replies on an accepted job to what the calls promise.
 use mathlib.Core.List.{List}
-use Prim.Native.Nat.{ℕ, _≤_}
+use Prim.Native.Nat.{ℕ}
 use lib.ListN.{length}
 use Rattle.steps.specs.declared.Answer.the-variants.{Total, End, NotBest}
 use Rattle.paper.specs.declared.Answer.the-variants.{Total as Sum, End as Last, Refused}
-use Rattle.paper.specs.Job.{count}
-use Rattle.paper.specs.Layouts.{boardOf, held, Untouching}
 use Rattle.paper.specs.Refusals.{refusal, Passed, firstTrials, measureTrials}
 use Rattle.paper.specs.Promises.{FirstAnswers, NextAnswers}
-use Rattle.paper.specs.laws.Accepted.{Accepted, first-accepted, measure-accepted, best-passed, not-best-refused}
+use Rattle.paper.specs.laws.Accepted.{best-passed, not-best-refused}
 use Rattle.sheets.specs.Replies.{FirstOn, NextOn}
 
 module _ (job : List ℕ) (lw bw : ℕ) (before : List ℕ) where
-  -- what the search goes by
-  pub first-facts : Passed (firstTrials job lw bw (length before)) → Accepted job × (lw ≤ 1000) × (bw ≤ 1000) × (count job ≤ length before)
-  first-facts p = first-accepted job lw bw (length before) p
-
-  pub first-answers : (after : List ℕ) (t : ℕ) → Passed (firstTrials job lw bw (length before)) → FirstOn job lw bw before after t → FirstAnswers job lw bw before (Sum t) after
+  pub first-answers : (after : List ℕ) (t : ℕ) → Passed (firstTrials job lw bw (length before)) → FirstOn job lw bw before after t
+      → FirstAnswers job lw bw before (Sum t) after
   first-answers after t p f = (p, f .0, f .1, f .2)
 
   module _ (p : Passed (measureTrials job lw bw before)) where
-    pub next-facts : Accepted job × (lw ≤ 1000) × (bw ≤ 1000) × (count job ≤ length before)
-    next-facts = first-accepted job lw bw (length before) (measure-accepted job lw bw before p .0)
-
-    pub untouching : Untouching (boardOf job) (held before)
-    untouching = measure-accepted job lw bw before p .1
-
     pub total-answers : (after : List ℕ) (t : ℕ) → NextOn job lw bw before after (Total t) → NextAnswers job lw bw before (Sum t) after
     total-answers after t n = (best-passed job lw bw before p (n .0), n .1, n .2, n .3)
 

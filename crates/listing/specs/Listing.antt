@@ -7,7 +7,8 @@ use native.Mathlib.Nat.{not-suc-le-zero, le-of-suc-le-suc, zero-lt-suc}
 use native.Mathlib.Decide.{decLt}
 use native.Mathlib.Omega.{arith}
 use lib.ListN.{length, getD}
-use Rattle.listing.specs.Calls.{Property, Relation, Compared, before, same, after, Order, Earliest, EarliestAfter, Answer, sheet, end, Calls, Asked, Run, Steps, SoFar, Once, Listing}
+use Rattle.listing.specs.Calls.{Property, Relation, Compared, before, same, after, Order, Earliest, EarliestAfter, Answer, sheet, end}
+use Rattle.listing.specs.Calls.{Calls, Asked, Run, Steps, SoFar, Once, Listing}
 
 -- ---- one answer only: what the promises determine
 

@@ -6,12 +6,12 @@ use Rattle.strips.specs.Least.{Least, none, some, least}
 use mathlib.Core.List.{List, _∷_}
 use Prim.Native.Nat.{ℕ, _+_, _-_, _*_, _^_, _≤_, _<_, min}
 use native.Mathlib.Omega.{arith}
-use native.Mathlib.Nat.{mul-le-mul-right, suc-mul}
 use native.Mathlib.Numerals.{add-one}
 use lib.Dec.{ltb, eqb}
 use lib.ListN.{length, drop, getD}
 use lib.Seq.{drop-cons}
 use borrow.Author.Tests.{ltb-true, ltb-false, eqb-true, eqb-false}
+use Rattle.numbers.specs.Filled.{place-in}
 use Rattle.table.specs.Strip.{Sides, fits, bit, count, parted, best, local}
 use Rattle.table.specs.Cell.{sides, figures, choice, place, coded, Pads, Sizes, Strip, Head, Valued, Cell, Parts, Port, sumAt, portTotal}
 use Rattle.table.proofs.Counts.{le-or-lt, lt-or-le, bit-le, bit-true, count-step, parted-least, parts-most, parted-less, count-drop}
@@ -147,9 +147,6 @@ module _ (S : Sides) (C : ℕ → ℕ → Least) (level : (j : ℕ) → S .lo j 
 pub figures-cheap : {hs ts order cs : List ℕ} → Sizes hs ts order cs → (j q : ℕ) → AtMost (2 ^ 32) (figures cs (length order) j q)
 figures-cheap {hs} {ts} {order} {cs} Z j q = let u = Z .cheap (j * length order + q) in omega arith
 
-row-fits : (n j q : ℕ) → j < n → q < n → j * n + q < n * n
-row-fits n j q u v = let m = mul-le-mul-right n u in omega (arith, suc-mul j n)
-
 module _ {hs ts order cs lo hi : List ℕ} (P : Pads order lo hi) (Z : Sizes hs ts order cs) (r a b : ℕ) (T : Strip (sides lo hi) order a b r)
     (D : Parts (sides lo hi) (figures cs (length order)) order hs ts a b) (q : ℕ) (aq : a ≤ q) (qb : q < b) where
   abbrev h-below : ℕ
@@ -193,7 +190,7 @@ module _ {hs ts order cs lo hi : List ℕ} (P : Pads order lo hi) (Z : Sizes hs 
       low-total = L .total-listed;
       high-head = let t = corner-top b b64 in omega (arith, b64, Z .heads);
       high-total = let t = corner-top b b64 in omega (arith, b64, Z .totals);
-      listed = let f = row-fits (length order) (getD order r 0) q (P .listed r (T .listed)) (omega (arith, T .ports)) in omega (arith, Z .square);
+      listed = let f = place-in (length order) (length order) (getD order r 0) q (P .listed r (T .listed)) (omega (arith, T .ports)) in omega (arith, Z .square);
       small = rw (L .head, L .total, ea) (λ u v. small-parts (sides lo hi) (figures cs (length order)) (P .level) (figures-cheap Z) order r a b q (T .listed) b64 aq qb
           (T .rest)
           h-below x-below (D q aq qb .0) h-above x-above (D q aq qb .1) (getD order r 0) u v);

@@ -10,17 +10,10 @@ use lib.ListN.{length, getD, take, drop, take-append-drop}
 use lib.Seq.{drop-cons, drop-drop}
 use lib.Dec.{leb}
 use borrow.Author.Tests.{leb-true, leb-false, le-leb, lt-leb}
+use Rattle.strips.specs.Lists.{both}
 use Rattle.table.specs.Strip.{Sides, spans, fits, bit, count, cut, parted}
 
 -- ---- tests
-
-pub and-left : (x y : Bool) → (x && y) ≡ true → x ≡ true
-and-left true y h = refl
-and-left false y h = h
-
-pub and-right : (x y : Bool) → (x && y) ≡ true → y ≡ true
-and-right true y h = h
-and-right false y h = absurd (false≢true h)
 
 pub le-or-lt : (m n : ℕ) → (m ≤ n) ⊎ (n < m)
 le-or-lt m n = go (leb m n) refl
@@ -40,11 +33,11 @@ lt-or-le m n = go (le-or-lt n m)
 
 pub spans-lo : (a b l h : ℕ) → spans a b l h ≡ true → a ≤ l
 unfolding spans
-spans-lo a b l h e = leb-true a l (and-left (leb a l) (leb h b) e)
+spans-lo a b l h e = leb-true a l (both (leb a l) (leb h b) e .0)
 
 pub spans-hi : (a b l h : ℕ) → spans a b l h ≡ true → h ≤ b
 unfolding spans
-spans-hi a b l h e = leb-true h b (and-right (leb a l) (leb h b) e)
+spans-hi a b l h e = leb-true h b (both (leb a l) (leb h b) e .1)
 
 pub spans-by : (a b l h : ℕ) → a ≤ l → h ≤ b → spans a b l h ≡ true
 unfolding spans
@@ -105,8 +98,8 @@ module _ (S : Sides) (a b q : ℕ) where
   parted-least [] e = zero-le
   parted-least (j ∷ js) e =
       let first = cut (fits S a b j) (fits S a q j) (fits S (q + 1) b j) in
-      let one = share-least (fits S a b j) (fits S a q j) (fits S (q + 1) b j) (and-left first (parted S a b q js) e) in
-      let more = parted-least js (and-right first (parted S a b q js) e) in
+      let one = share-least (fits S a b j) (fits S a q j) (fits S (q + 1) b j) (both first (parted S a b q js) e .0) in
+      let more = parted-least js (both first (parted S a b q js) e .1) in
       omega arith
 
 module _ (S : Sides) (level : (j : ℕ) → S .lo j ≤ S .hi j) (a b q : ℕ) (aq : a ≤ q) (qb : q < b) where

@@ -8,8 +8,8 @@ use native.Mathlib.Nat.{mul-le-mul}
 use lib.Dec.{ltb, eqb}
 use lib.ListN.{length, getD}
 use borrow.Author.Tests.{ltb-true, ne-eqb}
+use Rattle.strips.specs.Lists.{both}
 use Rattle.table.specs.Cell.{place, Sizes, Copied, Port, opens, sumAt, portTotal}
-use Rattle.table.proofs.Counts.{and-left, and-right}
 use Rattle.table.proofs.Corners.{corner-top}
 
 -- the lists hb and tb have at `below` what the tables have of the strip a .. q - 1
@@ -39,11 +39,9 @@ module _ {hb tb hs ts cs : List ℕ} {past row q below above : ℕ} (P : Port hb
   -- what `sum_at` asks
   pub port-sum : opens hb hs past below above ≡ true
       → ((below < length tb) × (above < length ts) × (row + q < length cs)) × ((getD tb below 0 ≤ 2 ^ 38) × (getD ts above 0 ≤ 2 ^ 38))
-  port-sum e = (
-    (P .low-total, P .high-total, P .listed),
-    P .small (ltb-true past (getD hb below 0) (and-left (ltb past (getD hb below 0)) (ltb past (getD hs above 0)) e))
-        (ltb-true past (getD hs above 0) (and-right (ltb past (getD hb below 0)) (ltb past (getD hs above 0)) e)),
-  )
+  port-sum e =
+      let t = both (ltb past (getD hb below 0)) (ltb past (getD hs above 0)) e in
+      ((P .low-total, P .high-total, P .listed), P .small (ltb-true past (getD hb below 0) (t .0)) (ltb-true past (getD hs above 0) (t .1)))
 
   port-open : opens hb hs past below above ≡ true → portTotal hb tb hs ts cs past row q below above ≡ sumAt tb ts cs row q below above
   port-open e = rw e refl

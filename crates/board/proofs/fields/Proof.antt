@@ -4,8 +4,8 @@ use mathlib.Core.Path.{_≡_}
 use native.Mathlib.Omega.{arith}
 use borrow.Author.Needs.{needs}
 use Rattle.paper.specs.Job.{count, xOf, yOf, portOf}
-use Rattle.board.specs.Lists.{Filled, Raised}
-use Rattle.board.specs.Plain.{filled-none, filled-more, filled-done}
+use Rattle.numbers.specs.Filled.{Filled, filled-none, filled-more, filled-done}
+use Rattle.board.specs.Lists.{Raised}
 use Rattle.numbers.specs.Bits.{read-back}
 use Rattle.board.proofs.fields.Statement.{statement}
 use Rattle.board.proofs.fields.Tie as tie

@@ -3,7 +3,8 @@ use mathlib.Core.Path.{_∙_, sym}
 use Prim.Native.Nat.{_-_}
 use native.Mathlib.Omega.{arith}
 use lib.ListN.{length}
-use Rattle.board.specs.Plain.{filled-none, filled-more, filled-done, counted-none, counted-on, Lows, Highs}
+use Rattle.numbers.specs.Filled.{filled-none, filled-more, filled-done}
+use Rattle.board.specs.Plain.{counted-none, counted-on, Lows, Highs}
 use Rattle.board.proofs.sides.Statement.{statement}
 use Rattle.board.proofs.sides.Tie as tie
 

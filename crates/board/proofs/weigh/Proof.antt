@@ -3,7 +3,8 @@ use mathlib.Core.Path.{_≡_, _∙_, sym, ap}
 use Prim.Native.Nat.{ℕ, _-_, _*_, _≤_}
 use native.Mathlib.Omega.{arith}
 use lib.ListN.{length}
-use Rattle.board.specs.Plain.{filled-none, filled-to, Weighed}
+use Rattle.numbers.specs.Filled.{filled-none, filled-to}
+use Rattle.board.specs.Plain.{Weighed}
 use Rattle.board.proofs.weigh.Statement.{statement}
 use Rattle.board.proofs.weigh.Tie as tie
 

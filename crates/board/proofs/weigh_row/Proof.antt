@@ -4,7 +4,8 @@ use mathlib.Core.Path.{_∙_, sym}
 use native.Mathlib.Nat.{mul-le-mul}
 use native.Mathlib.Omega.{arith}
 use lib.ListN.{length}
-use Rattle.board.specs.Plain.{place-in, Weighed, filled-to, weighed-more, row-end}
+use Rattle.numbers.specs.Filled.{filled-to, place-in}
+use Rattle.board.specs.Plain.{Weighed, weighed-more, row-end}
 use Rattle.board.proofs.weigh_row.Statement.{statement}
 use Rattle.board.proofs.weigh_row.Tie as tie
 

@@ -6,7 +6,8 @@ use lib.ListN.{length}
 use Rattle.paper.specs.Refusals.{firstTrials}
 use Rattle.paper.specs.laws.Trials.{Judged, judged-sound, judged-refused}
 use Rattle.paper.specs.laws.Judged.{first-judged}
-use Rattle.calls.proofs.Facts.{first-facts, first-answers}
+use Rattle.calls.proofs.Facts.{first-answers}
+use Rattle.paper.specs.laws.Accepted.{first-accepted}
 use Rattle.calls.proofs.first.Statement.{statement}
 use Rattle.calls.proofs.first.Tie as tie
 
@@ -25,7 +26,7 @@ first-on-requires : tie.Need-first-on-requires
 first-on-requires c κs =
     let told = c .before in
     let a = told .before .before .before .before .before .args in
-    first-facts (now (a .job)) (a .lw) (a .bw) (now (a .list)) (judged-sound _ _ (judged (told .before .before)) (told .enum-told .given .1))
+    first-accepted (now (a .job)) (a .lw) (a .bw) (length (now (a .list))) (judged-sound _ _ (judged (told .before .before)) (told .enum-told .given .1))
 
 enum-known-v : tie.Need-enum-known-v
 enum-known-v c = search needs

@@ -39,7 +39,9 @@ lead-requires c κs =
 
 returns : tie.Need-returns
 returns c =
-    rw (c .lead .ensures, c .before .before .before .x .ensures, toZ-ofZ (sfits-of (c .before .before .y .ok)), c .before .before .y .ensures .0, toZ-ofZ (sfits-of (c .before .port .ok)), c .before .port .ensures .0)
+    let y = c .before .before .y in
+    let port = c .before .port in
+    rw (c .lead .ensures, c .before .before .before .x .ensures, toZ-ofZ (sfits-of (y .ok)), y .ensures .0, toZ-ofZ (sfits-of (port .ok)), port .ensures .0)
 
 pub lead-spec : {M : Type 1} → statement M
 lead-spec = tie.close (tie.spec cast-pad cast-port x-requires y-requires port-requires lead-requires returns)

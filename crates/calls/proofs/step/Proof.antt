@@ -1,7 +1,8 @@
 -- `calls::step` meets its contract. Assumes nothing.
 use denote.Ref.{now}
 use borrow.Author.Needs.{needs}
-use Rattle.calls.proofs.Facts.{next-facts, untouching, total-answers, end-answers, not-best-answers}
+use Rattle.paper.specs.laws.Accepted.{measure-accepted, measure-facts}
+use Rattle.calls.proofs.Facts.{total-answers, end-answers, not-best-answers}
 use Rattle.calls.proofs.step.Statement.{statement}
 use Rattle.calls.proofs.step.Tie as tie
 
@@ -9,7 +10,7 @@ next-on-requires : tie.Need-next-on-requires
 next-on-requires c κs =
     let s = c .before .before .before in
     let a = s .args in
-    (next-facts (now (a .job)) (a .lw) (a .bw) (now (a .list)) (s .pre), untouching (now (a .job)) (a .lw) (a .bw) (now (a .list)) (s .pre))
+    (measure-facts (now (a .job)) (a .lw) (a .bw) (now (a .list)) (s .pre), measure-accepted (now (a .job)) (a .lw) (a .bw) (now (a .list)) (s .pre) .1)
 
 enum-known-s : tie.Need-enum-known-s
 enum-known-s c = search needs

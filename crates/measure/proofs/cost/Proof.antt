@@ -45,7 +45,8 @@ returns c =
     let a = c .before .length .ensures .0 in
     let b = c .bends .ensures .0 in
     let ok = s .pre .0 in
-    let most = weighted-bound (boardOf (now (s .args .job))) (s .args .lw) (s .args .bw) (s .pre .1) (s .pre .2) (ok .width) (ok .pad) (ok .port) (s .args .i) (s .args .q) (s .pre .3) (s .pre .4) in
+    let x = s .args in
+    let most = weighted-bound (boardOf (now (x .job))) (x .lw) (x .bw) (s .pre .1) (s .pre .2) (ok .width) (ok .pad) (ok .port) (x .i) (x .q) (s .pre .3) (s .pre .4) in
     (rw (a, b), rw (a, b) most)
 
 pub cost-spec : {M : Type 1} → statement M

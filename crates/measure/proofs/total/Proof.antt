@@ -7,7 +7,8 @@ use borrow.Author.Needs.{needs}
 use Rattle.paper.specs.Job.{count}
 use Rattle.paper.specs.Layouts.{boardOf, held, weighted, sum as costs}
 use Rattle.paper.specs.laws.Totals.{sum-none, sum-more}
-use Rattle.measure.proofs.Facts.{facts, entries, so-far, total-most}
+use Rattle.measure.proofs.Facts.{entries, so-far, total-most}
+use Rattle.paper.specs.laws.Accepted.{measure-facts}
 use Rattle.measure.proofs.total.Statement.{statement}
 use Rattle.measure.proofs.total.Tie as tie
 
@@ -24,7 +25,7 @@ costs-most c =
     rw (c .loop .inv .1) (so-far (now (s .args .job)) (s .args .lw) (s .args .bw) (now (s .args .list)) (s .pre) (c .loop .i) (omega arith))
 
 records-requires : tie.Need-records-requires Inv-loop μ-loop
-records-requires c κs = let s = c .before .before in omega (arith, facts (now (s .args .job)) (s .args .lw) (s .args .bw) (now (s .args .list)) (s .pre) .0 .size)
+records-requires c κs = let s = c .before .before in omega (arith, measure-facts (now (s .args .job)) (s .args .lw) (s .args .bw) (now (s .args .list)) (s .pre) .0 .size)
 
 loop-holds : tie.Need-loop-holds Inv-loop μ-loop
 loop-holds c = (search needs, sum-none _)
@@ -38,20 +39,20 @@ mul-q c = search needs
 shared-slice-read-q : tie.Need-shared-slice-read-q Inv-loop μ-loop
 shared-slice-read-q c =
     let s = c .before .before .before .before .before .before in
-    omega (arith, facts (now (s .args .job)) (s .args .lw) (s .args .bw) (now (s .args .list)) (s .pre) .3)
+    omega (arith, measure-facts (now (s .args .job)) (s .args .lw) (s .args .bw) (now (s .args .list)) (s .pre) .3)
 
 cost-requires : tie.Need-cost-requires Inv-loop μ-loop
 cost-requires c κs =
     let s = c .before .before .before .before .before .before in
     let i = c .before .before .loop .i in
     let h : i < count (now (s .args .job)) = omega arith in
-    let f = facts (now (s .args .job)) (s .args .lw) (s .args .bw) (now (s .args .list)) (s .pre) in
+    let f = measure-facts (now (s .args .job)) (s .args .lw) (s .args .bw) (now (s .args .list)) (s .pre) in
     (f .0, f .1, f .2, h, entries (now (s .args .job)) (s .args .lw) (s .args .bw) (now (s .args .list)) (s .pre) i h)
 
 add-sum : tie.Need-add-sum Inv-loop μ-loop
 add-sum c =
     let s = c .before .before .before .before .before .before .before in
-    omega (arith, costs-most (c .before .before .before), facts (now (s .args .job)) (s .args .lw) (s .args .bw) (now (s .args .list)) (s .pre) .0 .few)
+    omega (arith, costs-most (c .before .before .before), measure-facts (now (s .args .job)) (s .args .lw) (s .args .bw) (now (s .args .list)) (s .pre) .0 .few)
 
 add-i : tie.Need-add-i Inv-loop μ-loop
 add-i c = omega arith

@@ -12,7 +12,8 @@ use Rattle.numbers.specs.Whole.{whole, nle-num}
 use Rattle.paper.specs.declared.Refusal.{Refusal}
 use Rattle.paper.specs.Job.{count, reservedOf, xOf, yOf, portOf}
 use Rattle.paper.specs.Layouts.{boardOf, held, weighted, total, Layout, Untouching, Best}
-use Rattle.paper.specs.Refusals.{BadSize, BadEntry, Passed, RefusedBy, jobTrials, firstTrials, measureTrials, nextTrials, drawTrials, layoutTrials, bestTrial, numberTrial, refusal}
+use Rattle.paper.specs.Refusals.{BadSize, BadEntry, Passed, RefusedBy, refusal}
+use Rattle.paper.specs.Refusals.{jobTrials, firstTrials, measureTrials, nextTrials, drawTrials, layoutTrials, bestTrial, numberTrial}
 use Rattle.paper.specs.laws.Proper.{Differ, Rising, Proper}
 use Rattle.paper.specs.laws.Trials.{passed-append, append-passed, refused-left, refused-right}
 use Rattle.paper.specs.laws.Judged.{passed-differ}
@@ -92,7 +93,7 @@ pub accepted-bound : (job : List ℕ) (lw bw : ℕ) → Accepted job → lw ≤ 
 accepted-bound job lw bw a h k f l = total-bound (boardOf job) lw bw h k (a .width) (a .pad) (a .port) f (a .few) (l .inside)
 
 module _ (job : List ℕ) (lw bw : ℕ) (list : List ℕ) where
-  -- Measure's are exactly if First's are and the list holds an untouching layout.
+  -- Measure's are passed: First's are, and the list holds an untouching layout.
   pub measure-accepted : Passed (measureTrials job lw bw list) → Passed (firstTrials job lw bw (length list)) × Untouching (boardOf job) (held list)
   measure-accepted p =
       let (passed, (c8, (c9, _))) = append-passed (firstTrials job lw bw (length list)) (layoutTrials (boardOf job) list) p in (
@@ -103,6 +104,11 @@ module _ (job : List ℕ) (lw bw : ℕ) (list : List ℕ) where
         },
       )
 
+  -- So then the job is accepted, with weights in range and room for the layout.
+  pub measure-facts : Passed (measureTrials job lw bw list) → Accepted job × (lw ≤ 1000) × (bw ≤ 1000) × (count job ≤ length list)
+  measure-facts p = first-accepted job lw bw (length list) (measure-accepted p .0)
+
+  -- And the other way round.
   pub untouching-passed : Passed (firstTrials job lw bw (length list)) → Untouching (boardOf job) (held list) → Passed (measureTrials job lw bw list)
   untouching-passed p u =
       passed-append (firstTrials job lw bw (length list)) (layoutTrials (boardOf job) list) p (entries, ((λ i l (j, k, t). u .apart i j k l t), tt))
@@ -131,4 +137,4 @@ module _ (job : List ℕ) (lw bw : ℕ) (list : List ℕ) where
   next-measured p = append-passed (measureTrials job lw bw list) (bestTrial (boardOf job) (weighted (boardOf job) lw bw) list ∷ []) p .0
 
   pub next-differ : Passed (nextTrials job lw bw list) → Differ (boardOf job)
-  next-differ p = first-accepted job lw bw (length list) (measure-accepted (next-measured p) .0) .0 .proper .differ
+  next-differ p = measure-facts (next-measured p) .0 .proper .differ

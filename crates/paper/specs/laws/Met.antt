@@ -13,12 +13,13 @@ use Rattle.paper.specs.declared.Drawn.the-variants.{Refused as NotDrawn}
 use Rattle.paper.specs.Job.{count}
 use Rattle.paper.specs.Layouts.{boardOf, held, leader, weighted, Best, NextBest, LastBest}
 use Rattle.paper.specs.Refusals.{Passed, firstTrials, measureTrials, drawTrials, refusal}
-use Rattle.paper.specs.Promises.{totalOf, number, drawnNumber, coordinates, overwritten, FirstAnswers, NextAnswers, FirstPromise, NextPromise, MeasurePromise, DrawPromise}
+use Rattle.paper.specs.Promises.{totalOf, number, drawnNumber, coordinates, overwritten, FirstAnswers, NextAnswers}
+use Rattle.paper.specs.Promises.{FirstPromise, NextPromise, MeasurePromise, DrawPromise}
 use Rattle.paper.specs.laws.Verdicts.{run, firstFindings, measureFindings, drawFindings}
 use Rattle.paper.specs.laws.Proper.{Differ}
 use Rattle.paper.specs.laws.Trials.{Judged}
 use Rattle.paper.specs.laws.Judged.{first-judged, measure-judged, draw-judged}
-use Rattle.paper.specs.laws.Accepted.{first-accepted, measure-accepted, best-passed, not-best-refused, measure-refused}
+use Rattle.paper.specs.laws.Accepted.{first-accepted, measure-accepted, measure-facts, best-passed, not-best-refused, measure-refused}
 use Rattle.paper.specs.laws.Order.{first-best-same, next-best-same}
 use Rattle.paper.specs.laws.Earliest.{first-exists, next-or-last, listed}
 use Rattle.paper.specs.laws.Trying.{best-dec}
@@ -77,7 +78,7 @@ module _ (job : List ℕ) (lw bw : ℕ) (before : List ℕ) where
 
       go : (v : Verdict) → Judged v (measureTrials job lw bw before) → (n : ℤ) × (after : List ℕ) × NextPromise job lw bw before n after
       go Sound p =
-          let a = first-accepted job lw bw (length before) (measure-accepted job lw bw before p .0) in
+          let a = measure-facts job lw bw before p in
           judge p (best-dec (boardOf job) (weighted (boardOf job) lw bw) (a .0 .proper .differ) (held before))
       go (Stopped r) p = (number (Refused r), before, (Refused r, (measure-refused job lw bw before r p, refl), refl))
 

@@ -80,7 +80,8 @@ module _ (p : ℕ → Bool) where
   at-is zero i e = absurd (at≢nowhere (sym e))
   at-is (suc n) i e = go (at-is n i) (first p n) (p n) refl refl e
     where
-      go : (first p n ≡ At i → (i < n) × (p i ≡ true) × (first p i ≡ Nowhere)) → (f : Found) (t : Bool) → first p n ≡ f → p n ≡ t → orAt f t n ≡ At i → (i < suc n) × (p i ≡ true) × (first p i ≡ Nowhere)
+      go : (first p n ≡ At i → (i < n) × (p i ≡ true) × (first p i ≡ Nowhere)) → (f : Found) (t : Bool) → first p n ≡ f → p n ≡ t → orAt f t n ≡ At i
+          → (i < suc n) × (p i ≡ true) × (first p i ≡ Nowhere)
       go below (At k) t a b e =
           let q : k ≡ i = cc in
           let r = below (a ∙ ap At q) in

@@ -1,12 +1,13 @@
 -- STRAIGHTENING, for any cost and any rule of touching that obey `Uncross`: a layout becomes one in which no leader touches another, at no greater total.
 -- While a leader touches that of a pad further left, the two pads swap their ports. This ends: the left pad's cost falls, and the right one's rises by no
 -- more; so the sum of the costs, each times a weight that is the larger the further left its pad is, falls.
-use mathlib.Core.Path.{_≡_, refl, sym, ap, _∙_}
-use mathlib.Core.Logic.{_≢_, _⊎_, inl, inr, ⊎-elim, ite}
+use mathlib.Core.Path.{_≡_, ap}
+use mathlib.Core.Logic.{_≢_, _⊎_, inl, inr, ⊎-elim}
 use Prim.Native.Nat.{ℕ, zero, suc, _+_, _*_, _-_, _≤_, _<_}
-use native.Mathlib.Decide.{decLt, ℕ-discrete}
+use native.Mathlib.Decide.{decLt}
 use native.Mathlib.Nat.{mul-le-mul-left, le-of-lt}
 use native.Mathlib.Omega.{arith}
+use Rattle.numbers.specs.Trade.{trade, trade-left, trade-right, trade-other, trade-own, trade-below}
 use Rattle.paper.specs.Layouts.{Board, Layout, sum, total}
 use Rattle.paper.specs.laws.Totals.{term-le, sum-but-two}
 use Rattle.paper.specs.laws.Boards.{own-pad}
@@ -45,36 +46,6 @@ each-or {P} {Q} (suc n) h = go (h n (omega arith)) (each-or n (λ i l. h i (omeg
 
 -- ---- two pads swap their ports
 
--- j for i and i for j, and every other number for itself
-unfoldable trade : ℕ → ℕ → ℕ → ℕ
-trade i j k = ite (ℕ-discrete k i) j (ite (ℕ-discrete k j) i k)
-
--- What holds of i with j, of j with i and of every other number with itself holds of every number with the one that it is traded for.
-traded : (R : ℕ → ℕ → Type 0) (i j : ℕ) → R i j → R j i → ((k : ℕ) → k ≢ i → k ≢ j → R k k) → (k : ℕ) → R k (trade i j k)
-unfolding trade
-traded R i j a b c k = go (ℕ-discrete k i) (ℕ-discrete k j)
-  where
-    go : (d : Dec (k ≡ i)) (e : Dec (k ≡ j)) → R k (ite d j (ite e i k))
-    go (yes d) e = rw d a
-    go (no d) (yes e) = rw e b
-    go (no d) (no e) = c k d e
-
-trade-left : (i j : ℕ) → trade i j i ≡ j
-trade-left i j = traded (λ k l. k ≡ i → l ≡ j) i j (omega arith) (omega arith) (omega arith) i refl
-
-trade-right : (i j : ℕ) → trade i j j ≡ i
-trade-right i j = traded (λ k l. k ≡ j → l ≡ i) i j (omega arith) (omega arith) (omega arith) j refl
-
-trade-other : (i j k : ℕ) → k ≢ i → k ≢ j → trade i j k ≡ k
-trade-other i j = traded (λ k l. k ≢ i → k ≢ j → l ≡ k) i j (omega arith) (omega arith) (omega arith)
-
--- No two numbers are traded for one.
-trade-own : (i j k l : ℕ) → trade i j k ≡ trade i j l → k ≡ l
-trade-own i j k l e = sym (twice k) ∙ ap (trade i j) e ∙ twice l
-  where
-    twice : (k : ℕ) → trade i j (trade i j k) ≡ k
-    twice = traded (λ k l. trade i j l ≡ k) i j (trade-right i j) (trade-left i j) (trade-other i j)
-
 -- Their new costs stand in place of their old ones.
 sum-trade : (cost : ℕ → ℕ → ℕ) (n i j : ℕ) (f : ℕ → ℕ) → i < n → j < n → i ≢ j
     → sum n (λ k. cost k (f (trade i j k))) + cost i (f i) + cost j (f j) ≡ sum n (λ k. cost k (f k)) + cost i (f j) + cost j (f i)
@@ -112,7 +83,7 @@ module _ (b : Board) (cost : ℕ → ℕ → ℕ) (Clear : ℕ → ℕ → ℕ �
     swap i j k l right ne gain = (λ a. f (trade i j a), (layout, omega (arith, sum-trade cost n i j f k l ne, gain .1 i)), falls)
       where
         below : (a : ℕ) → a < n → trade i j a < n
-        below = traded (λ a c. a < n → c < n) i j (omega arith) (omega arith) (omega arith)
+        below = trade-below n i j k l
 
         layout : Layout b (λ a. f (trade i j a))
         layout = record {
@@ -126,7 +97,7 @@ module _ (b : Board) (cost : ℕ → ℕ → ℕ) (Clear : ℕ → ℕ → ℕ �
               arith,
               sum-trade (λ a q. weight a * cost a q) n i j f k l ne,
               weights (weight i) (weight j) (cost j (f i)) (cost j (f j)) (cost i (f j)) (cost i (f i))
-              (omega (arith, term-le n (b .x) i k)) (gain .0) (gain .1 i),
+                  (omega (arith, term-le n (b .x) i k)) (gain .0) (gain .1 i),
             )
 
     -- No leader touches another, or a swap makes the layout better.

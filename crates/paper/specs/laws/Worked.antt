@@ -25,8 +25,9 @@ use Rattle.paper.specs.laws.Verdicts.{Finding, run, run-append, atWhole,
 use Rattle.paper.specs.laws.Proper.{Differ}
 use Rattle.paper.specs.laws.Trials.{Judged}
 use Rattle.paper.specs.laws.Judged.{first-judged, measure-judged}
-use Rattle.paper.specs.laws.Accepted.{first-accepted, measure-accepted, measure-refused, best-passed, not-best-refused, next-differ}
-use Rattle.paper.specs.laws.Trying.{bestTest, firstTest, nextTest, lastTest, best-iff, first-iff, next-iff, last-iff, heads, words, any, someWord, leastTest, misled, untouchingTest, differRight, decidedAt, beforeTest, cheaper, laterTest}
+use Rattle.paper.specs.laws.Accepted.{first-accepted, measure-facts, measure-refused, best-passed, not-best-refused, next-differ}
+use Rattle.paper.specs.laws.Trying.{bestTest, firstTest, nextTest, lastTest, best-iff, first-iff, next-iff, last-iff}
+use Rattle.paper.specs.laws.Trying.{heads, words, any, someWord, leastTest, misled, untouchingTest, differRight, decidedAt, beforeTest, cheaper, laterTest}
 
 -- ---- the tests
 
@@ -124,10 +125,11 @@ module _ (job : List ℕ) (lw bw : ℕ) (l : List ℕ) where
   next-judged : Judged (run Sound (nextFindings job lw bw l)) (nextTrials job lw bw l)
   unfolding nextFindings
   next-judged = rw (run-append Sound (measureFindings job lw bw l) ((10, atWhole (not (bestTest b cost (held l)))) ∷ []))
-      (go (run Sound (measureFindings job lw bw l)) (measure-judged job lw bw l) (bestTest b cost (held l)) (λ d. best-iff b cost d (held l) .0) (λ d. best-iff b cost d (held l) .1))
+      (go (run Sound (measureFindings job lw bw l)) (measure-judged job lw bw l) (bestTest b cost (held l))
+      (λ d. best-iff b cost d (held l) .0) (λ d. best-iff b cost d (held l) .1))
     where
       differ : Passed (measureTrials job lw bw l) → Differ b
-      differ p = first-accepted job lw bw (length l) (measure-accepted job lw bw l p .0) .0 .proper .differ
+      differ p = measure-facts job lw bw l p .0 .proper .differ
 
       go : (v : Verdict) → Judged v (measureTrials job lw bw l) → (t : Bool) → (Differ b → T t → Best b cost (held l)) → (Differ b → Best b cost (held l) → T t)
           → Judged (run v ((10, atWhole (not t)) ∷ [])) (nextTrials job lw bw l)
@@ -144,11 +146,13 @@ module _ (job : List ℕ) (lw bw : ℕ) (l : List ℕ) where
       let w = both e (c && d) .0 (u .1) in
       let x = both c d .0 (w .1) in
       let p = judged-as (run Sound (firstFindings job lw bw (length l))) Sound (firstTrials job lw bw (length l)) (first-judged job lw bw (length l)) (u .0) in
-      (p, first-iff b cost (first-accepted job lw bw (length l) p .0 .proper .differ) (held m) .0 (w .0), eqb→eq t (totalOf job lw bw m) (x .0), full (count job) l m (x .1))
+      let differ = first-accepted job lw bw (length l) p .0 .proper .differ in
+      (p, first-iff b cost differ (held m) .0 (w .0), eqb→eq t (totalOf job lw bw m) (x .0), full (count job) l m (x .1))
   first-holds End m h = absurd h
   first-holds (Refused r) m h =
       let u = both (sameVerdict (run Sound (firstFindings job lw bw (length l))) (Stopped r)) (sameList m l) .0 h in
-      (judged-as (run Sound (firstFindings job lw bw (length l))) (Stopped r) (firstTrials job lw bw (length l)) (first-judged job lw bw (length l)) (u .0), same-list m l (u .1))
+      let p = judged-as (run Sound (firstFindings job lw bw (length l))) (Stopped r) (firstTrials job lw bw (length l)) (first-judged job lw bw (length l)) (u .0) in
+      (p, same-list m l (u .1))
 
   next-holds : (a : Answer) (m : List ℕ) → T (nextHolds job lw bw l a m) → NextAnswers job lw bw l a m
   next-holds (Total t) m h =
@@ -191,5 +195,7 @@ all-allowed (s ∷ ss) h = let u = both (holds s) (allHold ss) .0 h in (holds-al
 
 -- THEOREM. Every sheet P1 to P12 is a reply that its call's promise allows. (It allows no other: laws/Determined.)
 pub worked : Each sheets
-unfolding heads words any someWord leastTest misled untouchingTest differRight decidedAt beforeTest cheaper bestTest firstTest laterTest nextTest lastTest first some outside between touching jobFindings layoutFindings firstFindings measureFindings nextFindings twos nameOf reservedOf xOf yOf portOf lengthOf bendsOf sum weighted
+unfolding heads words any someWord leastTest misled untouchingTest differRight decidedAt beforeTest cheaper bestTest firstTest laterTest nextTest lastTest
+    first some outside between touching jobFindings layoutFindings firstFindings measureFindings nextFindings
+    twos nameOf reservedOf xOf yOf portOf lengthOf bendsOf sum weighted
 worked = all-allowed sheets tt

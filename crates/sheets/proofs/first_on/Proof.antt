@@ -3,12 +3,12 @@ use mathlib.Core.Path.{sym}
 use native.Mathlib.Omega.{arith}
 use lib.Seq.{length-take-le}
 use borrow.Author.Needs.{needs}
-use Rattle.sheets.proofs.Square.{square}
+use native.Mathlib.Nat.{mul-le-mul}
 use Rattle.sheets.proofs.first_on.Statement.{statement}
 use Rattle.sheets.proofs.first_on.Tie as tie
 
 mul-square : tie.Need-mul-square
-mul-square c = omega (arith, square (c .before .before .pre .0 .few))
+mul-square c = let h = c .before .before .pre .0 .few in omega (arith, mul-le-mul h h)
 
 array-borrow-prefix-order : tie.Need-array-borrow-prefix-order
 array-borrow-prefix-order c = search needs
@@ -29,10 +29,10 @@ slice-aggregate-first-at-3 : tie.Need-slice-aggregate-first-at-3
 slice-aggregate-first-at-3 c = sym (length-take-le _ _ (c .before .before .before .before .before .pre .0 .few))
 
 array-borrow-prefix-cost : tie.Need-array-borrow-prefix-cost
-array-borrow-prefix-cost c = square (c .before .before .before .before .before .pre .0 .few)
+array-borrow-prefix-cost c = let h = c .before .before .before .before .before .pre .0 .few in mul-le-mul h h
 
 slice-aggregate-first-at-4 : tie.Need-slice-aggregate-first-at-4
-slice-aggregate-first-at-4 c = sym (length-take-le _ _ (square (c .before .before .before .before .before .before .pre .0 .few)))
+slice-aggregate-first-at-4 c = let h = c .before .before .before .before .before .before .pre .0 .few in sym (length-take-le _ _ (mul-le-mul h h))
 
 first-at-requires : tie.Need-first-at-requires
 first-at-requires c κs =
@@ -43,7 +43,7 @@ first-at-requires c κs =
         places = length-take-le _ _ few;
         lows = length-take-le _ _ few;
         highs = length-take-le _ _ few;
-        square = length-take-le _ _ (square few);
+        square = length-take-le _ _ (mul-le-mul few few);
       },
     )
 
