@@ -92,6 +92,12 @@ pub plus-num : (z : ℤ) (s : ℕ) → up (z +ℤ pos s) + dn z ≡ up z + s + d
 plus-num (pos a) s = omega arith
 plus-num (negsuc a) s = omega (arith, sub-num s (suc a))
 
+pub minus-num : (z : ℤ) (s : ℕ) → up (z -ℤ pos s) + dn z + s ≡ up z + dn (z -ℤ pos s)
+minus-num (pos a) zero = omega arith
+minus-num (pos a) (suc s) = omega (arith, sub-num a (suc s))
+minus-num (negsuc a) zero = omega (arith, sub-num 0 (suc a))
+minus-num (negsuc a) (suc s) = omega arith
+
 natAbs-sub : (a b : ℕ) → natAbs (subℕ a b) ≡ (a - b) + (b - a)
 natAbs-sub a b = go (ltb a b) (ltb→lt a b) (nltb→le a b)
   where
