@@ -1,0 +1,58 @@
+-- DEFINITIONS. 01, "The printing program": what it prints for a job.
+use mathlib.Core.Path.{_≡_}
+use mathlib.Core.Bool.{cond}
+use mathlib.Core.List.{List, [], _++_}
+use Prim.Native.Nat.{ℕ, zero, suc}
+use Prim.Native.String.{String}
+use lib.Dec.{eqb}
+use lib.ListN.{replicate}
+use Rattle.paper.specs.declared.Refusal.{Refusal}
+use Rattle.paper.specs.declared.Answer.{Answer}
+use Rattle.paper.specs.declared.Answer.the-variants.{Total, End, Refused}
+use Rattle.paper.specs.Job.{count, nameOf}
+use Rattle.paper.specs.Leaders.{lengthOf, bendsOf}
+use Rattle.paper.specs.Layouts.{boardOf, leader, held, sum}
+use Rattle.paper.specs.Promises.{FirstAnswers}
+use Rattle.text.specs.Text.{bytes, decimal}
+
+-- A number in decimal, and what stands after it.
+abbrev pub field : ℕ → String → List ℕ
+field n s = decimal n ++ bytes s
+
+-- The line of record i, led to port q: name, port number, leader length, bends. A dummy pad, with the name 0, has none.
+unfoldable pub line : List ℕ → ℕ → ℕ → List ℕ
+line job i q =
+    cond (eqb (nameOf job i) 0) []
+    (field (nameOf job i) " " ++ field q " " ++ field (lengthOf (leader (boardOf job) i q)) " " ++ field (bendsOf (leader (boardOf job) i q)) "\n")
+
+-- The lines of the first n records, in file order, for the layout that a list holds.
+unfoldable pub lines : List ℕ → List ℕ → ℕ → List ℕ
+lines job list zero = []
+lines job list (suc n) = lines job list n ++ line job n (held list n)
+
+-- Sums of lengths and of bends: dummies are counted in both.
+abbrev pub lengths : List ℕ → List ℕ → ℕ
+lengths job list = sum (count job) (λ i. lengthOf (leader (boardOf job) i (held list i)))
+
+abbrev pub bends : List ℕ → List ℕ → ℕ
+bends job list = sum (count job) (λ i. bendsOf (leader (boardOf job) i (held list i)))
+
+-- The sheet of the layout that a list holds: its lines, and then the sums. The one line of a refused job.
+abbrev pub sheet : List ℕ → List ℕ → List ℕ
+sheet job list = lines job list (count job) ++ bytes "total " ++ field (lengths job list) " " ++ field (bends job list) "\n"
+
+abbrev pub refused : Refusal → List ℕ
+refused r = bytes "refused " ++ field (r .reason) " " ++ bytes "record " ++ field (r .at) "\n"
+
+-- What is printed where First answers a and leaves a list. (It never answers end.)
+abbrev pub told : List ℕ → List ℕ → Answer → List ℕ
+told job list (Total t) = sheet job list
+told job list End = []
+told job list (Refused r) = refused r
+
+-- What is printed for a job: what First says of it with weights 1, 0 and a list of 64 zeros.
+pub record Printed (job text : List ℕ) : Type 0 where
+  pub answer : Answer
+  pub list : List ℕ
+  pub first : FirstAnswers job 1 0 (replicate 64 0) answer list
+  pub says : text ≡ told job list answer

@@ -1,0 +1,29 @@
+-- DEFINITIONS. Text as a list of bytes.
+use mathlib.Core.Path.{_≡_}
+use mathlib.Core.Bool.{cond}
+use mathlib.Core.List.{List, [], _∷_, _++_}
+use Prim.Native.Nat.{ℕ, zero, suc, _+_, _/_, _%_}
+use Prim.Native.Char.{code}
+use Prim.Native.String.{String, [] as none, _∷_ as _then_}
+use lib.Dec.{ltb}
+use lib.ListN.{length}
+use lib.Seq.{sets}
+
+-- A word of plain characters, a byte each.
+abbrev pub bytes : String → List ℕ
+bytes none = []
+bytes (c then s) = code c ∷ bytes s
+
+-- The last k digits of n, and no more than it has. 48 is the byte of the digit 0.
+unfoldable pub digits : ℕ → ℕ → List ℕ
+digits zero n = []
+digits (suc k) n = cond (ltb n 10) ((48 + n) ∷ []) (digits k (n / 10) ++ ((48 + n % 10) ∷ []))
+
+-- n in decimal. A number has fewer digits than n + 2.
+unfoldable pub decimal : ℕ → List ℕ
+decimal n = digits (suc n) n
+
+-- `text` is written from place `at` on, r is the place after it, and every other byte is kept. (`sets` of the kit: one store for each byte.)
+pub record Writes (before : List ℕ) (at : ℕ) (text : List ℕ) (r : ℕ) (after : List ℕ) : Type 0 where
+  pub stop : r ≡ at + length text
+  pub stored : after ≡ sets before at text
