@@ -1,8 +1,9 @@
 // The printed sheet of a job: 01, "The printing program". It is made in lent bytes; a program writes them out.
+// A field has at most 21 bytes. So 5,424 are enough: 64 lines of four fields, and the last of two and a word.
 use paper::Answer;
 use paper::Refusal;
 ghost use mathlib.Core.Path.{_≡_};
-ghost use Prim.Native.Nat.{_+_, _*_, _≤_, _<_};
+ghost use Prim.Native.Nat.{_+_, _≤_, _<_};
 ghost use lib.ListN.{length, take};
 ghost use Rattle.paper.specs.Job.{count};
 ghost use Rattle.paper.specs.Refusals.{Passed, measureTrials};
@@ -65,7 +66,7 @@ fn refused(f: Refusal, out: &mut [u8]) -> usize
     text::field(f.at as u64, b'\n', out, c)
 }
 
-// The printed sheet of a job, or the line of its refusal, at the start of `out`. Answers how many bytes it has.
+// The printed sheet of a job, or the line of its refusal, at the start of `out`. Answers how many bytes it has. (First never answers end.)
 pub fn sheet(job: &[u8], out: &mut [u8]) -> usize
     requires { ⌜ 5424 ≤ length (now out) ⌝ }
     ensures { λ r. ⌜ Printed (now (job .entry)) (take r (now (out .exit))) ⌝ }

@@ -19,7 +19,7 @@ unfoldable pub digits : ℕ → ℕ → List ℕ
 digits zero n = []
 digits (suc k) n = cond (ltb n 10) ((48 + n) ∷ []) (digits k (n / 10) ++ ((48 + n % 10) ∷ []))
 
--- n in decimal. A number has fewer digits than n + 2.
+-- n in decimal: it has no more than n + 1 digits.
 unfoldable pub decimal : ℕ → List ℕ
 decimal n = digits (suc n) n
 

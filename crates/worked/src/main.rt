@@ -110,6 +110,7 @@ fn pack(words: &[u32], job: &mut [u8])
     }
 }
 
+// The words as entries of a list.
 fn narrow(words: &[u32], list: &mut [u16])
     requires { ⌜ length (now words) ≤ length (now list) ⌝ }
 {
@@ -197,6 +198,7 @@ fn say_points(points: &[f32]) {
     }
 }
 
+// Draw, with its points and the places after them.
 fn drawn(job: &[u8], i: u32, q: u32) {
     let mut points = [99.0f32; 8];
     let d = calls::draw(job, i, q, &mut points);
@@ -239,6 +241,7 @@ fn size_of(said: u32, words: usize) -> usize
     4 * words
 }
 
+// The call on a job of these words and a list of these entries.
 fn run_on(call: u8, a: u32, b: u32, size: u32, words: &[u32], entries: &[u32])
     requires { ⌜ (length (now words) ≤ 280) × (length (now entries) ≤ 80) ⌝ }
 {

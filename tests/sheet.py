@@ -1,0 +1,82 @@
+#!/usr/bin/env python3
+"""tests/sheet.py JOBS SEED PROGRAM..: runs the printing program on random jobs, sound and refused, and compares what it prints with 01 worked
+out in plain Python: leaders as sets of points, all assignments tried. The last line has the counts."""
+import itertools, random, struct, subprocess, sys
+
+def points(x, y, q):
+    lo, hi = min(y, q), max(y, q)
+    return {(x, h) for h in range(lo, hi + 1)} | {(w, q) for w in range(x + 1)}
+
+def refusal(job):
+    if len(job) == 0 or len(job) % 16 or len(job) > 1024:
+        return 1, 0
+    rs = [struct.unpack_from('<HHIii', job, 16 * i) for i in range(len(job) // 16)]
+    for i, (name, reserved, x, y, q) in enumerate(rs):
+        if reserved or not 1 <= x <= 1000000 or abs(y) > 1000000 or abs(q) > 1000000:
+            return 4, i
+    for i in range(1, len(rs)):
+        if rs[i][4] <= rs[i - 1][4]:
+            return 5, i
+    for i in range(len(rs)):
+        if rs[i][0] and rs[i][0] in [r[0] for r in rs[:i]]:
+            return 6, i
+    for i in range(len(rs)):
+        if rs[i][2] in [r[2] for r in rs[:i]]:
+            return 7, i
+    return None
+
+def printed(job):
+    bad = refusal(job)
+    if bad:
+        return 'refused %d record %d\n' % bad
+    rs = [struct.unpack_from('<HHIii', job, 16 * i) for i in range(len(job) // 16)]
+    n, right = len(rs), sorted(range(len(rs)), key=lambda i: -rs[i][2])
+    length = lambda i, q: rs[i][2] + abs(rs[i][3] - rs[q][4])
+    on = {(i, q): points(rs[i][2], rs[i][3], rs[q][4]) for i in range(n) for q in range(n)}
+    best = None
+    for f in itertools.permutations(range(n)):
+        key = (sum(length(i, f[i]) for i in range(n)), [f[i] for i in right])
+        if (best is None or key < best[0]) and not any(on[i, f[i]] & on[j, f[j]] for i in range(n) for j in range(i)):
+            best = key, f
+    f = best[1]
+    bends = [int(rs[i][3] != rs[f[i]][4]) for i in range(n)]
+    lines = ['%d %d %d %d\n' % (rs[i][0], f[i], length(i, f[i]), bends[i]) for i in range(n) if rs[i][0]]
+    return ''.join(lines) + 'total %d %d\n' % (best[0][0], sum(bends))
+
+def sound(r):
+    n = r.randint(1, 6)
+    span = r.choice([6, 12, 30])
+    ports = sorted(r.sample(range(-span, span + 1), n))
+    names = [r.choice([0, k]) if r.random() < .4 else k for k in r.sample(range(1, 65536), n)]
+    return b''.join(struct.pack('<HHIii', a, 0, x, r.randint(-span, span), q) for a, x, q in zip(names, r.sample(range(1, 2 * span), n), ports))
+
+def spoilt(r):
+    job = bytearray(sound(r))
+    for _ in range(r.randint(1, 2)):
+        kind, at = r.randrange(6), 16 * r.randrange(len(job) // 16)
+        if kind == 0:
+            return bytes(job[:r.randrange(len(job))]) if r.random() < .5 else bytes(job) * r.randint(20, 3000)
+        if kind == 1:
+            struct.pack_into('<H', job, at + 2, r.randint(1, 65535))
+        if kind == 2:
+            struct.pack_into('<I', job, at + 4, r.choice([0, 1000001, 2 ** 32 - 1, 5]))
+        if kind == 3:
+            struct.pack_into('<i', job, at + r.choice([8, 12]), r.choice([-1000001, 1000001, -2 ** 31, 2 ** 31 - 1]))
+        if kind == 4:
+            struct.pack_into('<i', job, at + 12, r.randint(-30, 30))
+        if kind == 5:
+            job += job[at:at + 16]
+    return bytes(job)
+
+jobs, r, program = int(sys.argv[1]), random.Random(int(sys.argv[2])), sys.argv[3:]
+passed = failed = 0
+for k in range(jobs):
+    job = (spoilt if k % 3 == 2 else sound)(r)
+    wrote = subprocess.run(program, input=job, stdout=subprocess.PIPE).stdout.decode()
+    if wrote == printed(job):
+        passed += 1
+    else:
+        failed += 1
+        print('differs on', job[:1040].hex(), repr(wrote), repr(printed(job)))
+print('%d passed, %d failed' % (passed, failed))
+sys.exit(failed > 0)
