@@ -130,8 +130,8 @@
  * The calls keep no state: no static variables, no heap, no locks, no files, no errno. Any
  * number of threads may call at once, on one job too, as long as no list that one of them
  * writes is used by another meanwhile. Working memory is on the stack: at most 64 KiB in any
- * call (CHEREMYSL_STACK_BYTES). tests/stack.c measures it at 64 records: 37 KiB for First and
- * for Next, under 1 KiB for Measure and for Draw.
+ * call (CHEREMYSL_STACK_BYTES). tests/stack.c measures it at 64 records: under 37 KiB for First
+ * and for Next, under 1 KiB for Measure and for Draw.
  *
  * First and Next take time that grows with n cubed, Measure with n squared.
  */
