@@ -120,7 +120,7 @@ static int measure_calls(char **words) {
 /* Spoils one field of a record of a sound job, or the byte count, a weight or the number of entries. */
 static void spoil(size_t n) {
     size_t i = below((uint32_t)n), j = below((uint32_t)n);
-    switch (below(10)) {
+    switch (below(11)) {
     case 0: put_reserved(job, i, 1 + below(65535)); break;
     case 1: put_x(job, i, below(2) ? 0 : 1000001); break;
     case 2: put_y(job, i, below(2) ? 1000001 : -1000001); break;
@@ -130,12 +130,13 @@ static void spoil(size_t n) {
     case 6: put_x(job, i, get_x(job, j)); break;
     case 7: entries = n - 1; break;
     case 8: bytes = below(2) ? bytes + 1 + below(15) : 0; break;
+    case 9: put_port(job, i, get_port(job, i - (i > 0)) + 6 + below(4)); break;
     default: *(below(2) ? &length_weight : &bend_weight) = 1001; break;
     }
 }
 
 static int same(int trials, int seed) {
-    long calls = 0, steps = 0, refused[12] = {0};
+    long calls = 0, steps = 0, refused[CHEREMYSL_PORT_TOO_CLOSE + 1] = {0};
     seed_random((uint64_t)seed);
     for (int t = 0; t < trials; t++) {
         uint16_t layout[ENTRIES], other[ENTRIES];
@@ -172,7 +173,7 @@ static int same(int trials, int seed) {
         calls += 2;
     }
     printf("%ld calls, %ld steps of Next, refusals", calls, steps);
-    for (int r = 1; r <= 10; r++) printf(" %d: %ld", r, refused[r]);
+    for (int r = 1; r <= CHEREMYSL_PORT_TOO_CLOSE; r++) printf(" %d: %ld", r, refused[r]);
     printf("\n");
     return 0;
 }

@@ -16,6 +16,7 @@ static const char *const faults[] = {
     [CHEREMYSL_X_TWICE] = "this record's x stood in an earlier record",
     [CHEREMYSL_BAD_ENTRY] = "this record's port is not there, or was taken by an earlier record",
     [CHEREMYSL_TOUCHING] = "this record's leader touches that of an earlier record",
+    [CHEREMYSL_PORT_TOO_CLOSE] = "this record's port is less than 8 above the one before",
 };
 
 static int64_t measure(const struct given_sheet *s, uint32_t length_weight, uint32_t bend_weight) {

@@ -46,9 +46,10 @@
  *         8      4    y             -1,000,000 to 1,000,000, two's complement
  *        12      4    port height   -1,000,000 to 1,000,000, two's complement
  *
- * Port heights rise strictly from record to record: the port of record i is port number i. The
- * x of all pads differ. Names other than 0 differ. A dummy pad is laid out like any other. Pads
- * may share a height with each other and with ports.
+ * Port heights rise from record to record, by at least 8, so that labels do not run into each
+ * other: the port of record i is port number i. The x of all pads differ. Names other than 0
+ * differ. A dummy pad is laid out like any other. Pads may share a height with each other and
+ * with ports.
  *
  * Below, n is the number of records, job_bytes / 16.
  *
@@ -97,17 +98,18 @@
  *       9   a leader touches that of an earlier record                       first such record
  *      10   the given layout has no touching pair but is not best            0
  *      11   Draw's record number or port number is n or more                 0
+ *      12   a port height is less than 8 above the one before                first such record
  *
- * Checks run in the order of the numbers, each over the whole job before the next: an input
- * that deserves several refusals gets the smallest number, with the first record at fault for
- * it.
+ * Each call checks for these, in this order, each over the whole job before the next:
  *
- *      First     1, 2, 3, 4, 5, 6, 7
- *      Next      1, 2, 3, 4, 5, 6, 7, 8, 9, 10
- *      Measure   1, 2, 3, 4, 5, 6, 7, 8, 9
- *      Draw      1, 3, 4, 5, 6, 7, 11
+ *      First     1, 2, 3, 4, 5, 12, 6, 7
+ *      Next      1, 2, 3, 4, 5, 12, 6, 7, 8, 9, 10
+ *      Measure   1, 2, 3, 4, 5, 12, 6, 7, 8, 9
+ *      Draw      1, 3, 4, 5, 12, 6, 7, 11
  *
- * No refusal is given in any other case.
+ * An input that deserves several refusals gets the one that stands first, with the first record
+ * at fault for it: a port that is not above the one before gets 5, not 12. No refusal is given in
+ * any other case.
  *
  * WHO OWNS WHAT, AND WHAT STAYS UNCHANGED
  *
@@ -153,6 +155,7 @@ extern "C" {
 #define CHEREMYSL_MAX_WEIGHT 1000         /* a weight; the smallest is 0 */
 #define CHEREMYSL_MAX_X 1000000           /* a pad's x; the smallest is 1 */
 #define CHEREMYSL_MAX_HEIGHT 1000000      /* a pad's y or a port height, up or down */
+#define CHEREMYSL_MIN_RISE 8              /* from one port height to the next */
 #define CHEREMYSL_MAX_TOTAL 192000064000  /* no total is larger */
 #define CHEREMYSL_DRAW_FLOATS 6           /* floats that Draw must be lent */
 #define CHEREMYSL_STACK_BYTES 65536       /* no call needs more stack */
@@ -172,7 +175,8 @@ enum cheremysl_refusal {
     CHEREMYSL_BAD_ENTRY = 8,      /* a given entry is n or more, or stood earlier */
     CHEREMYSL_TOUCHING = 9,       /* a leader touches that of an earlier record */
     CHEREMYSL_NOT_BEST = 10,      /* the given layout has no touching pair but is not best */
-    CHEREMYSL_BAD_NUMBER = 11     /* Draw's record or port number is n or more */
+    CHEREMYSL_BAD_NUMBER = 11,    /* Draw's record or port number is n or more */
+    CHEREMYSL_PORT_TOO_CLOSE = 12 /* a port height is less than 8 above the one before */
 };
 
 /* ---- the calls --------------------------------------------------------------------------- */
@@ -187,7 +191,8 @@ enum cheremysl_refusal {
  *                       makes no difference
  *
  * Answers the layout's total; entries 0 to n - 1 hold the layout and those from n on are
- * unchanged. Or refuses with 1 to 7, in this order, and writes nothing. Never answers the end.
+ * unchanged. Or refuses with 1 to 5, 12, 6 or 7, checked in this order, and writes nothing. Never
+ * answers the end.
  */
 int64_t cheremysl_first(const uint8_t *job, size_t job_bytes, uint32_t length_weight,
                         uint32_t bend_weight, uint16_t *layout, size_t entries);
@@ -204,7 +209,7 @@ int64_t cheremysl_first(const uint8_t *job, size_t job_bytes, uint32_t length_we
  * Answers the total of the layout found (all best layouts have the same); entries 0 to n - 1
  * hold it and those from n on are unchanged. Or answers the end, exactly if no best layout
  * comes after the given one, and writes nothing: asked again, it answers the end again. Or
- * refuses with 1 to 10, in this order, and writes nothing.
+ * refuses with 1 to 5, 12 or 6 to 10, checked in this order, and writes nothing.
  */
 int64_t cheremysl_next(const uint8_t *job, size_t job_bytes, uint32_t length_weight,
                        uint32_t bend_weight, uint16_t *layout, size_t entries);
@@ -217,8 +222,8 @@ int64_t cheremysl_next(const uint8_t *job, size_t job_bytes, uint32_t length_wei
  *      bend_weight      0 to 1,000
  *      layout, entries  a list of at least n entries, whose first n are the layout; only read
  *
- * Answers the total, or refuses with 1 to 9, in this order. Writes nothing. Refusal 9 names the
- * first record whose leader touches that of an earlier record.
+ * Answers the total, or refuses with 1 to 5, 12 or 6 to 9, checked in this order. Writes
+ * nothing. Refusal 9 names the first record whose leader touches that of an earlier record.
  */
 int64_t cheremysl_measure(const uint8_t *job, size_t job_bytes, uint32_t length_weight,
                           uint32_t bend_weight, const uint16_t *layout, size_t entries);
@@ -236,7 +241,8 @@ int64_t cheremysl_measure(const uint8_t *job, size_t job_bytes, uint32_t length_
  * or 3 for a bent one (pad, bend, port). Their coordinates, x before y, stand in the first four
  * or six floats; the floats after those are unchanged, the fifth and the sixth of a straight
  * leader too. Four times each number is exactly x, or exactly -y, of its point; a zero is
- * positive zero. Or refuses with 1, 3 to 7 and 11, in this order, and writes nothing.
+ * positive zero. Or refuses with 1, 3, 4, 5, 12, 6, 7 or 11, checked in this order, and writes
+ * nothing.
  */
 int64_t cheremysl_draw(const uint8_t *job, size_t job_bytes, uint32_t record, uint32_t port,
                        float *points, size_t floats);
@@ -249,7 +255,7 @@ static inline int cheremysl_is_refusal(int64_t answer) { return answer < CHEREMY
 /* 1 if the answer is the end, else 0. */
 static inline int cheremysl_is_end(int64_t answer) { return answer == CHEREMYSL_END; }
 
-/* The refusal's number, 1 to 11; 0 if the answer is not a refusal. */
+/* The refusal's number, 1 to 12; 0 if the answer is not a refusal. */
 static inline int cheremysl_refusal_number(int64_t answer) {
     return cheremysl_is_refusal(answer) ? (int)(answer / -65536) : 0;
 }

@@ -35,7 +35,7 @@ static void answers(void) {
     is_no_refusal(2, 0);
     is_no_refusal(CHEREMYSL_MAX_TOTAL, 0);
     is_no_refusal(CHEREMYSL_END, 1);
-    for (int number = CHEREMYSL_BAD_SIZE; number <= CHEREMYSL_BAD_NUMBER; number++)
+    for (int number = CHEREMYSL_BAD_SIZE; number <= CHEREMYSL_PORT_TOO_CLOSE; number++)
         for (int record = 0; record < CHEREMYSL_MAX_RECORDS; record++)
             is_refusal(-(65536 * (int64_t)number + record), number, record);
 }
@@ -55,6 +55,7 @@ static void limits(void) {
           (int64_t)CHEREMYSL_MAX_RECORDS * CHEREMYSL_MAX_WEIGHT *
               (CHEREMYSL_MAX_X + 2 * CHEREMYSL_MAX_HEIGHT + 1));
     check(CHEREMYSL_TOUCHING == 9 && CHEREMYSL_DRAW_FLOATS == 6);
+    check(CHEREMYSL_PORT_TOO_CLOSE == 12 && CHEREMYSL_MIN_RISE == 8);
 }
 
 int main(void) {

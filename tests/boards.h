@@ -34,10 +34,10 @@ enum board {
     LEVEL,      /* each pad at some port's height */
     ABOVE,      /* all pads above all ports */
     BELOW,      /* all pads below all ports */
-    EVEN,       /* ports evenly spaced, pads at ports' heights and half way between */
+    EVEN,       /* ports 8 apart, pads at ports' heights and half way between */
     ONE_HEIGHT, /* all pads at one height, perhaps a port's */
     STRAIGHT,   /* each pad at the height of a port of its own */
-    PAIRS,      /* pads two by two, half way between two ports: ties everywhere */
+    PAIRS,      /* ports 8 apart, pads two by two half way between: ties everywhere */
     EDGES,      /* numbers at their limits */
     BOARDS
 };

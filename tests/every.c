@@ -76,6 +76,14 @@ static size_t any_size(void) {
     return likely[below(20)];
 }
 
+/* The job with one port less than 8 above the one before: every call refuses. */
+static void too_close(struct question q) {
+    size_t n = q.job_bytes / 16, i = 1 + below((uint32_t)n - 1);
+    put_port(q.job, i, get_port(q.job, i - 1) + 1 + below(7));
+    q.count = LIST_ROOM;
+    for (q.call = 0; q.call < CALLS; q.call++) expect(&q, keeps(&q, refused(12, (int)i)));
+}
+
 static void one_job(void) {
     static struct question q;
     static struct sheets all;
@@ -86,6 +94,7 @@ static void one_job(void) {
     any_weights(&q.a, &q.b);
     uint32_t noise = below(2) ? 65536 : 8;
     for (size_t k = 0; k < LIST_ROOM; k++) q.list.layout[k] = (uint16_t)below(noise);
+    if (n > 1 && below(8) == 0) too_close(q);
     struct given g = {q.job, q.job_bytes, q.a, q.b, NULL, n, 0, 0, 0, false};
     plain_sheets(&g, &all);
     check(all.found > 0, &q, "no best layout");

@@ -13,7 +13,7 @@
 #include "plain.h"
 #include "trial.h"
 
-#define ENDS 12 /* an outcome beside the refusal numbers */
+#define ENDS PLAIN_REFUSALS /* an outcome beside the refusal numbers */
 
 static size_t records_of(const struct question *q) { return q->job_bytes / 16; }
 
@@ -35,15 +35,15 @@ static uint32_t take_bits(struct bytes *b) { return take(b, (uint64_t)UINT32_MAX
 
 /* An accepted job, unless the scale puts a height too far out. */
 static void take_job(struct bytes *b, struct question *q) {
-    static const int64_t scales[] = {1, 1, 2, 2, 2, 250, 7000, 15625};
+    static const int64_t scales[] = {1, 1, 1, 1, 2, 250, 1500, 15625};
     static const size_t small[] = {1, 2, 3, 3, 4, 4, 5, 6};
     size_t n = take(b, 8) > 0 ? small[take(b, 8)] : 1 + take(b, 64);
     int64_t scale = scales[take(b, 8)], port = -(int64_t)take(b, 65), low = port;
     for (size_t i = 0; i < n; i++) {
         int64_t name = take(b, 8) > 0 ? 101 + (int64_t)i : 0, x = 64 * take(b, 256) + i + 1;
-        int64_t y = low - 2 + take(b, 2 * n + 4);
+        int64_t y = low - 2 + take(b, 9 * n + 4);
         put_record(q->job, i, name, x, scale * y, scale * port);
-        port += 1 + take(b, 3);
+        port += 8 + take(b, 3);
     }
     q->job_bytes = 16 * n;
 }
@@ -89,7 +89,7 @@ static void damage(struct bytes *b, struct question *q) {
     size_t n = records_of(q) + (records_of(q) == 0);
     size_t i = take(b, n), j = take(b, n), field = 4 * take(b, 4);
     uint16_t *list = q->list.layout, kept = list[i];
-    switch (take(b, 10)) {
+    switch (take(b, 11)) {
     case 0: q->job[take(b, JOB_ROOM)] = (uint8_t)take(b, 256); break;
     case 1: q->job_bytes = take(b, JOB_ROOM + 1); break;
     case 2: q->count = take(b, LIST_ROOM + 1); break;
@@ -99,6 +99,7 @@ static void damage(struct bytes *b, struct question *q) {
     case 6: q->a = q->call == DRAW ? (uint32_t)j : 1001; break;
     case 7: put_number(q->job + 16 * i + field, 4, limits[take(b, 8)]); break;
     case 8: memcpy(q->job + 16 * i + field, q->job + 16 * j + field, 4); break;
+    case 9: put_port(q->job, i, get_port(q->job, i - (i > 0)) + 6 + take(b, 4)); break;
     default:
         list[i] = list[j];
         list[j] = kept;

@@ -24,7 +24,9 @@ int64_t plain_measure(const uint8_t *job, size_t job_bytes, uint32_t length_weig
 int64_t plain_draw(const uint8_t *job, size_t job_bytes, uint32_t record, uint32_t port,
                    float *points, size_t floats);
 
-/* The refusal numbers that each call can give, in order; 0 ends the list. */
+#define PLAIN_REFUSALS 13 /* one more than the largest refusal number */
+
+/* The refusal numbers that each call can give, in the order of its checks; 0 ends the list. */
 extern const int first_checks[], next_checks[], measure_checks[], draw_checks[];
 
 /* What a call is given. First's and Draw's lists have a size only; Draw has no weights. */

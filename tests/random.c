@@ -91,11 +91,12 @@ static void damage_field(struct question *q) {
 static void damage_against_another(struct question *q) {
     size_t i = any_record(q), j = any_record(q);
     int64_t port = get_port(q->job, i);
-    switch (below(5)) {
+    switch (below(6)) {
     case 0: put_name(q->job, i, get_name(q->job, j)); break;
     case 1: put_x(q->job, i, get_x(q->job, j)); break;
     case 2: put_port(q->job, i, get_port(q->job, j) - below(2)); break;
     case 3: put_y(q->job, i, get_port(q->job, j)); break;
+    case 4: put_port(q->job, i, get_port(q->job, i - (i > 0)) + 6 + below(4)); break;
     default:
         put_port(q->job, i, get_port(q->job, j));
         put_port(q->job, j, port);
@@ -139,7 +140,7 @@ static void damage(struct question *q) {
 
 /* ---- the trial ---- */
 
-static long came[CALLS][12]; /* by refusal number; 0: accepted */
+static long came[CALLS][PLAIN_REFUSALS]; /* by refusal number; 0: accepted */
 
 static void one_question(void) {
     static struct question q;

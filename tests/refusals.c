@@ -6,6 +6,7 @@
 #include <string.h>
 
 #include "boards.h"
+#include "plain.h"
 #include "trial.h"
 
 #define N 6
@@ -60,8 +61,8 @@ static void bad_field(struct question *q, size_t i, int way) {
 static bool spoil(struct question *q, int number, size_t i, int way) {
     static const size_t sizes[WAYS] = {16 * N + 1, 16 * N + 15, 0, 1040, 1025, 16 * N - 1};
     static const int64_t weights[2] = {1001, UINT32_MAX};
-    bool whole = number <= 3 || number >= 10;
-    bool needs_earlier = number == 5 || number == 6 || number == 7 || number == 9;
+    bool whole = number <= 3 || number == 10 || number == 11;
+    bool needs_earlier = number >= 5 && number != 8 && !whole;
     if ((whole && i > 0) || (needs_earlier && i == 0)) return false;
     switch (number) {
     case 1: q->job_bytes = sizes[way]; return true;
@@ -78,6 +79,7 @@ static bool spoil(struct question *q, int number, size_t i, int way) {
     case 9: swap_entries(q, i - 1, i); return i < 4 && way == 0;
     case 10: swap_entries(q, 4, 5); return way == 0;
     case 11: *(way % 2 ? &q->a : &q->b) = way < 2 ? N : UINT32_MAX; return way < 4;
+    case 12: put_port(q->job, i, get_port(q->job, i - 1) + (way ? 1 : 7)); return way < 2;
     default: return false;
     }
 }
@@ -93,7 +95,7 @@ static void alone(enum call call, int number) {
         }
 }
 
-/* Two refusals, the first with the smaller number; how many inputs deserved both. */
+/* Two refusals, the first checked before the other; how many inputs deserved both. */
 static long both(enum call call, int one, int other) {
     long deserved = 0;
     for (int k = 0; k < N * WAYS * N * WAYS; k++) {
@@ -132,9 +134,9 @@ static void longer_and_wrong(enum call call) {
     expect(&q, keeps(&q, refused(8, 1)));
 }
 
-/* Smaller numbers at later records, as far as can be. */
+/* Earlier checks at later records, as far as can be: a 12 at record 3 would mend the 5 at 4. */
 static size_t record_for(int number) {
-    static const size_t records[12] = {0, 0, 0, 0, 5, 4, 3, 2, 1, 3, 0, 0};
+    static const size_t records[PLAIN_REFUSALS] = {0, 0, 0, 0, 5, 4, 3, 2, 1, 3, 0, 0, 5};
     return records[number];
 }
 

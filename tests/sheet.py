@@ -17,6 +17,9 @@ def refusal(job):
     for i in range(1, len(rs)):
         if rs[i][4] <= rs[i - 1][4]:
             return 5, i
+    for i in range(1, len(rs)):
+        if rs[i][4] - rs[i - 1][4] < 8:
+            return 12, i
     for i in range(len(rs)):
         if rs[i][0] and rs[i][0] in [r[0] for r in rs[:i]]:
             return 6, i
@@ -46,14 +49,14 @@ def printed(job):
 def sound(r):
     n = r.randint(1, 6)
     span = r.choice([6, 12, 30])
-    ports = sorted(r.sample(range(-span, span + 1), n))
+    ports = list(itertools.accumulate([r.randint(-span, 0)] + [r.randint(8, r.choice([8, 9, 12])) for _ in range(n - 1)]))
     names = [r.choice([0, k]) if r.random() < .4 else k for k in r.sample(range(1, 65536), n)]
-    return b''.join(struct.pack('<HHIii', a, 0, x, r.randint(-span, span), q) for a, x, q in zip(names, r.sample(range(1, 2 * span), n), ports))
+    return b''.join(struct.pack('<HHIii', a, 0, x, r.randint(-span, span + 8 * n), q) for a, x, q in zip(names, r.sample(range(1, 2 * span), n), ports))
 
 def spoilt(r):
     job = bytearray(sound(r))
     for _ in range(r.randint(1, 2)):
-        kind, at = r.randrange(6), 16 * r.randrange(len(job) // 16)
+        kind, at = r.randrange(7), 16 * r.randrange(len(job) // 16)
         if kind == 0:
             return bytes(job[:r.randrange(len(job))]) if r.random() < .5 else bytes(job) * r.randint(20, 3000)
         if kind == 1:
@@ -66,6 +69,8 @@ def spoilt(r):
             struct.pack_into('<i', job, at + 12, r.randint(-30, 30))
         if kind == 5:
             job += job[at:at + 16]
+        if kind == 6 and at:
+            struct.pack_into('<i', job, at + 12, min(2 ** 31 - 1, struct.unpack_from('<i', job, at - 4)[0] + r.randint(6, 9)))
     return bytes(job)
 
 jobs, r, program = int(sys.argv[1]), random.Random(int(sys.argv[2])), sys.argv[3:]

@@ -42,6 +42,11 @@ prints 'refused 1 record 0/' endless
 for size in 16 1024; do prints 'refused 4 record 0/' zeros $size; done
 prints 'refused 4 record 1/' records 101 10 0 10 102 0 30 10
 prints 'refused 5 record 1/' records 101 10 0 10 102 20 30 10
+prints 'refused 12 record 1/' records 101 10 0 10 102 20 30 17
+prints '101 0 20 1/102 1 32 1/total 52 2/' records 101 10 0 10 102 20 30 18
+prints '101 0 10 0/102 1 20 0/total 30 0/' records 101 10 -1000000 -1000000 102 20 1000000 1000000
+prints 'refused 5 record 2/' records 101 10 0 10 102 20 30 17 103 30 40 17
+prints 'refused 12 record 1/' records 101 10 0 10 102 20 30 17 101 30 40 30
 prints 'refused 6 record 2/' records 101 10 0 10 102 20 30 20 101 30 30 30
 prints 'refused 7 record 2/' records 101 10 0 10 102 20 30 20 103 20 30 30
 

@@ -25,6 +25,8 @@ static struct question about(enum call call, size_t n, const struct record *reco
 
 static const struct record J1[] = {{5, 3, 3}};
 static const struct record J2[] = {{10, 0, 10}, {20, 30, 20}};
+static const struct record J2_8[] = {{10, 0, 10}, {20, 30, 18}};
+static const struct record J2_7[] = {{10, 0, 10}, {20, 30, 17}};
 static const struct record J3[] = {{10, 15, 10}, {20, 15, 20}};
 static const struct record J4[] = {{10, 15, 10}, {20, 60, 20}};
 static const struct record J5[] = {{10, 10, 0}, {20, 20, 10}, {30, 30, 20}};
@@ -71,6 +73,13 @@ static const struct {
     {"P11 measured", J5, 3, MEASURE, 2, 3, {1, 2, 0}, 183, NONE},
     {"J5's end", J5, 3, NEXT, 2, 3, {1, 2, 0}, END, NONE},
     {"J5 by pad height", J5, 3, NEXT, 1, 0, {0, 1, 2}, REFUSED(9, 1), NONE},
+    /* Ports 8 and 7 apart. */
+    {"ports 8 apart", J2_8, 2, FIRST, 1, 0, NONE, 52, {0, 1}},
+    {"ports 8 apart", J2_8, 2, NEXT, 1, 0, {0, 1}, END, NONE},
+    {"ports 8 apart", J2_8, 2, MEASURE, 1, 0, {0, 1}, 52, NONE},
+    {"ports 7 apart", J2_7, 2, FIRST, 1, 0, NONE, REFUSED(12, 1), NONE},
+    {"ports 7 apart", J2_7, 2, NEXT, 1, 0, {0, 1}, REFUSED(12, 1), NONE},
+    {"ports 7 apart", J2_7, 2, MEASURE, 1, 0, {0, 1}, REFUSED(12, 1), NONE},
 };
 
 static void put_layout(union list *list, const int *layout, size_t n) {
@@ -123,6 +132,8 @@ static void drawn_sheets(void) {
     drawn(&straight, 2, (const uint32_t[]){0x40200000, 0xC0200000, 0, 0xC0200000});
     straight.count = 5;
     expect(&straight, keeps(&straight, REFUSED(3, 0)));
+    struct question close = draw_of(2, J2_7, 0, 0);
+    expect(&close, keeps(&close, REFUSED(12, 1)));
 }
 
 /* Four times the drawn number is the whole number, and a zero is positive. */
@@ -150,11 +161,14 @@ static void drawn_range(void) {
 
 /* ---- either side of a limit ---- */
 
-/* n straight leaders, pad i at port i: the only best layout, weights 1, 0, total 10 + 20 + .. */
-static struct question good(enum call call, size_t n) {
+/*
+ * n straight leaders, pad i at port i, the ports so far apart: the only best layout, weights 1, 0,
+ * total 10 + 20 + ..
+ */
+static struct question spaced(enum call call, size_t n, int apart) {
     struct record job[66];
     for (int i = 0; i < (int)n; i++) {
-        struct record straight = {10 * (i + 1), 10 * i, 10 * i};
+        struct record straight = {10 * (i + 1), apart * i, apart * i};
         job[i] = straight;
     }
     struct question q = call == DRAW ? draw_of(n, job, 0, 0) : about(call, n, job);
@@ -163,6 +177,8 @@ static struct question good(enum call call, size_t n) {
         for (size_t i = 0; i < n; i++) q.list.layout[i] = (uint16_t)i;
     return q;
 }
+
+static struct question good(enum call call, size_t n) { return spaced(call, n, 10); }
 
 static void passes(const struct question *q) {
     struct reply r = plain_reply(q);
@@ -176,8 +192,8 @@ static void is_refused(const struct question *q, int number, int record) {
 }
 
 /* All 64 records: too many for the plain account, but these replies are plain. */
-static void largest_job(enum call call) {
-    struct question q = good(call, 64);
+static void largest_job(enum call call, int apart) {
+    struct question q = spaced(call, 64, apart);
     struct reply r = keeps(&q, call == NEXT ? END : 20800);
     for (size_t i = 0; i < 64 && call == FIRST; i++) r.list.layout[i] = (uint16_t)i;
     if (call == DRAW)
@@ -197,7 +213,7 @@ static void sizes(enum call call) {
     is_refused(&q, 1, 0);
     q.count = 0;
     is_refused(&q, 1, 0);
-    largest_job(call);
+    largest_job(call, 10);
     q = good(call, 65);
     is_refused(&q, 1, 0);
     q.job_bytes = 1025;
@@ -286,9 +302,6 @@ static void job_rules(enum call call) {
     put_x(q.job, 1, 0); /* and x = 0 in the same record */
     is_refused(&q, 4, 1);
     q = good(call, 3);
-    put_port(q.job, 1, 1); /* one above */
-    give_best(&q);
-    passes(&q);
     put_port(q.job, 1, -1);
     is_refused(&q, 5, 1);
     q = good(call, 3);
@@ -299,6 +312,74 @@ static void job_rules(enum call call) {
     passes(&q);
     put_x(q.job, 2, 20);
     is_refused(&q, 7, 2);
+}
+
+/* A job of n records in which the port of record i, and those after it, rise by so much there. */
+static struct question rising(enum call call, size_t n, size_t i, int64_t by) {
+    struct question q = good(call, n);
+    for (int64_t port = get_port(q.job, i - 1) + by; i < n; i++, port += 10)
+        put_port(q.job, i, port);
+    return q;
+}
+
+static void one_rise(enum call call, size_t n, size_t i, int64_t by) {
+    struct question q = rising(call, n, i, by);
+    if (by < 8) {
+        is_refused(&q, by > 0 ? 12 : 5, (int)i);
+        return;
+    }
+    give_best(&q);
+    passes(&q);
+}
+
+/* Either side of 8 at every record of five, and at the first, the last and two others of 64. */
+static void spacing(enum call call) {
+    for (int64_t by = -8; by <= 9; by++)
+        for (size_t i = 1; i < 5; i++) {
+            one_rise(call, 5, i, by);
+            if (by < 8) one_rise(call, 64, 1 + (i - 1) * 62 / 3, by);
+        }
+    largest_job(call, 8);
+    struct question q = spaced(call, 64, 7);
+    is_refused(&q, 12, 1);
+}
+
+/* Rises that would be small, or none, if they were computed in 8, 16 or 32 bits. */
+static void wide_rises(enum call call) {
+    static const int64_t rises[] = {128, 256, 263, 32768, 65536, 65543, 1 << 20, 2000000};
+    for (size_t k = 0; k < sizeof rises / sizeof *rises; k++) {
+        struct question q = good(call, 2);
+        put_port(q.job, 0, -1000000);
+        put_port(q.job, 1, rises[k] - 1000000);
+        give_best(&q);
+        passes(&q);
+        put_port(q.job, 0, rises[k] - 1000000);
+        put_port(q.job, 1, -1000000);
+        is_refused(&q, 5, 1);
+    }
+    struct question q = good(call, 2);
+    put_port(q.job, 0, INT32_MIN);
+    put_port(q.job, 1, INT32_MAX);
+    is_refused(&q, 4, 0);
+}
+
+/* 5 before 12 before 6, wherever they stand. */
+static void spacing_in_its_place(enum call call) {
+    struct question q = good(call, 5);
+    put_port(q.job, 1, 7);
+    put_name(q.job, 1, get_name(q.job, 0));
+    put_x(q.job, 1, get_x(q.job, 0));
+    is_refused(&q, 12, 1);
+    put_port(q.job, 4, 30);
+    is_refused(&q, 5, 4);
+    q = good(call, 5);
+    put_port(q.job, 4, 37);
+    put_x(q.job, 1, get_x(q.job, 0));
+    is_refused(&q, 12, 4);
+    put_name(q.job, 1, get_name(q.job, 0));
+    is_refused(&q, 12, 4);
+    put_port(q.job, 4, 38);
+    is_refused(&q, 6, 1);
 }
 
 static void given_numbers(enum call call) {
@@ -335,6 +416,9 @@ int main(void) {
         room(call);
         fields(call);
         job_rules(call);
+        spacing(call);
+        wide_rises(call);
+        spacing_in_its_place(call);
         given_numbers(call);
     }
     return done();

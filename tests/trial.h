@@ -41,7 +41,7 @@ struct reply {
     union list list;
 };
 
-/* By call: its name, and the refusal numbers that it can give, in order; 0 ends the list. */
+/* By call: its name, and the refusal numbers that it can give, in order of checks; 0 ends it. */
 extern const char *const call_names[];
 extern const int *const refusals_of[];
 

@@ -20,6 +20,7 @@ fn clash(c: Check, job: &[u8], list: &[u16], n: u16, i: u16, j: u16) -> bool
         Check::Place => tests::same_x(job, i, j),
         Check::Entry => tests::same_entry(list, i, j),
         Check::Touch => tests::touches(job, list, i, j),
+        Check::Space => false,
     }
 }
 
@@ -50,6 +51,7 @@ fn fails(c: Check, job: &[u8], list: &[u16], n: u16, i: u16) -> bool
         Check::Place => clashes(c, job, list, n, i),
         Check::Entry => (n <= list[i as usize]) | clashes(c, job, list, n, i),
         Check::Touch => clashes(c, job, list, n, i),
+        Check::Space => tests::too_close(job, i),
     }
 }
 

@@ -11,4 +11,5 @@ pub enum Check {
     Place, // 7
     Entry, // 8
     Touch, // 9
+    Space, // 12
 }

@@ -4,7 +4,7 @@ ghost use Prim.Native.Nat.{_<_};
 ghost use lib.ListN.{length};
 ghost use Rattle.paper.specs.Job.{count};
 ghost use Rattle.paper.specs.Layouts.{boardOf, held};
-ghost use Rattle.paper.specs.laws.Tests.{badSize, badWeight, outside, badField, notAbove, sameName, sameX, sameEntry, between, touching, touch, badNumber};
+ghost use Rattle.paper.specs.laws.Tests.{badSize, badWeight, outside, badField, notAbove, tooClose, sameName, sameX, sameEntry, between, touching, touch, badNumber};
 
 // 1: the byte count.
 pub fn bad_size(job: &[u8]) -> bool
@@ -39,7 +39,7 @@ pub fn bad_field(job: &[u8], i: u16) -> bool
         | out_of_range(job::port(job, i))
 }
 
-// 5: record i's port height against the one before.
+// 5 and 12: record i's port height against the one before.
 pub fn not_above(job: &[u8], i: u16) -> bool
     requires { ⌜ i < count (now job) ⌝ }
     ensures { λ r. ⌜ r ≡ notAbove (now (job .entry)) i ⌝ }
@@ -48,6 +48,17 @@ pub fn not_above(job: &[u8], i: u16) -> bool
         false
     } else {
         job::port(job, i) <= job::port(job, i - 1)
+    }
+}
+
+pub fn too_close(job: &[u8], i: u16) -> bool
+    requires { ⌜ i < count (now job) ⌝ }
+    ensures { λ r. ⌜ r ≡ tooClose (now (job .entry)) i ⌝ }
+{
+    if i == 0 {
+        false
+    } else {
+        job::port(job, i) - job::port(job, i - 1) < 8
     }
 }
 

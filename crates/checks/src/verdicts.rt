@@ -50,7 +50,7 @@ fn try_records(v: Verdict, reason: u16, c: Check, job: &[u8], list: &[u16]) -> V
     }
 }
 
-// 4 to 7: the job's records.
+// 4 to 7, and 12 directly after 5: the job's records.
 pub fn of_job(v: Verdict, job: &[u8]) -> Verdict
     requires { ⌜ (v ≡ Verdict.Sound → length (now job) ≤ 1024) ⌝ }
     ensures { λ r. ⌜ r ≡ run v (jobFindings (now (job .entry))) ⌝ }
@@ -58,7 +58,8 @@ pub fn of_job(v: Verdict, job: &[u8]) -> Verdict
     let none = [0u16; 1];
     let v4 = try_records(v, 4, Check::Field, job, &none);
     let v5 = try_records(v4, 5, Check::Rise, job, &none);
-    let v6 = try_records(v5, 6, Check::Name, job, &none);
+    let v12 = try_records(v5, 12, Check::Space, job, &none);
+    let v6 = try_records(v12, 6, Check::Name, job, &none);
     try_records(v6, 7, Check::Place, job, &none)
 }
 
@@ -71,7 +72,7 @@ pub fn of_layout(v: Verdict, job: &[u8], list: &[u16]) -> Verdict
     try_records(v8, 9, Check::Touch, job, list)
 }
 
-// First, with room for so many entries: 1 to 7.
+// First, with room for so many entries: 1, 2, 3 and the job's.
 pub fn of_first(job: &[u8], lw: u32, bw: u32, room: usize) -> Verdict
     ensures { λ r. ⌜ r ≡ run Verdict.Sound (firstFindings (now (job .entry)) lw bw room) ⌝ }
 {
@@ -81,7 +82,7 @@ pub fn of_first(job: &[u8], lw: u32, bw: u32, room: usize) -> Verdict
     of_job(v3, job)
 }
 
-// Measure: 1 to 9.
+// Measure: First's, 8 and 9.
 pub fn of_measure(job: &[u8], lw: u32, bw: u32, list: &[u16]) -> Verdict
     ensures { λ r. ⌜ r ≡ run Verdict.Sound (measureFindings (now (job .entry)) lw bw (now (list .entry))) ⌝ }
 {
@@ -89,7 +90,7 @@ pub fn of_measure(job: &[u8], lw: u32, bw: u32, list: &[u16]) -> Verdict
     of_layout(v, job, list)
 }
 
-// Draw of record i to port q, with room for so many floats: 1, 3 to 7 and 11.
+// Draw of record i to port q, with room for so many floats: 1, 3, the job's and 11.
 pub fn of_draw(job: &[u8], i: u32, q: u32, room: usize) -> Verdict
     ensures { λ r. ⌜ r ≡ run Verdict.Sound (drawFindings (now (job .entry)) i q room) ⌝ }
 {

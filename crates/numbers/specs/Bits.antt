@@ -1,13 +1,15 @@
 -- Signed numbers as the machine has them. An `i64` local holds bits, so each value that is passed on, returned or computed with comes back as
 -- `toZ w64 (ofZ w64 z)`, which is z where z fits. Assumes nothing.
 use mathlib.Core.Path.{_≡_, sym, ap, _∙_, subst}
-use Prim.Native.Nat.{_^_, _≤_, _<_}
+use Prim.Native.Nat.{suc, _^_, _≤_, _<_}
 use native.Mathlib.Nat.{le-suc, le-refl, lt-of-le-of-lt, le-of-eq}
+use native.Mathlib.Omega.{arith}
 use lib.IntN.{ℤ, pos, negsuc, negℤ, natAbs, _-ℤ_, +ℤ-idl}
 use lib.Signed.{mag}
 use mir.Syntax.{w64}
 use mir.Val.{SFits, toZ, ofZ}
 use mir.Facts.{toZ-ofZ}
+use Rattle.numbers.specs.Whole.{up, dn, apart-num}
 use Rattle.numbers.specs.Signs.{natAbs-neg}
 
 pub mag-le : (z : ℤ) → mag z ≤ natAbs z
@@ -26,6 +28,17 @@ read-back z h = toZ-ofZ {w = w64} (record { sfits = h })
 
 pub back : (z : ℤ) → natAbs z < 2 ^ 63 → toZ w64 (ofZ w64 z) ≡ z
 back z h = toZ-ofZ (fits z h)
+
+-- Two heights of 32 bits are less than 2 ^ 32 apart, so their difference fits 64 bits.
+mag-num : (z : ℤ) → (up z ≤ mag z) × (dn z ≤ suc (mag z))
+mag-num (pos n) = (omega arith, omega arith)
+mag-num (negsuc n) = (omega arith, omega arith)
+
+pub difference-small : (y q : ℤ) → mag y < 2147483648 → mag q < 2147483648 → natAbs (y -ℤ q) < 4294967296
+difference-small y q h k = omega (arith, apart-num y q, mag-num y, mag-num q)
+
+pub difference-fits : (y q : ℤ) → mag y < 2147483648 → mag q < 2147483648 → mag (y -ℤ q) < 2 ^ 63
+difference-fits y q h k = omega (arith, difference-small y q h k, mag-le (y -ℤ q))
 
 -- `-z` is 0 - z: it fits, and it is the negative.
 zero-minus : (z : ℤ) → natAbs z < 2 ^ 63 → pos 0 -ℤ toZ w64 (ofZ w64 z) ≡ negℤ z

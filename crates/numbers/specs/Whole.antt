@@ -98,6 +98,10 @@ minus-num (pos a) (suc s) = omega (arith, sub-num a (suc s))
 minus-num (negsuc a) zero = omega (arith, sub-num 0 (suc a))
 minus-num (negsuc a) (suc s) = omega arith
 
+pub less-num : (z w : ℤ) → up (z -ℤ w) + up w + dn z ≡ up z + dn w + dn (z -ℤ w)
+less-num z (pos s) = omega (arith, minus-num z s)
+less-num z (negsuc s) = omega (arith, plus-num z (suc s))
+
 natAbs-sub : (a b : ℕ) → natAbs (subℕ a b) ≡ (a - b) + (b - a)
 natAbs-sub a b = go (ltb a b) (ltb→lt a b) (nltb→le a b)
   where

@@ -4,8 +4,8 @@ use mathlib.Core.Logic.{_≢_, _⊎_}
 use mathlib.Core.List.{List, [], _∷_, _++_}
 use Prim.Native.Nat.{ℕ, _-_, _%_, _≤_, _<_}
 use lib.ListN.{length}
-use lib.IntN.{ℤ, natAbs}
-use lib.Signed.{_≤ℤ_}
+use lib.IntN.{ℤ, pos, natAbs, _-ℤ_}
+use lib.Signed.{_≤ℤ_, _<ℤ_}
 use Rattle.paper.specs.declared.Refusal.{Refusal}
 use Rattle.paper.specs.Job.{count, nameOf, reservedOf, xOf, yOf, portOf}
 use Rattle.paper.specs.Layouts.{Board, boardOf, held, Touching, Untouching, weighted, Best}
@@ -66,6 +66,10 @@ BadField job i =
 abbrev pub NotAbove : (ℕ → ℤ) → ℕ → Type 0
 NotAbove port i = (0 < i) × (port i ≤ℤ port (i - 1))
 
+-- 12: a port rises by less than 8 above the one before
+abbrev pub TooClose : (ℕ → ℤ) → ℕ → Type 0
+TooClose port i = (0 < i) × ((port i -ℤ port (i - 1)) <ℤ pos 8)
+
 -- 6: a nonzero name stood in an earlier record
 abbrev pub SameName : List ℕ → ℕ → ℕ → Type 0
 SameName job i j = (nameOf job i ≢ 0) × (nameOf job i ≡ nameOf job j)
@@ -87,11 +91,12 @@ ofEach r n fault = record { reason = r; among = n; fault = fault }
 abbrev pub ofWhole : ℕ → Type 0 → Trial
 ofWhole r P = record { reason = r; among = 1; fault = λ i. P }
 
--- 4 to 7: the job's records
+-- 4 to 7, and 12 directly after 5: the job's records
 abbrev pub jobTrials : List ℕ → List Trial
 jobTrials job =
     ofEach 4 (count job) (BadField job) ∷
     ofEach 5 (count job) (NotAbove (portOf job)) ∷
+    ofEach 12 (count job) (TooClose (portOf job)) ∷
     ofEach 6 (count job) (Earlier (SameName job)) ∷
     ofEach 7 (count job) (Earlier (SameX job)) ∷
     []
@@ -111,18 +116,18 @@ bestTrial b cost list = ofWhole 10 (Untouching b (held list) × ¬ Best b cost (
 abbrev pub numberTrial : List ℕ → ℕ → ℕ → Trial
 numberTrial job i q = ofWhole 11 ((count job ≤ i) ⊎ (count job ≤ q))
 
--- First, with room for so many entries: 1, 2 and 3 to 7. 3: the layout list has fewer than n entries
+-- First, with room for so many entries: 1, 2, 3 and the job's. 3: the layout list has fewer than n entries
 abbrev pub firstTrials : List ℕ → ℕ → ℕ → ℕ → List Trial
 firstTrials job lw bw room = ofWhole 1 (BadSize job) ∷ ofWhole 2 (BadWeight lw bw) ∷ ofWhole 3 (room < count job) ∷ jobTrials job
 
--- Measure: 1 to 9
+-- Measure: First's, 8 and 9
 abbrev pub measureTrials : List ℕ → ℕ → ℕ → List ℕ → List Trial
 measureTrials job lw bw list = firstTrials job lw bw (length list) ++ layoutTrials (boardOf job) list
 
--- Next: 1 to 10
+-- Next: Measure's and 10
 abbrev pub nextTrials : List ℕ → ℕ → ℕ → List ℕ → List Trial
 nextTrials job lw bw list = measureTrials job lw bw list ++ (bestTrial (boardOf job) (weighted (boardOf job) lw bw) list ∷ [])
 
--- Draw, of record i to port q with room for so many floats: 1, 3 to 7 and 11. 3: the float list has fewer than six
+-- Draw, of record i to port q with room for so many floats: 1, 3, the job's and 11. 3: the float list has fewer than six
 abbrev pub drawTrials : List ℕ → ℕ → ℕ → ℕ → List Trial
 drawTrials job i q room = ofWhole 1 (BadSize job) ∷ ofWhole 3 (room < 6) ∷ jobTrials job ++ (numberTrial job i q ∷ [])

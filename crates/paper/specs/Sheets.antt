@@ -1,5 +1,5 @@
 -- DEFINITIONS. 01, "Sheets worked by hand": the jobs as bytes, and the sheets P1 to P12, each with its call, its input and its whole reply.
--- After P10 stands Measure's sheet for "its total is 85".
+-- After P10 stands Measure's sheet for "its total is 85"; after P12, four for refusal 12.
 use mathlib.Core.Path.{_≡_}
 use mathlib.Core.List.{List, [], _∷_, _++_}
 use Prim.Native.Nat.{ℕ, _/_, _%_}
@@ -78,4 +78,8 @@ sheets =
     sheet Measure J4 1 0 (1 ∷ 0 ∷ []) (Total 85) (1 ∷ 0 ∷ []) ∷
     sheet First J5 2 3 (9 ∷ 9 ∷ 9 ∷ []) (Total 183) (1 ∷ 2 ∷ 0 ∷ []) ∷
     sheet Measure J5 1 0 (0 ∷ 1 ∷ 2 ∷ []) (refused 9 1) (0 ∷ 1 ∷ 2 ∷ []) ∷
+    sheet First (padAndPort 101 10 0 10 ++ padAndPort 102 20 30 18) 1 0 (9 ∷ 9 ∷ []) (Total 52) (0 ∷ 1 ∷ []) ∷
+    sheet First (padAndPort 101 10 0 10 ++ padAndPort 102 20 30 17) 1 0 (9 ∷ 9 ∷ []) (refused 12 1) (9 ∷ 9 ∷ []) ∷
+    sheet First (padAndPort 101 10 0 10 ++ padAndPort 102 20 30 17 ++ padAndPort 103 30 40 17) 1 0 (9 ∷ 9 ∷ 9 ∷ []) (refused 5 2) (9 ∷ 9 ∷ 9 ∷ []) ∷
+    sheet First (padAndPort 101 10 0 10 ++ padAndPort 102 20 30 17 ++ padAndPort 101 30 40 30) 1 0 (9 ∷ 9 ∷ 9 ∷ []) (refused 12 1) (9 ∷ 9 ∷ 9 ∷ []) ∷
     []

@@ -1,10 +1,8 @@
 -- `job::distance` meets its contract. Assumes nothing.
-use native.Mathlib.Omega.{arith}
 use Prim.Native.Nat.{_<_, _^_}
 use lib.IntN.{natAbs, _-ℤ_}
 use lib.Signed.{mag}
-use Rattle.numbers.specs.Bits.{read-back, mag-le}
-use Rattle.job.proofs.Heights.{difference-small}
+use Rattle.numbers.specs.Bits.{read-back, difference-small, difference-fits}
 use Rattle.job.proofs.distance.Statement.{statement}
 use Rattle.job.proofs.distance.Tie as tie
 
@@ -12,7 +10,7 @@ small : (c : tie.Start) → natAbs (c .args .y -ℤ c .args .q) < 4294967296
 small c = difference-small (c .args .y) (c .args .q) (c .pre .0) (c .pre .1)
 
 fits : (c : tie.Start) → mag (c .args .y -ℤ c .args .q) < 2 ^ 63
-fits c = omega (arith, small c, mag-le (c .args .y -ℤ c .args .q))
+fits c = difference-fits (c .args .y) (c .args .q) (c .pre .0) (c .pre .1)
 
 sub-size : tie.Need-sub-size
 sub-size c = rw (read-back (c .args .y) (c .fits .y .sfits), read-back (c .args .q) (c .fits .q .sfits)) (record { sfits = fits c })

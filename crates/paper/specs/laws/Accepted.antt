@@ -7,8 +7,9 @@ use native.Mathlib.Nat.{lt-of-not-le, le-of-suc-le-suc, not-suc-le-zero, eq-or-l
 use native.Mathlib.Decide.{ℕ-discrete}
 use native.Mathlib.Omega.{arith}
 use lib.ListN.{length}
-use lib.IntN.{natAbs}
-use Rattle.numbers.specs.Whole.{whole, nle-num}
+use lib.IntN.{pos, natAbs, _+ℤ_, _-ℤ_}
+use lib.Signed.{_≤ℤ_}
+use Rattle.numbers.specs.Whole.{whole, nlt-num, plus-num, less-num}
 use Rattle.paper.specs.declared.Refusal.{Refusal}
 use Rattle.paper.specs.Job.{count, reservedOf, xOf, yOf, portOf}
 use Rattle.paper.specs.Layouts.{boardOf, held, weighted, total, Layout, Untouching, Best}
@@ -39,16 +40,22 @@ pub record Accepted (job : List ℕ) : Type 0 where
 pub few-records : (job : List ℕ) → ¬ BadSize job → count job ≤ 64
 few-records job size = let long = not-lt (λ l. size (inr (inr l))) in omega arith
 
--- 5 is passed: port heights rise.
-pub passed-rising : (job : List ℕ) → Passed (jobTrials job) → Rising (boardOf job)
-passed-rising job passed a zero l k = absurd (not-suc-le-zero l)
-passed-rising job passed a (suc c) l k =
+-- 12 is passed: a port is at least 8 above every one before.
+pub passed-spaced : (job : List ℕ) → Passed (jobTrials job) → (a c : ℕ) → a < c → c < count job → (portOf job a +ℤ pos 8) ≤ℤ portOf job c
+passed-spaced job passed a zero l k = absurd (not-suc-le-zero l)
+passed-spaced job passed a (suc c) l k =
     let e : suc c - 1 ≡ c = omega arith in
-    let above = nle-num (portOf job (suc c)) (portOf job c) (λ h. passed .1 .0 (suc c) k (omega arith, rw e h)) in
+    let wide = nlt-num (portOf job (suc c) -ℤ portOf job c) (pos 8) (λ h. passed .1 .1 .0 (suc c) k (omega arith, rw e h)) in
+    let rise = less-num (portOf job (suc c)) (portOf job c) in
+    let plus = plus-num (portOf job a) 8 in
     ⊎-elim
-    (λ d. omega (whole, above, ap (portOf job) d))
-    (λ h. omega (whole, above, passed-rising job passed a c h (omega arith)))
+    (λ d. omega (whole, wide, rise, plus, ap (portOf job) d))
+    (λ h. omega (whole, wide, rise, plus, passed-spaced job passed a c h (omega arith)))
     (eq-or-lt-of-le (le-of-suc-le-suc l))
+
+-- So port heights rise.
+pub passed-rising : (job : List ℕ) → Passed (jobTrials job) → Rising (boardOf job)
+passed-rising job passed a c l k = omega (whole, plus-num (portOf job a) 8, passed-spaced job passed a c l k)
 
 job-accepted : (job : List ℕ) → ¬ BadSize job → Passed (jobTrials job) → Accepted job
 job-accepted job size passed =

@@ -8,17 +8,17 @@ use native.Mathlib.Nat.{le-of-suc-le-suc, not-suc-le-zero, eq-or-lt-of-le}
 use native.Mathlib.Omega.{arith}
 use lib.Dec.{T, eqb, leb, ltb}
 use lib.ListN.{length}
-use lib.IntN.{ℤ, pos, negsuc, negℤ}
+use lib.IntN.{ℤ, pos, negsuc, negℤ, _-ℤ_}
 use lib.Signed.{leZ, ltZ, _<ℤ_}
 use Rattle.numbers.specs.Whole.{whole}
 use Rattle.numbers.specs.Tests.{and-iff, or-iff, not-iff, leb-iff, ltb-iff, le-iff, eqb-iff, lt-iff}
 use Rattle.paper.specs.Job.{count, nameOf, reservedOf, xOf, yOf, portOf}
 use Rattle.paper.specs.Layouts.{Board, boardOf, held, leader, Touching}
 use Rattle.paper.specs.Refusals.{Passed, jobTrials, firstTrials, measureTrials, drawTrials}
-use Rattle.paper.specs.Refusals.{Earlier, BadSize, BadWeight, Outside, BadField, NotAbove, SameName, SameX, BadEntry}
+use Rattle.paper.specs.Refusals.{Earlier, BadSize, BadWeight, Outside, BadField, NotAbove, TooClose, SameName, SameX, BadEntry}
 use Rattle.paper.specs.declared.Verdict.the-variants.{Sound}
 use Rattle.paper.specs.laws.Search.{some}
-use Rattle.paper.specs.laws.Tests.{badSize, badWeight, outside, badField, notAbove, sameName, sameX, sameEntry, earlier, badEntry, touch, badNumber}
+use Rattle.paper.specs.laws.Tests.{badSize, badWeight, outside, badField, notAbove, tooClose, sameName, sameX, sameEntry, earlier, badEntry, touch, badNumber}
 use Rattle.paper.specs.laws.Verdicts.{run, jobFindings, layoutFindings, firstFindings, measureFindings, drawFindings}
 use Rattle.paper.specs.laws.Trials.{Judged, Tried, finds-first, finds-whole, tried-none, tried-more, tried-append}
 use Rattle.paper.specs.laws.Proper.{Differ}
@@ -78,9 +78,14 @@ bad-field-iff job i =
     (or-iff (ltb 1000000 (xOf job i)) (outside (yOf job i) || outside (portOf job i)) (ltb-iff 1000000 (xOf job i))
     (or-iff (outside (yOf job i)) (outside (portOf job i)) (outside-iff (yOf job i)) (outside-iff (portOf job i))))))
 
--- 5
+-- 5 and 12
 pub not-above-iff : (job : List ℕ) (i : ℕ) → T (notAbove job i) ↔ NotAbove (portOf job) i
 not-above-iff job i = and-iff (ltb 0 i) (leZ (portOf job i) (portOf job (i - 1))) (ltb-iff 0 i) (le-iff (portOf job i) (portOf job (i - 1)))
+
+pub too-close-iff : (job : List ℕ) (i : ℕ) → T (tooClose job i) ↔ TooClose (portOf job) i
+too-close-iff job i =
+    let rise = portOf job i -ℤ portOf job (i - 1) in
+    and-iff (ltb 0 i) (ltZ rise (pos 8)) (ltb-iff 0 i) (lt-iff rise (pos 8))
 
 -- 6, 7 and 8
 pub same-name-iff : (job : List ℕ) (i j : ℕ) → T (sameName job i j) ↔ SameName job i j
@@ -111,9 +116,10 @@ unfolding jobFindings
 job-tried job =
     tried-more (finds-first _ (badField job) (λ i l. bad-field-iff job i)) (λ _.
     tried-more (finds-first _ (notAbove job) (λ i l. not-above-iff job i)) (λ _.
+    tried-more (finds-first _ (tooClose job) (λ i l. too-close-iff job i)) (λ _.
     tried-more (finds-first _ (earlier (sameName job)) (λ i l. earlier-iff (sameName job) (SameName job) i (λ j k. same-name-iff job i j))) (λ _.
     tried-more (finds-first _ (earlier (sameX job)) (λ i l. earlier-iff (sameX job) (SameX job) i (λ j k. same-x-iff job i j))) (λ _.
-    tried-none))))
+    tried-none)))))
 
 first-tried : (job : List ℕ) (lw bw room : ℕ) → Tried (firstFindings job lw bw room) (firstTrials job lw bw room)
 unfolding firstFindings
@@ -124,7 +130,7 @@ first-tried job lw bw room =
 
 -- 7 is passed: the x of all pads differ.
 pub passed-differ : (job : List ℕ) → Passed (jobTrials job) → Differ (boardOf job)
-passed-differ job passed i j k l e = passed .1 .1 .1 .0 i l (j, k, e)
+passed-differ job passed i j k l e = passed .1 .1 .1 .1 .0 i l (j, k, e)
 
 measure-tried : (job : List ℕ) (lw bw : ℕ) (list : List ℕ) → Tried (measureFindings job lw bw list) (measureTrials job lw bw list)
 unfolding measureFindings layoutFindings

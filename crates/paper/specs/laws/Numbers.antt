@@ -43,14 +43,14 @@ refusal-told r s a b e =
 
 -- ---- the calls' refusals are such
 
--- Each trial has a number from 1 to 11 and is tried at 64 records at most, if the trials before it are clean.
+-- Each trial has a number from 1 to 12 and is tried at 64 records at most, if the trials before it are clean.
 abbrev Narrow : List Trial → Type 0
 Narrow [] = Unit {0}
-Narrow (t ∷ ts) = (1 ≤ t .reason) × (t .reason ≤ 11) × (t .among ≤ 64) × (Clean t → Narrow ts)
+Narrow (t ∷ ts) = (1 ≤ t .reason) × (t .reason ≤ 12) × (t .among ≤ 64) × (Clean t → Narrow ts)
 
--- A refusal by a number from 1 to 11, of one of 64 records.
+-- A refusal by a number from 1 to 12, of one of 64 records.
 abbrev pub Within : Refusal → Type 0
-Within r = (1 ≤ r .reason) × (r .reason ≤ 11) × (r .at < 64)
+Within r = (1 ≤ r .reason) × (r .reason ≤ 12) × (r .at < 64)
 
 refused-within : (ts : List Trial) (r : Refusal) → Narrow ts → RefusedBy ts r → Within r
 refused-within [] r n a = absurd a

@@ -4,7 +4,7 @@ use mathlib.Core.List.{List}
 use Prim.Native.Nat.{ℕ, _-_, _%_}
 use lib.Dec.{eqb, leb, ltb}
 use lib.ListN.{length}
-use lib.IntN.{ℤ, pos, negℤ}
+use lib.IntN.{ℤ, pos, negℤ, _-ℤ_}
 use lib.Signed.{leZ, ltZ}
 use Rattle.paper.specs.Job.{nameOf, reservedOf, xOf, yOf, portOf}
 use Rattle.paper.specs.Leaders.{Leader}
@@ -29,6 +29,10 @@ badField job i =
 -- 5
 abbrev pub notAbove : List ℕ → ℕ → Bool
 notAbove job i = ltb 0 i && leZ (portOf job i) (portOf job (i - 1))
+
+-- 12
+abbrev pub tooClose : List ℕ → ℕ → Bool
+tooClose job i = ltb 0 i && ltZ (portOf job i -ℤ portOf job (i - 1)) (pos 8)
 
 -- 6, 7, 8
 abbrev pub sameName : List ℕ → ℕ → ℕ → Bool

@@ -14,7 +14,7 @@ use Rattle.paper.specs.Refusals.{refusal}
 use Rattle.paper.specs.Job.{count}
 use Rattle.paper.specs.Layouts.{boardOf, held}
 use Rattle.paper.specs.laws.Search.{first}
-use Rattle.paper.specs.laws.Tests.{badSize, badWeight, badField, notAbove, sameName, sameX, earlier, badEntry, touch, badNumber}
+use Rattle.paper.specs.laws.Tests.{badSize, badWeight, badField, notAbove, tooClose, sameName, sameX, earlier, badEntry, touch, badNumber}
 
 -- a trial's number, and the first record at fault
 abbrev pub Finding : Type 0
@@ -42,6 +42,7 @@ unfoldable pub jobFindings : List ℕ → List Finding
 jobFindings job =
     (4, first (badField job) (count job)) ∷
     (5, first (notAbove job) (count job)) ∷
+    (12, first (tooClose job) (count job)) ∷
     (6, first (earlier (sameName job)) (count job)) ∷
     (7, first (earlier (sameX job)) (count job)) ∷ []
 

@@ -40,6 +40,9 @@ touches-requires c κs =
     let ready = rw (c .enum-told6 .given .1) at (s .pre .3) in
     omega (arith, ready .1 (s .args .i) (search needs), ready .1 (s .args .j) (search needs))
 
+enum-told-7 : tie.Need-enum-told-7
+enum-told-7 c = search needs
+
 returns : tie.Need-returns
 unfolding pairOf
 returns c = rw (c .enum-told .given .1)
@@ -64,6 +67,10 @@ returns-6 : tie.Need-returns-6
 unfolding pairOf
 returns-6 c = rw (c .before .enum-told6 .given .1) (c .touches .ensures)
 
+returns-7 : tie.Need-returns-7
+unfolding pairOf
+returns-7 c = rw (c .enum-told7 .given .1)
+
 pub clash-spec : {M : Type 1} → statement M
 clash-spec =
     tie.close
@@ -78,9 +85,11 @@ clash-spec =
     same-entry-requires
     enum-told-6
     touches-requires
+    enum-told-7
     returns
     returns-2
     returns-3
     returns-4
     returns-5
-    returns-6)
+    returns-6
+    returns-7)

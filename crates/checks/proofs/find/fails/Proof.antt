@@ -49,6 +49,12 @@ enum-told-6 c = search needs
 clashes-requires-4 : tie.Need-clashes-requires-4
 clashes-requires-4 c κs = search needs
 
+enum-told-7 : tie.Need-enum-told-7
+enum-told-7 c = search needs
+
+too-close-requires : tie.Need-too-close-requires
+too-close-requires c κs = search needs
+
 returns : tie.Need-returns
 unfolding testOf pairOf
 returns c = rw (c .before .enum-told .given .1) (c .bad-field .ensures)
@@ -75,6 +81,10 @@ returns-6 : tie.Need-returns-6
 unfolding testOf pairOf
 returns-6 c = rw (c .before .enum-told6 .given .1) (rw (c .before .enum-told6 .given .1) at (c .clashes4 .ensures))
 
+returns-7 : tie.Need-returns-7
+unfolding testOf pairOf
+returns-7 c = rw (c .before .enum-told7 .given .1) (c .too-close .ensures)
+
 pub fails-spec : {M : Type 1} → statement M
 fails-spec =
     tie.close
@@ -93,9 +103,12 @@ fails-spec =
     clashes-requires-3
     enum-told-6
     clashes-requires-4
+    enum-told-7
+    too-close-requires
     returns
     returns-2
     returns-3
     returns-4
     returns-5
-    returns-6)
+    returns-6
+    returns-7)
