@@ -173,7 +173,8 @@ static int same(int trials, int seed) {
         calls += 2;
     }
     printf("%ld calls, %ld steps of Next, refusals", calls, steps);
-    for (int r = 1; r <= CHEREMYSL_PORT_TOO_CLOSE; r++) printf(" %d: %ld", r, refused[r]);
+    for (int r = 1; r <= CHEREMYSL_PORT_TOO_CLOSE; r++)
+        if (refused[r] > 0) printf(" %d: %ld", r, refused[r]);
     printf("\n");
     return 0;
 }

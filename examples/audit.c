@@ -31,7 +31,8 @@ int main(int argc, char **argv) {
         int number = cheremysl_refusal_number(length), record = cheremysl_refusal_record(length);
         printf("refused %d record %d", number, record);
         if (number >= CHEREMYSL_BAD_FIELD) printf(" (pad %d)", pad_name(&s, (size_t)record));
-        if (number < (int)(sizeof faults / sizeof *faults)) printf(": %s", faults[number]);
+        if (number < (int)(sizeof faults / sizeof *faults) && faults[number] != NULL)
+            printf(": %s", faults[number]);
         printf("\n");
         return 1;
     }

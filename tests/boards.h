@@ -30,7 +30,7 @@ int64_t get_port(const uint8_t *job, size_t i);
 
 enum board {
     WIDE,       /* anywhere */
-    CLOSE,      /* so close that pads share heights with each other and with ports */
+    CLOSE,      /* pads beside ports, so that they share heights with these and each other */
     LEVEL,      /* each pad at some port's height */
     ABOVE,      /* all pads above all ports */
     BELOW,      /* all pads below all ports */

@@ -1,6 +1,7 @@
 /*
  * every [COUNT [SEED]]: First, Next, .., end on jobs of up to seven pads, against the list of every
- * best layout among all assignments. Random and degenerate boards.
+ * best layout among all assignments. Random and degenerate boards; now and then with a port too
+ * close to the one before, for which every call refuses the job.
  */
 #include <stdio.h>
 #include <stdlib.h>

@@ -38,12 +38,13 @@ static void take_job(struct bytes *b, struct question *q) {
     static const int64_t scales[] = {1, 1, 1, 1, 2, 250, 1500, 15625};
     static const size_t small[] = {1, 2, 3, 3, 4, 4, 5, 6};
     size_t n = take(b, 8) > 0 ? small[take(b, 8)] : 1 + take(b, 64);
-    int64_t scale = scales[take(b, 8)], port = -(int64_t)take(b, 65), low = port;
+    int64_t scale = scales[take(b, 8)], port[64] = {-(int64_t)take(b, 65)};
+    for (size_t i = 1; i < n; i++) port[i] = port[i - 1] + 8 + take(b, 3);
     for (size_t i = 0; i < n; i++) {
         int64_t name = take(b, 8) > 0 ? 101 + (int64_t)i : 0, x = 64 * take(b, 256) + i + 1;
-        int64_t y = low - 2 + take(b, 9 * n + 4);
-        put_record(q->job, i, name, x, scale * y, scale * port);
-        port += 8 + take(b, 3);
+        bool close = take(b, 2);
+        int64_t y = close ? port[take(b, n)] - 1 + take(b, 3) : port[0] - 2 + take(b, 9 * n + 4);
+        put_record(q->job, i, name, x, scale * y, scale * port[i]);
     }
     q->job_bytes = 16 * n;
 }
@@ -228,7 +229,8 @@ int LLVMFuzzerTestOneInput(const uint8_t *data, size_t size) {
 #else
 
 #define SIZE 400     /* the longest input */
-#define KEPT 1000    /* more than there are kinds of outcome */
+#define SIZES (8 + JOB_ROOM / 128 + 1)   /* classes of numbers of records */
+#define KEPT (CALLS * (ENDS + 1) * SIZES) /* one input for each kind of outcome */
 #define ENOUGH 20000 /* inputs for every refusal to have come */
 
 struct input {
@@ -242,7 +244,7 @@ static long came[CALLS][ENDS + 1]; /* how often each outcome came */
 
 /* Keeps an input if no other had its call, its outcome and about its number of records. */
 static void keep_if_new(const struct input *in, const struct question *q, int reason) {
-    static bool seen[CALLS][ENDS + 1][8 + JOB_ROOM / 128 + 1];
+    static bool seen[CALLS][ENDS + 1][SIZES];
     size_t n = records_of(q);
     bool *mark = &seen[q->call][reason][n < 8 ? n : 8 + n / 8];
     came[q->call][reason]++;

@@ -51,12 +51,13 @@ def sound(r):
     span = r.choice([6, 12, 30])
     ports = list(itertools.accumulate([r.randint(-span, 0)] + [r.randint(8, r.choice([8, 9, 12])) for _ in range(n - 1)]))
     names = [r.choice([0, k]) if r.random() < .4 else k for k in r.sample(range(1, 65536), n)]
-    return b''.join(struct.pack('<HHIii', a, 0, x, r.randint(-span, span + 8 * n), q) for a, x, q in zip(names, r.sample(range(1, 2 * span), n), ports))
+    height = lambda: r.choice(ports) + r.randint(-1, 1) if r.random() < .5 else r.randint(-span, span + 8 * n)
+    return b''.join(struct.pack('<HHIii', a, 0, x, height(), q) for a, x, q in zip(names, r.sample(range(1, 2 * span), n), ports))
 
 def spoilt(r):
     job = bytearray(sound(r))
     for _ in range(r.randint(1, 2)):
-        kind, at = r.randrange(7), 16 * r.randrange(len(job) // 16)
+        kind, at = r.randrange(8), 16 * r.randrange(len(job) // 16)
         if kind == 0:
             return bytes(job[:r.randrange(len(job))]) if r.random() < .5 else bytes(job) * r.randint(20, 3000)
         if kind == 1:
@@ -69,6 +70,8 @@ def spoilt(r):
             struct.pack_into('<i', job, at + 12, r.randint(-30, 30))
         if kind == 5:
             job += job[at:at + 16]
+        if kind == 7:
+            job[at:at + 2] = job[:2]
         if kind == 6 and at:
             struct.pack_into('<i', job, at + 12, min(2 ** 31 - 1, struct.unpack_from('<i', job, at - 4)[0] + r.randint(6, 9)))
     return bytes(job)

@@ -191,15 +191,20 @@ static void is_refused(const struct question *q, int number, int record) {
     expect(q, keeps(q, refused(number, record)));
 }
 
-/* All 64 records: too many for the plain account, but these replies are plain. */
+/* The reply to n straight leaders, for more records than the plain account can try too. */
+static void is_straight(const struct question *q) {
+    int64_t n = (int64_t)q->job_bytes / 16;
+    struct reply r = keeps(q, q->call == NEXT ? END : 5 * n * (n + 1));
+    for (int64_t i = 0; i < n && q->call == FIRST; i++) r.list.layout[i] = (uint16_t)i;
+    if (q->call == DRAW)
+        drawn(q, 2, (const uint32_t[]){0x40200000, 0, 0, 0});
+    else
+        expect(q, r);
+}
+
 static void largest_job(enum call call, int apart) {
     struct question q = spaced(call, 64, apart);
-    struct reply r = keeps(&q, call == NEXT ? END : 20800);
-    for (size_t i = 0; i < 64 && call == FIRST; i++) r.list.layout[i] = (uint16_t)i;
-    if (call == DRAW)
-        drawn(&q, 2, (const uint32_t[]){0x40200000, 0, 0, 0});
-    else
-        expect(&q, r);
+    is_straight(&q);
 }
 
 static void sizes(enum call call) {
@@ -314,22 +319,22 @@ static void job_rules(enum call call) {
     is_refused(&q, 7, 2);
 }
 
-/* A job of n records in which the port of record i, and those after it, rise by so much there. */
+/* n straight leaders: port i is so much above the one before, every other 10. */
 static struct question rising(enum call call, size_t n, size_t i, int64_t by) {
     struct question q = good(call, n);
-    for (int64_t port = get_port(q.job, i - 1) + by; i < n; i++, port += 10)
+    for (int64_t port = get_port(q.job, i - 1) + by; i < n; i++, port += 10) {
         put_port(q.job, i, port);
+        put_y(q.job, i, port);
+    }
     return q;
 }
 
 static void one_rise(enum call call, size_t n, size_t i, int64_t by) {
     struct question q = rising(call, n, i, by);
-    if (by < 8) {
+    if (by < 8)
         is_refused(&q, by > 0 ? 12 : 5, (int)i);
-        return;
-    }
-    give_best(&q);
-    passes(&q);
+    else
+        is_straight(&q);
 }
 
 /* Either side of 8 at every record of five, and at the first, the last and two others of 64. */
@@ -337,14 +342,14 @@ static void spacing(enum call call) {
     for (int64_t by = -8; by <= 9; by++)
         for (size_t i = 1; i < 5; i++) {
             one_rise(call, 5, i, by);
-            if (by < 8) one_rise(call, 64, 1 + (i - 1) * 62 / 3, by);
+            one_rise(call, 64, 1 + (i - 1) * 62 / 3, by);
         }
     largest_job(call, 8);
     struct question q = spaced(call, 64, 7);
     is_refused(&q, 12, 1);
 }
 
-/* Rises that would be small, or none, if they were computed in 8, 16 or 32 bits. */
+/* Rises that would be small, or falls, in 8 or 16 bits; one that would be in 32 gets 4 first. */
 static void wide_rises(enum call call) {
     static const int64_t rises[] = {128, 256, 263, 32768, 65536, 65543, 1 << 20, 2000000};
     for (size_t k = 0; k < sizeof rises / sizeof *rises; k++) {

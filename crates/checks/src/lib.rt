@@ -1,4 +1,4 @@
-// The entry checks of the calls: what is wrong with an input, if anything, by the numbers of 01.
+// The entry checks of the calls: what is wrong with an input, if anything, by refusal number.
 pub mod find;
 pub mod tests;
 pub mod verdicts;

@@ -1,4 +1,4 @@
-// The tests of 01's refusals at one record, or at two: each computes the test of its name in paper's laws/Tests.antt.
+// The tests of the refusals at one record, or at two: each computes the test of its name in paper's laws/Tests.antt.
 ghost use mathlib.Core.Path.{_≡_};
 ghost use Prim.Native.Nat.{_<_};
 ghost use lib.ListN.{length};

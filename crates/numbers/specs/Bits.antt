@@ -29,11 +29,11 @@ read-back z h = toZ-ofZ {w = w64} (record { sfits = h })
 pub back : (z : ℤ) → natAbs z < 2 ^ 63 → toZ w64 (ofZ w64 z) ≡ z
 back z h = toZ-ofZ (fits z h)
 
--- Two heights of 32 bits are less than 2 ^ 32 apart, so their difference fits 64 bits.
 mag-num : (z : ℤ) → (up z ≤ mag z) × (dn z ≤ suc (mag z))
 mag-num (pos n) = (omega arith, omega arith)
 mag-num (negsuc n) = (omega arith, omega arith)
 
+-- Two heights of 32 bits are less than 2 ^ 32 apart, so their difference fits 64 bits.
 pub difference-small : (y q : ℤ) → mag y < 2147483648 → mag q < 2147483648 → natAbs (y -ℤ q) < 4294967296
 difference-small y q h k = omega (arith, apart-num y q, mag-num y, mag-num q)
 

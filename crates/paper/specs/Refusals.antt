@@ -1,4 +1,4 @@
--- DEFINITIONS. 01, "Refusal numbers": what is at fault for each number, and each call's trials, in the order in which they run.
+-- DEFINITIONS. 01, "Refusal numbers", and 12 of 02: what is at fault for each number, and each call's trials, in the order in which they run.
 use mathlib.Core.Path.{_≡_}
 use mathlib.Core.Logic.{_≢_, _⊎_}
 use mathlib.Core.List.{List, [], _∷_, _++_}
@@ -66,7 +66,7 @@ BadField job i =
 abbrev pub NotAbove : (ℕ → ℤ) → ℕ → Type 0
 NotAbove port i = (0 < i) × (port i ≤ℤ port (i - 1))
 
--- 12: a port rises by less than 8 above the one before
+-- 12: the rise from the port before is less than 8 (where there is none, 5 comes first)
 abbrev pub TooClose : (ℕ → ℤ) → ℕ → Type 0
 TooClose port i = (0 < i) × ((port i -ℤ port (i - 1)) <ℤ pos 8)
 

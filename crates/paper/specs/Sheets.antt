@@ -30,7 +30,7 @@ J4 = padAndPort 101 10 15 10 ++ padAndPort 102 20 60 20
 abbrev pub J5 : List ℕ
 J5 = padAndPort 101 10 10 0 ++ padAndPort 102 20 20 10 ++ padAndPort 103 30 30 20
 
--- A sheet: call, job, weights, the list at padAndPort, the answer, the list at exit.
+-- A sheet: call, job, weights, the list at entry, the answer, the list at exit.
 pub data Call : Type 0 where
   First Next Measure : Call
 

@@ -1,6 +1,6 @@
 // The types of the calls' answers. What they mean is in specs/: start at docs/READING.md.
 
-// Why a call refuses, by its number in 01, and the record at fault.
+// Why a call refuses, by number, and the record at fault.
 pub struct Refusal {
     pub reason: u16,
     pub at: u16,

@@ -23,7 +23,7 @@ use Rattle.paper.specs.laws.Totals.{total-bound}
 not-lt : {a b : ℕ} → ¬ (a < b) → b ≤ a
 not-lt n = omega arith
 
--- An accepted job: 1 to 64 records, their fields in range, ports that rise and pads whose x differ.
+-- An accepted job: 1 to 64 records, their fields in range, ports at least 8 apart that rise and pads whose x differ.
 pub record Accepted (job : List ℕ) : Type 0 where
   pub size : length job ≤ 1024
   pub some : 0 < count job
@@ -34,6 +34,7 @@ pub record Accepted (job : List ℕ) : Type 0 where
   pub width : (i : ℕ) → i < count job → xOf job i ≤ 1000000
   pub pad : (i : ℕ) → i < count job → natAbs (yOf job i) ≤ 1000000
   pub port : (i : ℕ) → i < count job → natAbs (portOf job i) ≤ 1000000
+  pub spaced : (a c : ℕ) → a < c → c < count job → (portOf job a +ℤ pos 8) ≤ℤ portOf job c
   pub proper : Proper (boardOf job)
 
 -- 1 is passed: at most 64 records.
@@ -71,6 +72,7 @@ job-accepted job size passed =
       width = λ i l. not-lt (λ h. passed .0 i l (inr (inr (inl h))));
       pad = λ i l. not-lt (λ h. passed .0 i l (inr (inr (inr (inl h)))));
       port = λ i l. not-lt (λ h. passed .0 i l (inr (inr (inr (inr h)))));
+      spaced = passed-spaced job passed;
       proper = record { enough = omega arith; differ = passed-differ job passed; rising = passed-rising job passed };
     }
 

@@ -150,7 +150,7 @@ draw-tried job i q room =
     tried-more (finds-whole 11 ((count job ≤ i) ⊎ (count job ≤ q)) (badNumber (count job) i q) (bad-number-iff (count job) i q)) (λ _.
     tried-none))))
 
--- THEOREM: for every input, the run of a call's findings gives the right verdict: the refusal that 01 says, or none.
+-- THEOREM: for every input, the run of a call's findings gives the right verdict: the refusal that its trials say, or none.
 pub first-judged : (job : List ℕ) (lw bw room : ℕ) → Judged (run Sound (firstFindings job lw bw room)) (firstTrials job lw bw room)
 first-judged job lw bw room = first-tried job lw bw room .judged
 

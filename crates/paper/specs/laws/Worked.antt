@@ -1,5 +1,5 @@
--- P1 TO P12, by one theorem over one list: a test that the checker computes for each sheet, and a lemma that turns the test into the call's promise.
--- Assumes nothing.
+-- THE WORKED SHEETS, P1 to P12 and those for 12, by one theorem over one list: a test that the checker computes for each sheet, and a lemma that turns
+-- the test into the call's promise. Assumes nothing.
 use mathlib.Core.Path.{_≡_, refl, sym, ap, _∙_, subst}
 use mathlib.Core.Bool.{Bool, true, false, not, _&&_}
 use mathlib.Core.List.{List, [], _∷_, _++_}
@@ -193,7 +193,7 @@ all-allowed : (ss : List Sheet) → T (allHold ss) → Each ss
 all-allowed [] h = tt
 all-allowed (s ∷ ss) h = let u = both (holds s) (allHold ss) .0 h in (holds-allowed (s .call) s (u .0), all-allowed ss (u .1))
 
--- THEOREM. Every sheet P1 to P12 is a reply that its call's promise allows. (It allows no other: laws/Determined.)
+-- THEOREM. Every sheet of the list is a reply that its call's promise allows. (It allows no other: laws/Determined.)
 pub worked : Each sheets
 unfolding heads words any someWord leastTest misled untouchingTest differRight decidedAt beforeTest cheaper bestTest firstTest laterTest nextTest lastTest
     first some outside between touching jobFindings layoutFindings firstFindings measureFindings nextFindings
