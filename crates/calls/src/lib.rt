@@ -2,7 +2,7 @@
 use paper::Answer;
 use paper::Drawn;
 use paper::Refusal;
-use paper::Verdict;
+use paper::verdict::Verdict;
 use steps::Answer as Step;
 ghost use mathlib.Core.Path.{_≡_};
 ghost use lib.ListN.{length};

@@ -7,10 +7,10 @@ use native.Mathlib.Omega.{arith}
 use borrow.Author.Tests.{ltb-false, leb-false}
 use lib.Dec.{ltb, eqb}
 use lib.ListN.{length}
-use Rattle.paper.specs.declared.Found.{Found}
-use Rattle.paper.specs.declared.Found.the-variants.{At, Nowhere}
-use Rattle.paper.specs.declared.Verdict.{Verdict}
-use Rattle.paper.specs.declared.Verdict.the-variants.{Sound, Refused}
+use Rattle.paper.specs.declared.verdict.Found.{Found}
+use Rattle.paper.specs.declared.verdict.Found.the-variants.{At, Nowhere}
+use Rattle.paper.specs.declared.verdict.Verdict.{Verdict}
+use Rattle.paper.specs.declared.verdict.Verdict.the-variants.{Sound, Refused}
 use Rattle.paper.specs.Layouts.{held}
 use Rattle.paper.specs.laws.Search.{first, none-at, or-false-left, or-false-right}
 use Rattle.paper.specs.laws.Tests.{badSize, badEntry}

@@ -1,7 +1,7 @@
 // The first record that fails a check: one loop for all checks, and one below it for those on two records.
 use crate::Check;
 use crate::tests;
-use paper::Found;
+use paper::verdict::Found;
 ghost use mathlib.Core.Path.{_≡_};
 ghost use Prim.Native.Nat.{_<_};
 ghost use Rattle.paper.specs.Job.{count};

@@ -2,9 +2,9 @@
 use crate::Check;
 use crate::find;
 use crate::tests;
-use paper::Found;
 use paper::Refusal;
-use paper::Verdict;
+use paper::verdict::Found;
+use paper::verdict::Verdict;
 ghost use mathlib.Core.Path.{_≡_};
 ghost use Prim.Native.Nat.{_≤_};
 ghost use lib.ListN.{length};

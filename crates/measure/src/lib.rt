@@ -4,7 +4,7 @@ ghost use Prim.Native.Nat.{_<_, _≤_};
 ghost use Rattle.paper.specs.Job.{count, yOf, portOf};
 ghost use Rattle.paper.specs.Leaders.{distance, lengthOf, bendsOf};
 ghost use Rattle.paper.specs.Layouts.{boardOf, leader, weighted};
-ghost use Rattle.paper.specs.Promises.{totalOf};
+ghost use Rattle.paper.specs.laws.Totals.{totalOf};
 ghost use Rattle.paper.specs.Refusals.{Passed, measureTrials};
 ghost use Rattle.paper.specs.laws.Accepted.{Accepted};
 

@@ -84,10 +84,6 @@ MeasureOver trials b cost list (Refused r) = RefusedBy trials r
 abbrev pub MeasureAnswers : List ℕ → ℕ → ℕ → List ℕ → Answer → Type 0
 MeasureAnswers job lw bw list = MeasureOver (measureTrials job lw bw list) (boardOf job) (weighted (boardOf job) lw bw) list
 
--- The total of the layout that a list holds.
-abbrev pub totalOf : List ℕ → ℕ → ℕ → List ℕ → ℕ
-totalOf job lw bw list = total (boardOf job) (weighted (boardOf job) lw bw) (held list)
-
 -- DRAW: the leader of the pad of record i to port q.
 abbrev pub DrawAnswers : List ℕ → ℕ → ℕ → List Float → Drawn → List Float → Type 0
 DrawAnswers job i q before (Straight d) after =

@@ -1,4 +1,5 @@
 // The types of the calls' answers. What they mean is in specs/: start at docs/READING.md.
+pub mod verdict;
 
 // Why a call refuses, by number, and the record at fault.
 pub struct Refusal {
@@ -35,18 +36,5 @@ pub struct Three {
 pub enum Drawn {
     Straight(Two),
     Bent(Three),
-    Refused(Refusal),
-}
-
-// For the code's checks; no promise speaks of these two.
-// What a search for a record finds.
-pub enum Found {
-    At(u16),
-    Nowhere,
-}
-
-// What the checks come to.
-pub enum Verdict {
-    Sound,
     Refused(Refusal),
 }

@@ -5,12 +5,13 @@ use Prim.Native.Nat.{ℕ, zero, suc, _≤_}
 use native.Mathlib.Omega.{arith}
 use lib.ListN.{replicate, getD}
 use Rattle.paper.specs.declared.Answer.the-variants.{Total}
-use Rattle.paper.specs.declared.Verdict.the-variants.{Sound}
+use Rattle.paper.specs.declared.verdict.Verdict.the-variants.{Sound}
 use Rattle.paper.specs.Job.{twos, nameOf, reservedOf, xOf, yOf, portOf}
 use Rattle.paper.specs.Leaders.{lengthOf, bendsOf}
 use Rattle.paper.specs.Layouts.{boardOf, held, weighted, sum, FirstBest}
 use Rattle.paper.specs.Refusals.{Passed, firstTrials}
-use Rattle.paper.specs.Promises.{Kept, totalOf}
+use Rattle.paper.specs.Promises.{Kept}
+use Rattle.paper.specs.laws.Totals.{totalOf}
 use Rattle.paper.specs.Sheets.{J5}
 use Rattle.paper.specs.laws.Search.{first, some}
 use Rattle.paper.specs.laws.Tests.{outside, between, touching}

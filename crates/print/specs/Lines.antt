@@ -1,11 +1,12 @@
 -- What follows from the definitions.
-use mathlib.Core.Path.{_≡_, ap, sym, _∙_}
+use mathlib.Core.Path.{_≡_, ap, sym, subst, _∙_}
 use mathlib.Core.Logic.{inl, inr}
 use mathlib.Core.List.{List}
-use Prim.Native.Nat.{ℕ, _+_, _≤_, _<_}
+use Prim.Native.Nat.{ℕ, _+_, _≤_}
 use native.Mathlib.Omega.{arith}
 use native.Mathlib.Numerals.{add-one}
 use lib.ListN.{length, replicate, take}
+use lib.Seq.{sets}
 use borrow.Author.Tests.{eq-eqb, ne-eqb}
 use Rattle.paper.specs.declared.Refusal.{Refusal}
 use Rattle.paper.specs.declared.Answer.{Answer}
@@ -14,19 +15,29 @@ use Rattle.paper.specs.Job.{count, nameOf}
 use Rattle.paper.specs.Leaders.{lengthOf, bendsOf}
 use Rattle.paper.specs.Layouts.{boardOf, leader, held}
 use Rattle.paper.specs.Refusals.{BadWeight, Passed, measureTrials}
-use Rattle.paper.specs.Promises.{totalOf, FirstAnswers}
-use Rattle.paper.specs.laws.Totals.{total-is}
-use Rattle.paper.specs.laws.Accepted.{Accepted, first-accepted, measure-accepted, untouching-passed}
+use Rattle.paper.specs.Promises.{FirstAnswers}
+use Rattle.paper.specs.laws.Totals.{totalOf, total-is}
+use Rattle.paper.specs.laws.Accepted.{untouching-passed}
 use Rattle.paper.specs.laws.Determined.{first-answer}
 use Rattle.text.specs.Text.{bytes, Writes}
 use Rattle.text.specs.Writing.{writes-none, writes-then, writes-whole}
-use Rattle.print.specs.Printed.{field, line, lines, lengths, bends, sheet, refused, told, Printed}
+use Rattle.print.specs.Printed.{field, line, lines, lengths, bends, sheet, refused, told, Printed, Prints}
 
 -- THEOREM: what is printed for a job is determined.
 pub printed-one : (job s t : List ℕ) → Printed job s → Printed job t → s ≡ t
 printed-one job s t p q =
     let (a, l) = first-answer job 1 0 (replicate 64 0) (p .answer) (q .answer) (p .list) (q .list) (p .first) (q .first) in
     p .says ∙ ap (λ (m : List ℕ). told job m (p .answer)) l ∙ ap (told job (q .list)) a ∙ sym (q .says)
+
+-- THEOREM: so are its length and every byte of the list that it is printed into.
+pub prints-one : (job before : List ℕ) (r q : ℕ) (a b : List ℕ) → Prints job before r a → Prints job before q b → (r ≡ q) × (a ≡ b)
+prints-one job before r q a b p s =
+    let e = printed-one job (p .text) (s .text) (p .printed) (s .printed) in
+    (omega (arith, p .written .stop, s .written .stop, ap length e), p .written .stored ∙ ap (sets before 0) e ∙ sym (s .written .stored))
+
+-- The first r bytes are what is printed.
+pub prints-whole : (job before : List ℕ) (r : ℕ) (after : List ℕ) → Prints job before r after → r ≤ length before → Printed job (take r after)
+prints-whole job before r after p h = subst (Printed job) (sym (writes-whole (p .written) (omega (arith, p .written .stop)))) (p .printed)
 
 module _ (job : List ℕ) (i q name : ℕ) (e : name ≡ nameOf job i) where
   -- A dummy has no line;
@@ -51,14 +62,6 @@ pub lines-more : (job list : List ℕ) (i : ℕ) {b m a : List ℕ} {r q : ℕ} 
     → Writes b 0 (lines job list (i + 1)) q a
 unfolding lines
 lines-more job list i f g = rw add-one (writes-then f g)
-
--- What the printing goes by: Measure's trials are passed.
-module _ (job list : List ℕ) (p : Passed (measureTrials job 0 1 list)) where
-  pub facts : Accepted job × (count job ≤ length list)
-  facts = let a = first-accepted job 0 1 (length list) (measure-accepted job 0 1 list p .0) in (a .0, a .3)
-
-  pub entries : (i : ℕ) → i < count job → held list i < count job
-  entries = measure-accepted job 0 1 list p .1 .layout .inside
 
 -- First's total with the weights 1, 0 is the sum of lengths, and Measure's with 0, 1 the sum of bends.
 pub lengths-are : (job list : List ℕ) (t : ℕ) → t ≡ totalOf job 1 0 list → t ≡ lengths job list
@@ -88,13 +91,13 @@ module _ (job list : List ℕ) (a : Answer) (f : FirstAnswers job 1 0 (replicate
 
   -- and its text is what is printed;
   pub prints-sheet : (t : ℕ) → a ≡ Total t → {before after : List ℕ} {r : ℕ} → Writes before 0 (sheet job list) r after
-      → r ≤ length before → Printed job (take r after)
-  prints-sheet t e w h = record { answer = a; list = list; first = f; says = writes-whole w (omega arith) ∙ rw e }
+      → Prints job before r after
+  prints-sheet t e w = record { text = sheet job list; printed = record { answer = a; list = list; first = f; says = rw e }; written = w }
 
   -- a refusal: its line;
   pub prints-refusal : (g : Refusal) → a ≡ Refused g → {before after : List ℕ} {r : ℕ} → Writes before 0 (refused g) r after
-      → r ≤ length before → Printed job (take r after)
-  prints-refusal g e w h = record { answer = a; list = list; first = f; says = writes-whole w (omega arith) ∙ rw e }
+      → Prints job before r after
+  prints-refusal g e w = record { text = refused g; printed = record { answer = a; list = list; first = f; says = rw e }; written = w }
 
   -- never end.
   pub no-end : ¬ (a ≡ End)

@@ -13,7 +13,7 @@ use Rattle.paper.specs.Job.{count, nameOf}
 use Rattle.paper.specs.Leaders.{lengthOf, bendsOf}
 use Rattle.paper.specs.Layouts.{boardOf, leader, held, sum}
 use Rattle.paper.specs.Promises.{FirstAnswers}
-use Rattle.text.specs.Text.{bytes, decimal}
+use Rattle.text.specs.Text.{bytes, decimal, Writes}
 
 -- A number in decimal, and what stands after it.
 abbrev pub field : ℕ → String → List ℕ
@@ -56,3 +56,9 @@ pub record Printed (job text : List ℕ) : Type 0 where
   pub list : List ℕ
   pub first : FirstAnswers job 1 0 (replicate 64 0) answer list
   pub says : text ≡ told job list answer
+
+-- It is printed into a lent list of bytes: it stands at the start, r is its length, and every byte after it is kept.
+pub record Prints (job before : List ℕ) (r : ℕ) (after : List ℕ) : Type 0 where
+  pub text : List ℕ
+  pub printed : Printed job text
+  pub written : Writes before 0 text r after

@@ -8,7 +8,7 @@ ghost use lib.ListN.{length, take};
 ghost use Rattle.paper.specs.Job.{count};
 ghost use Rattle.paper.specs.Refusals.{Passed, measureTrials};
 ghost use Rattle.text.specs.Text.{Writes};
-ghost use Rattle.print.specs.Printed.{Printed};
+ghost use Rattle.print.specs.Printed.{Prints};
 ghost use Rattle.print.specs.Printed.{line as line-of, lines as lines-of, lengths as lengths-of, sheet as sheet-of, refused as refused-of};
 
 // The line of record i, led to port q.
@@ -69,7 +69,7 @@ fn refused(f: Refusal, out: &mut [u8]) -> usize
 // The printed sheet of a job, or the line of its refusal, at the start of `out`. Answers how many bytes it has. (First never answers end.)
 pub fn sheet(job: &[u8], out: &mut [u8]) -> usize
     requires { ⌜ 5424 ≤ length (now out) ⌝ }
-    ensures { λ r. ⌜ Printed (now (job .entry)) (take r (now (out .exit))) ⌝ }
+    ensures { λ r. ⌜ Prints (now (job .entry)) (now (out .entry)) r (now (out .exit)) ⌝ }
     ensures { λ r. ⌜ (r ≤ length (now (out .exit))) × (r ≡ length (take r (now (out .exit)))) ⌝ }
 {
     let mut list = [0u16; 64];

@@ -10,7 +10,8 @@ use Rattle.steps.specs.Steps.{FirstIs, NextMeets}
 use Rattle.steps.specs.Steps as steps
 use Rattle.paper.specs.Job.{count}
 use Rattle.paper.specs.Layouts.{boardOf, held, weighted, Untouching, Best, FirstBest, NextBest, LastBest}
-use Rattle.paper.specs.Promises.{Kept, totalOf}
+use Rattle.paper.specs.Promises.{Kept}
+use Rattle.paper.specs.laws.Totals.{totalOf}
 use Rattle.board.specs.Lists.{WorkOn}
 use Rattle.board.specs.Bridge.{proper, untouching-sol, sum-total, optimal-is-best, best-is-optimal, earliest-is, next-is, end-is}
 

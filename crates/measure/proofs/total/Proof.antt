@@ -7,8 +7,8 @@ use borrow.Author.Needs.{needs}
 use Rattle.paper.specs.Job.{count}
 use Rattle.paper.specs.Layouts.{boardOf, held, weighted, sum as costs}
 use Rattle.paper.specs.laws.Totals.{sum-none, sum-more}
-use Rattle.measure.proofs.Facts.{entries, so-far, total-most}
-use Rattle.paper.specs.laws.Accepted.{measure-facts}
+use Rattle.measure.proofs.Facts.{so-far, total-most}
+use Rattle.paper.specs.laws.Accepted.{measure-facts, measure-entries}
 use Rattle.measure.proofs.total.Statement.{statement}
 use Rattle.measure.proofs.total.Tie as tie
 
@@ -47,7 +47,7 @@ cost-requires c κs =
     let i = c .before .before .loop .i in
     let h : i < count (now (s .args .job)) = omega arith in
     let f = measure-facts (now (s .args .job)) (s .args .lw) (s .args .bw) (now (s .args .list)) (s .pre) in
-    (f .0, f .1, f .2, h, entries (now (s .args .job)) (s .args .lw) (s .args .bw) (now (s .args .list)) (s .pre) i h)
+    (f .0, f .1, f .2, h, measure-entries (now (s .args .job)) (s .args .lw) (s .args .bw) (now (s .args .list)) (s .pre) i h)
 
 add-sum : tie.Need-add-sum Inv-loop μ-loop
 add-sum c =

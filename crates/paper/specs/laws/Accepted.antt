@@ -113,9 +113,12 @@ module _ (job : List ℕ) (lw bw : ℕ) (list : List ℕ) where
         },
       )
 
-  -- So then the job is accepted, with weights in range and room for the layout.
+  -- So then the job is accepted, with weights in range and room for the layout, and the entries are port numbers.
   pub measure-facts : Passed (measureTrials job lw bw list) → Accepted job × (lw ≤ 1000) × (bw ≤ 1000) × (count job ≤ length list)
   measure-facts p = first-accepted job lw bw (length list) (measure-accepted p .0)
+
+  pub measure-entries : Passed (measureTrials job lw bw list) → (i : ℕ) → i < count job → held list i < count job
+  measure-entries p = measure-accepted p .1 .layout .inside
 
   -- And the other way round.
   pub untouching-passed : Passed (firstTrials job lw bw (length list)) → Untouching (boardOf job) (held list) → Passed (measureTrials job lw bw list)

@@ -7,7 +7,8 @@ use Rattle.paper.specs.declared.Answer.{Answer}
 use Rattle.paper.specs.declared.Answer.the-variants.{Total, End, Refused}
 use Rattle.paper.specs.Layouts.{boardOf, held, Layout}
 use Rattle.paper.specs.Refusals.{Passed, firstTrials}
-use Rattle.paper.specs.Promises.{totalOf, FirstAnswers, NextAnswers, MeasureAnswers}
+use Rattle.paper.specs.Promises.{FirstAnswers, NextAnswers, MeasureAnswers}
+use Rattle.paper.specs.laws.Totals.{totalOf}
 use Rattle.paper.specs.laws.Accepted.{first-accepted, measure-accepted, next-measured, accepted-bound}
 
 abbrev pub Bounded : Answer → Type 0

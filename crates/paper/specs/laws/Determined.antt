@@ -12,7 +12,8 @@ use Rattle.paper.specs.declared.Drawn.the-variants.{Straight, Bent, Refu
 use Rattle.paper.specs.Job.{count}
 use Rattle.paper.specs.Layouts.{boardOf, held, leader, weighted}
 use Rattle.paper.specs.Refusals.{firstTrials, measureTrials, nextTrials, drawTrials}
-use Rattle.paper.specs.Promises.{totalOf, number, drawnNumber, coordinates, overwritten, FirstAnswers, NextAnswers, MeasureAnswers, DrawAnswers}
+use Rattle.paper.specs.Promises.{number, drawnNumber, coordinates, overwritten, FirstAnswers, NextAnswers, MeasureAnswers, DrawAnswers}
+use Rattle.paper.specs.laws.Totals.{totalOf}
 use Rattle.paper.specs.Promises.{FirstPromise, NextPromise, MeasurePromise, DrawPromise}
 use Rattle.paper.specs.laws.Trials.{refused-one, not-both}
 use Rattle.paper.specs.laws.Order.{first-best-one, next-best-one, next-not-last}

@@ -16,7 +16,7 @@ use Rattle.paper.specs.Job.{count, nameOf, reservedOf, xOf, yOf, portOf}
 use Rattle.paper.specs.Layouts.{Board, boardOf, held, leader, Touching}
 use Rattle.paper.specs.Refusals.{Passed, jobTrials, firstTrials, measureTrials, drawTrials}
 use Rattle.paper.specs.Refusals.{Earlier, BadSize, BadWeight, Outside, BadField, NotAbove, TooClose, SameName, SameX, BadEntry}
-use Rattle.paper.specs.declared.Verdict.the-variants.{Sound}
+use Rattle.paper.specs.declared.verdict.Verdict.the-variants.{Sound}
 use Rattle.paper.specs.laws.Search.{some}
 use Rattle.paper.specs.laws.Tests.{badSize, badWeight, outside, badField, notAbove, tooClose, sameName, sameX, sameEntry, earlier, badEntry, touch, badNumber}
 use Rattle.paper.specs.laws.Verdicts.{run, jobFindings, layoutFindings, firstFindings, measureFindings, drawFindings}

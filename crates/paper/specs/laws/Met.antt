@@ -6,14 +6,15 @@ use Prim.Native.Nat.{ℕ}
 use lib.ListN.{length}
 use lib.IntN.{ℤ}
 use lib.Ieee.{Float}
-use Rattle.paper.specs.declared.Verdict.{Verdict}
-use Rattle.paper.specs.declared.Verdict.the-variants.{Sound, Refused as Stopped}
+use Rattle.paper.specs.declared.verdict.Verdict.{Verdict}
+use Rattle.paper.specs.declared.verdict.Verdict.the-variants.{Sound, Refused as Stopped}
 use Rattle.paper.specs.declared.Answer.the-variants.{Total, End, Refused}
 use Rattle.paper.specs.declared.Drawn.the-variants.{Refused as NotDrawn}
 use Rattle.paper.specs.Job.{count}
 use Rattle.paper.specs.Layouts.{boardOf, held, leader, weighted, Best, NextBest, LastBest}
 use Rattle.paper.specs.Refusals.{Passed, firstTrials, measureTrials, drawTrials, refusal}
-use Rattle.paper.specs.Promises.{totalOf, number, drawnNumber, coordinates, overwritten, FirstAnswers, NextAnswers}
+use Rattle.paper.specs.Promises.{number, drawnNumber, coordinates, overwritten, FirstAnswers, NextAnswers}
+use Rattle.paper.specs.laws.Totals.{totalOf}
 use Rattle.paper.specs.Promises.{FirstPromise, NextPromise, MeasurePromise, DrawPromise}
 use Rattle.paper.specs.laws.Verdicts.{run, firstFindings, measureFindings, drawFindings}
 use Rattle.paper.specs.laws.Proper.{Differ}

@@ -8,8 +8,8 @@ use mathlib.Core.Logic.{⊎-elim}
 use native.Mathlib.Nat.{le-of-suc-le-suc, not-suc-le-zero, eq-or-lt-of-le, le-antisymm}
 use native.Mathlib.Numerals.{add-one}
 use native.Mathlib.Omega.{arith}
-use Rattle.paper.specs.declared.Found.{Found}
-use Rattle.paper.specs.declared.Found.the-variants.{At, Nowhere}
+use Rattle.paper.specs.declared.verdict.Found.{Found}
+use Rattle.paper.specs.declared.verdict.Found.the-variants.{At, Nowhere}
 
 -- the place found already, or else n where the test holds
 abbrev pub orAt : Found → Bool → ℕ → Found

@@ -2,6 +2,7 @@
 use mathlib.Core.Path.{_≡_, refl, sym, ap}
 use mathlib.Core.Logic.{_≢_, _↔_, ite, if-pos, if-neg}
 use mathlib.Core.Bool.{Bool, true, false, cond}
+use mathlib.Core.List.{List}
 use Prim.Native.Nat.{ℕ, zero, suc, _+_, _*_, _≤_, _<_}
 use native.Mathlib.Decide.{ℕ-discrete}
 use native.Mathlib.Nat.{mul-le-mul}
@@ -11,7 +12,11 @@ use lib.Dec.{T, eqb, eqb→eq}
 use lib.IntN.{natAbs}
 use Rattle.numbers.specs.Whole.{whole, abs-num, apart-num}
 use Rattle.paper.specs.Leaders.{Leader, distance, lengthOf, bendsOf}
-use Rattle.paper.specs.Layouts.{Board, leader, sum, weighted, total}
+use Rattle.paper.specs.Layouts.{Board, boardOf, held, leader, sum, weighted, total}
+
+-- The total of the layout that a list holds, with 01's costs.
+abbrev pub totalOf : List ℕ → ℕ → ℕ → List ℕ → ℕ
+totalOf job lw bw list = total (boardOf job) (weighted (boardOf job) lw bw) (held list)
 
 -- ---- sums
 

@@ -9,10 +9,10 @@ use native.Mathlib.Omega.{arith}
 use lib.Dec.{T}
 use Rattle.numbers.specs.Tests.{true-iff}
 use Rattle.paper.specs.declared.Refusal.{Refusal}
-use Rattle.paper.specs.declared.Found.{Found}
-use Rattle.paper.specs.declared.Found.the-variants.{At, Nowhere}
-use Rattle.paper.specs.declared.Verdict.{Verdict}
-use Rattle.paper.specs.declared.Verdict.the-variants.{Sound, Refused}
+use Rattle.paper.specs.declared.verdict.Found.{Found}
+use Rattle.paper.specs.declared.verdict.Found.the-variants.{At, Nowhere}
+use Rattle.paper.specs.declared.verdict.Verdict.{Verdict}
+use Rattle.paper.specs.declared.verdict.Verdict.the-variants.{Sound, Refused}
 use Rattle.paper.specs.Refusals.{Trial, Clean, FirstFault, Passed, RefusedBy}
 use Rattle.paper.specs.laws.Search.{first, at-is, none-at}
 use Rattle.paper.specs.laws.Verdicts.{Finding, outcome, run, run-append, run-stopped, atWhole}

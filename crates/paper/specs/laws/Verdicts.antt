@@ -6,10 +6,10 @@ use Prim.Native.Nat.{ℕ}
 use lib.Dec.{ltb}
 use lib.ListN.{length}
 use Rattle.paper.specs.declared.Refusal.{Refusal}
-use Rattle.paper.specs.declared.Found.{Found}
-use Rattle.paper.specs.declared.Found.the-variants.{At, Nowhere}
-use Rattle.paper.specs.declared.Verdict.{Verdict}
-use Rattle.paper.specs.declared.Verdict.the-variants.{Sound, Refused}
+use Rattle.paper.specs.declared.verdict.Found.{Found}
+use Rattle.paper.specs.declared.verdict.Found.the-variants.{At, Nowhere}
+use Rattle.paper.specs.declared.verdict.Verdict.{Verdict}
+use Rattle.paper.specs.declared.verdict.Verdict.the-variants.{Sound, Refused}
 use Rattle.paper.specs.Refusals.{refusal}
 use Rattle.paper.specs.Job.{count}
 use Rattle.paper.specs.Layouts.{boardOf, held}

@@ -9,14 +9,15 @@ use lib.Dec.{T, eqb, eqb→eq, leb, leb→le}
 use lib.ListN.{length, List·getD-eq-default}
 use Rattle.numbers.specs.Tests.{both}
 use Rattle.paper.specs.declared.Refusal.{Refusal}
-use Rattle.paper.specs.declared.Verdict.{Verdict}
-use Rattle.paper.specs.declared.Verdict.the-variants.{Sound, Refused as Stopped}
+use Rattle.paper.specs.declared.verdict.Verdict.{Verdict}
+use Rattle.paper.specs.declared.verdict.Verdict.the-variants.{Sound, Refused as Stopped}
 use Rattle.paper.specs.declared.Answer.{Answer}
 use Rattle.paper.specs.declared.Answer.the-variants.{Total, End, Refused}
 use Rattle.paper.specs.Job.{count, twos, nameOf, reservedOf, xOf, yOf, portOf}
 use Rattle.paper.specs.Layouts.{Board, boardOf, held, weighted, Best, sum}
 use Rattle.paper.specs.Refusals.{Trial, Passed, firstTrials, measureTrials, nextTrials}
-use Rattle.paper.specs.Promises.{Kept, totalOf, FirstAnswers, NextAnswers, MeasureAnswers}
+use Rattle.paper.specs.Promises.{Kept, FirstAnswers, NextAnswers, MeasureAnswers}
+use Rattle.paper.specs.laws.Totals.{totalOf}
 use Rattle.paper.specs.Sheets.{sheets, Each, Call, First, Next, Measure, Sheet, AllowedBy}
 use Rattle.paper.specs.laws.Search.{first, some}
 use Rattle.paper.specs.laws.Tests.{outside, between, touching}

@@ -52,7 +52,7 @@ returns c =
     let told = d .before .before .before .before in
     let f = told .before .before .before in
     let s = f .before .before .before .before in
-    (prints-sheet (now (s .args .job)) _ (f .first .result) (f .first .ensures) _ (told .a .given .1) (d .laid-out .ensures .0) (omega arith), within _ _ (omega arith))
+    (prints-sheet (now (s .args .job)) _ (f .first .result) (f .first .ensures) _ (told .a .given .1) (d .laid-out .ensures .0), within _ _ (omega arith))
 
 same-length-2 : tie.Need-same-length-2
 same-length-2 c = search needs
@@ -63,7 +63,7 @@ returns-2 c =
     let told = d .before .before .before in
     let f = told .before .before .before in
     let s = f .before .before .before .before in
-    (prints-refusal (now (s .args .job)) _ (f .first .result) (f .first .ensures) _ (told .a2 .given .1) (d .refused .ensures .0) (omega arith), within _ _ (omega arith))
+    (prints-refusal (now (s .args .job)) _ (f .first .result) (f .first .ensures) _ (told .a2 .given .1) (d .refused .ensures .0), within _ _ (omega arith))
 
 returns-3 : tie.Need-returns-3
 returns-3 c =

@@ -2,7 +2,7 @@
 use Prim.Native.Nat.{_≤_, _-_}
 use mathlib.Core.Path.{_≡_, sym, _∙_}
 use borrow.Author.Needs.{needs}
-use Rattle.paper.specs.declared.Found.the-variants.{Nowhere}
+use Rattle.paper.specs.declared.verdict.Found.the-variants.{Nowhere}
 use Rattle.paper.specs.laws.Search.{first, none-below, none-more, none-end, found-here}
 use Rattle.checks.specs.Dispatch.{testOf}
 use Rattle.checks.proofs.find.first_failing.Statement.{statement}

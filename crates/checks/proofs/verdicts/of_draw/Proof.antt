@@ -1,6 +1,6 @@
 -- `checks::verdicts::of_draw` meets its contract. Assumes nothing.
 use denote.Ref.{now}
-use Rattle.paper.specs.declared.Verdict.the-variants.{Sound}
+use Rattle.paper.specs.declared.verdict.Verdict.the-variants.{Sound}
 use Rattle.paper.specs.laws.Verdicts.{atWhole, drawFindings, run-append}
 use mathlib.Core.Path.{sym, _∙_}
 use Rattle.checks.specs.Sound.{was-sound, whole-false, size-le}

@@ -1,0 +1,14 @@
+// What the code's checks find and come to. No promise speaks of these two.
+use crate::Refusal;
+
+// What a search for a record finds.
+pub enum Found {
+    At(u16),
+    Nowhere,
+}
+
+// What the checks come to.
+pub enum Verdict {
+    Sound,
+    Refused(Refusal),
+}
