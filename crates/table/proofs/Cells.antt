@@ -13,7 +13,7 @@ use lib.Seq.{drop-cons}
 use borrow.Author.Tests.{ltb-true, ltb-false, eqb-true, eqb-false}
 use Rattle.numbers.specs.Filled.{place-in}
 use Rattle.table.specs.Strip.{Sides, fits, bit, count, parted, best, local}
-use Rattle.table.specs.Cell.{sides, figures, choice, place, coded, Pads, Sizes, Strip, Head, Valued, Cell, Parts, Port, sumAt, portTotal}
+use Rattle.table.specs.Cell.{noTotal, sides, figures, choice, place, coded, Pads, Sizes, Strip, Head, Valued, Cell, Parts, Port, sumAt, portTotal}
 use Rattle.table.proofs.Counts.{le-or-lt, lt-or-le, bit-le, bit-true, count-step, parted-least, parts-most, parted-less, count-drop}
 use Rattle.table.proofs.Corners.{corner-top}
 use Rattle.table.proofs.Masks.{plus, best-in, local-parted, local-blocked}
@@ -168,7 +168,7 @@ module _ {hs ts order cs lo hi : List ℕ} (P : Pads order lo hi) (Z : Sizes hs 
   b64 = omega (arith, T .ports, P .few)
 
   answer : (x y : Bool) → ltb (r + 1) h-below ≡ x → ltb (r + 1) h-above ≡ y
-      → cond (x && y) (sumAt ts ts cs row q (place a q) (place (q + 1) b)) 18446744073709551615 ≡ coded (choice order cs lo hi r a b q)
+      → cond (x && y) (sumAt ts ts cs row q (place a q) (place (q + 1) b)) noTotal ≡ coded (choice order cs lo hi r a b q)
   answer true true u v =
       sym (ap coded (some-parts (sides lo hi) (figures cs (length order)) (P .level) (figures-cheap Z) order r a b q (T .listed) b64 aq qb (T .rest)
       h-below x-below (D q aq qb .0) h-above x-above (D q aq qb .1) (getD order r 0) (ltb-true (r + 1) h-below u) (ltb-true (r + 1) h-above v)))
@@ -252,8 +252,8 @@ empty-cell S C order a b h H some-head ab = record {
 
 -- the cell that is stored: the head only where there is a layout
 valued-cell : (S : Sides) (C : ℕ → ℕ → Least) → ((j : ℕ) → S .lo j ≤ S .hi j) → ((j q : ℕ) → AtMost (2 ^ 32) (C j q)) → (order : List ℕ) (a b h v : ℕ) → b ≤ 64
-    → Valued S C order a b h v → Cell S C order a b (cond (eqb v 18446744073709551615) 0 h) v
-valued-cell S C level cheap order a b h v b64 is = go (eqb v 18446744073709551615) refl
+    → Valued S C order a b h v → Cell S C order a b (cond (eqb v noTotal) 0 h) v
+valued-cell S C level cheap order a b h v b64 is = go (eqb v noTotal) refl
   where
     H : Head S order a b h
     H = is .head
@@ -267,9 +267,9 @@ valued-cell S C level cheap order a b h v b64 is = go (eqb v 1844674407370955161
         is .value (h - 1) eh ∙ ap coded (sym (same-from S C order k (h - 1) a b (omega arith) (e ∙ sym (H .at (h - 1) eh)))))
         (le-or-lt h k)
 
-    go : (x : Bool) → eqb v 18446744073709551615 ≡ x → Cell S C order a b (cond x 0 h) v
+    go : (x : Bool) → eqb v noTotal ≡ x → Cell S C order a b (cond x 0 h) v
     go true e =
-        let z : v ≡ 18446744073709551615 = eqb-true v 18446744073709551615 e in
+        let z : v ≡ noTotal = eqb-true v noTotal e in
         record {
           top = omega arith;
           past = λ k u kn c. coded-none (count S a b (drop k order) * 2 ^ 32) (best S C (drop k order) a b) (most-best S C level cheap (drop k order) a b) (omega arith)
@@ -279,7 +279,7 @@ valued-cell S C level cheap order a b h v b64 is = go (eqb v 1844674407370955161
           nothing = λ u. z;
         }
     go false e =
-        let ne = eqb-false v 18446744073709551615 e in
+        let ne = eqb-false v noTotal e in
         record {
           top = H .top;
           past = λ k u kn c. absurd (let w = H .past k u kn in omega arith);
@@ -289,5 +289,5 @@ valued-cell S C level cheap order a b h v b64 is = go (eqb v 1844674407370955161
         }
 
 pub kept-cell : (S : Sides) (C : ℕ → ℕ → Least) → ((j : ℕ) → S .lo j ≤ S .hi j) → ((j q : ℕ) → AtMost (2 ^ 32) (C j q)) → (order : List ℕ) (a b h v r : ℕ) → b ≤ 64
-    → Valued S C order a b h v → r ≡ cond (eqb v 18446744073709551615) 0 h → Cell S C order a b r v
+    → Valued S C order a b h v → r ≡ cond (eqb v noTotal) 0 h → Cell S C order a b r v
 kept-cell S C level cheap order a b h v r b64 is e = rw e (valued-cell S C level cheap order a b h v b64 is)

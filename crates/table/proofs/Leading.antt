@@ -14,7 +14,7 @@ use Rattle.strips.specs.Lists.{keep, keep-yes, keep-no}
 use Rattle.strips.specs.Board as strip
 use Rattle.strips.specs.Prefix.{lies}
 use Rattle.table.specs.Strip.{Sides, spans, fits, bit, count, best, local}
-use Rattle.table.specs.Cell.{sides, figures, boardOf, choice, place, coded, Pads, Strip, Ready, Table, Leads, Parts, portTotal}
+use Rattle.table.specs.Cell.{noTotal, sides, figures, boardOf, choice, place, coded, Pads, Strip, Ready, Table, Leads, Parts, portTotal}
 use Rattle.table.proofs.Counts.{spans-by, count-step}
 use Rattle.table.proofs.Totals.{AtMost, most-best, coded-some}
 use Rattle.table.proofs.Ports.{in-table}
@@ -78,16 +78,16 @@ module _ {hs ts order cs lo hi : List ℕ} (P : Pads order lo hi) (T : Table ord
   choice-is q = refl
 
   -- a strip with no layout has no such port
-  pub leads-none : getD ts (place a b) 0 ≡ 18446744073709551615 → (q : ℕ) → Leads (boardOf order cs lo hi) order r a b q → ⊥
+  pub leads-none : getD ts (place a b) 0 ≡ noTotal → (q : ℕ) → Leads (boardOf order cs lo hi) order r a b q → ⊥
   leads-none e q L =
       let w = whole-is ∙ L .whole in
       let most : L .total ≤ count S a b (drop r order) * 2 ^ 32 =
       subst (AtMost (count S a b (drop r order) * 2 ^ 32)) w (most-best S C (P .level) (figures-cheap (T .sizes)) (drop r order) a b) in
-      let same : 18446744073709551615 ≡ L .total = sym e ∙ table-best ∙ ap coded w in
+      let same : noTotal ≡ L .total = sym e ∙ table-best ∙ ap coded w in
       let full : count S a b (drop r order) ≤ 64 = omega (arith, headed, O .ports, P .few) in
       omega arith
 
-  module _ (has : getD ts (place a b) 0 ≡ 18446744073709551615 → ⊥) (q x : ℕ) (is : x ≡ coded (choice order cs lo hi r a b q)) where
+  module _ (has : getD ts (place a b) 0 ≡ noTotal → ⊥) (q x : ℕ) (is : x ≡ coded (choice order cs lo hi r a b q)) where
     leads-yes : a ≤ q → q < b → x ≡ getD ts (place a b) 0 → Leads (boardOf order cs lo hi) order r a b q
     leads-yes low high e = record {
       low = low;
@@ -102,7 +102,7 @@ module _ {hs ts order cs lo hi : List ℕ} (P : Pads order lo hi) (T : Table ord
 
   -- what `attains` answers of a port says whether it leads
   module _ (q : ℕ) (aq : a ≤ q) (qb : q < b) (below above least : ℕ) (eb : below ≡ place a q) (ea : above ≡ place (q + 1) b)
-      (el : least ≡ getD ts (place a b) 0) (has : least ≡ 18446744073709551615 → ⊥)
+      (el : least ≡ getD ts (place a b) 0) (has : least ≡ noTotal → ⊥)
       (x : Bool) (is : x ≡ eqb (portTotal hs ts hs ts cs (r + 1) (getD order r 0 * length order) q below above) least) where
     abbrev sum : ℕ
     sum = portTotal hs ts hs ts cs (r + 1) (getD order r 0 * length order) q below above

@@ -9,7 +9,7 @@ use lib.Dec.{ltb, eqb}
 use lib.ListN.{length, getD}
 use borrow.Author.Tests.{ltb-true, ne-eqb}
 use Rattle.strips.specs.Lists.{both}
-use Rattle.table.specs.Cell.{place, Sizes, Copied, Port, opens, sumAt, portTotal}
+use Rattle.table.specs.Cell.{noTotal, place, Sizes, Copied, Port, opens, sumAt, portTotal}
 use Rattle.table.proofs.Corners.{corner-top}
 
 -- the lists hb and tb have at `below` what the tables have of the strip a .. q - 1
@@ -46,21 +46,21 @@ module _ {hb tb hs ts cs : List ℕ} {past row q below above : ℕ} (P : Port hb
   port-open : opens hb hs past below above ≡ true → portTotal hb tb hs ts cs past row q below above ≡ sumAt tb ts cs row q below above
   port-open e = rw e refl
 
-  port-shut : opens hb hs past below above ≡ false → portTotal hb tb hs ts cs past row q below above ≡ 18446744073709551615
+  port-shut : opens hb hs past below above ≡ false → portTotal hb tb hs ts cs past row q below above ≡ noTotal
   port-shut e = rw e refl
 
   pub port-smaller : (r v s : ℕ) → opens hb hs past below above ≡ true → r ≡ min v s → s ≡ sumAt tb ts cs row q below above
       → r ≡ min v (portTotal hb tb hs ts cs past row q below above)
   port-smaller r v s e m t = m ∙ ap (min v) (t ∙ sym (port-open e))
 
-  pub port-same : (v : ℕ) → v ≤ 18446744073709551615 → opens hb hs past below above ≡ false → v ≡ min v (portTotal hb tb hs ts cs past row q below above)
+  pub port-same : (v : ℕ) → v ≤ noTotal → opens hb hs past below above ≡ false → v ≡ min v (portTotal hb tb hs ts cs past row q below above)
   port-same v h e = let s = port-shut e in omega arith
 
   pub port-equal : (s v : ℕ) → opens hb hs past below above ≡ true → s ≡ sumAt tb ts cs row q below above → eqb s v ≡ eqb (portTotal hb tb hs ts cs past row q below
       above) v
   port-equal s v e t = ap (λ (x : ℕ). eqb x v) (t ∙ sym (port-open e))
 
-  pub port-other : (v : ℕ) → (v ≡ 18446744073709551615 → ⊥) → opens hb hs past below above ≡ false → false ≡ eqb (portTotal hb tb hs ts cs past row q below above) v
+  pub port-other : (v : ℕ) → (v ≡ noTotal → ⊥) → opens hb hs past below above ≡ false → false ≡ eqb (portTotal hb tb hs ts cs past row q below above) v
   port-other v ne e = sym (ne-eqb (portTotal hb tb hs ts cs past row q below above) v (λ w. ne (sym w ∙ port-shut e)))
 
 -- a pad's row of figures starts early

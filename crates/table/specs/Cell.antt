@@ -24,8 +24,11 @@ abbrev pub boardOf : List ℕ → List ℕ → List ℕ → List ℕ → Board
 boardOf order cs lo hi = board (sides lo hi) (figures cs (length order))
 
 -- a total as the code holds it: the largest u64 stands for none
+abbrev pub noTotal : ℕ
+noTotal = 18446744073709551615
+
 abbrev pub coded : Least → ℕ
-coded none = 18446744073709551615
+coded none = noTotal
 coded (some v) = v
 
 -- the least total of all pads on all ports, as the code holds it
@@ -56,7 +59,7 @@ pub record Head (S : Sides) (order : List ℕ) (a b h : ℕ) : Type 0 where
 pub record Valued (S : Sides) (C : ℕ → ℕ → Least) (order : List ℕ) (a b h v : ℕ) : Type 0 where
   pub head : Head S order a b h
   pub value : (s : ℕ) → h ≡ s + 1 → v ≡ coded (best S C (drop s order) a b)
-  pub nothing : h ≡ 0 → v ≡ 18446744073709551615
+  pub nothing : h ≡ 0 → v ≡ noTotal
 
 -- h is 1 more than the place of the rightmost of the strip's b - a pads, and v is their best total; h is 0 where the strip has too few pads or no layout
 pub record Cell (S : Sides) (C : ℕ → ℕ → Least) (order : List ℕ) (a b h v : ℕ) : Type 0 where
@@ -64,7 +67,7 @@ pub record Cell (S : Sides) (C : ℕ → ℕ → Least) (order : List ℕ) (a b 
   pub past : (k : ℕ) → h ≤ k → k ≤ length order → count S a b (drop k order) ≡ b - a → best S C (drop k order) a b ≡ none
   pub full : (s : ℕ) → h ≡ s + 1 → count S a b (drop s order) ≡ b - a
   pub value : (s : ℕ) → h ≡ s + 1 → best S C (drop s order) a b ≡ some v
-  pub nothing : h ≡ 0 → v ≡ 18446744073709551615
+  pub nothing : h ≡ 0 → v ≡ noTotal
 
 -- the tables have a place for each strip of 64 ports, and the figures are those of each pad with each port
 pub record Sizes (hs ts order cs : List ℕ) : Type 0 where
@@ -108,7 +111,7 @@ sumAt tb ts cs row q below above = getD cs (row + q) 0 + (getD tb below 0 + getD
 
 -- the same as the code holds it, the largest u64 where a part has no layout
 abbrev pub portTotal : List ℕ → List ℕ → List ℕ → List ℕ → List ℕ → ℕ → ℕ → ℕ → ℕ → ℕ → ℕ
-portTotal hb tb hs ts cs past row q below above = cond (opens hb hs past below above) (sumAt tb ts cs row q below above) 18446744073709551615
+portTotal hb tb hs ts cs past row q below above = cond (opens hb hs past below above) (sumAt tb ts cs row q below above) noTotal
 
 -- what is kept for the strips that end at b, from one row to the next: of the strip a .. b - 1, m pads stand at place k or after it, and t in all
 pub record Tally (S : Sides) (order : List ℕ) (a b k m t : ℕ) : Type 0 where

@@ -11,7 +11,7 @@ ghost use lib.Dec.{leb, eqb};
 ghost use lib.ListN.{length, getD, drop};
 ghost use Rattle.strips.specs.Least.{least};
 ghost use Rattle.table.specs.Strip.{spans, fits, bit, count};
-ghost use Rattle.table.specs.Cell.{sides, figures, boardOf, choice, coded, Pads, Sizes, Strip, Ready, Leads, NextPort, Head, RowsOf, PartsOf, Table, leastOf};
+ghost use Rattle.table.specs.Cell.{noTotal, sides, figures, boardOf, choice, coded, Pads, Sizes, Strip, Ready, Leads, NextPort, Head, RowsOf, PartsOf, Table, leastOf};
 ghost use Rattle.table.specs.Cell.{cornerOf, Port, opens, sumAt, portTotal, Tallies, EnteringAll, Rooms, Top, Valued, Copied};
 
 pub const NONE: u64 = 18446744073709551615;
@@ -260,7 +260,7 @@ fn attains(
     above: usize,
 ) -> bool
     requires { ⌜ Port (now heads) (now totals) (now heads) (now totals) (now cost) past row q below above ⌝ }
-    requires { ⌜ (v ≡ 18446744073709551615 → ⊥) ⌝ }
+    requires { ⌜ (v ≡ noTotal → ⊥) ⌝ }
     ensures { λ r. ⌜ r ≡ eqb (portTotal (now (heads .entry)) (now (totals .entry)) (now (heads .entry)) (now (totals .entry))
         (now (cost .entry)) past row q below above) v ⌝ }
 {
@@ -336,7 +336,7 @@ fn strip_total(
 
 // The head as the table has it: 0 where the strip has no layout.
 fn kept(h: usize, v: u64) -> usize
-    ensures { λ r. ⌜ (r ≡ cond (eqb v 18446744073709551615) 0 h) × (r ≤ h) ⌝ }
+    ensures { λ r. ⌜ (r ≡ cond (eqb v noTotal) 0 h) × (r ≤ h) ⌝ }
 {
     if v == NONE { 0 } else { h }
 }
