@@ -25,36 +25,32 @@ static uint32_t length_weight, bend_weight;
 enum { FIRST, NEXT, MEASURE, CALLS };
 static const char *const call_names[CALLS] = {"first", "next", "measure"};
 
-typedef int64_t call_of(uint16_t *layout);
+typedef int64_t call_of(const uint8_t *, size_t, uint32_t, uint32_t, uint16_t *, size_t);
 
-static int64_t our_first(uint16_t *layout) {
-    return cheremysl_first(job, bytes, length_weight, bend_weight, layout, entries);
+/* Measure only reads its list: its prototype is another. */
+static int64_t our_measure(const uint8_t *of, size_t size, uint32_t lw, uint32_t bw, uint16_t *layout, size_t count) {
+    return cheremysl_measure(of, size, lw, bw, layout, count);
 }
-static int64_t our_next(uint16_t *layout) {
-    return cheremysl_next(job, bytes, length_weight, bend_weight, layout, entries);
+static int64_t their_measure(const uint8_t *of, size_t size, uint32_t lw, uint32_t bw, uint16_t *layout, size_t count) {
+    return c_measure(of, size, lw, bw, layout, count);
 }
-static int64_t our_measure(uint16_t *layout) {
-    return cheremysl_measure(job, bytes, length_weight, bend_weight, layout, entries);
+static int64_t nothing(const uint8_t *of, size_t size, uint32_t lw, uint32_t bw, uint16_t *layout, size_t count) {
+    (void)of, (void)size, (void)lw, (void)bw, (void)count;
+    return layout[0];
 }
-static int64_t their_first(uint16_t *layout) {
-    return c_first(job, bytes, length_weight, bend_weight, layout, entries);
-}
-static int64_t their_next(uint16_t *layout) {
-    return c_next(job, bytes, length_weight, bend_weight, layout, entries);
-}
-static int64_t their_measure(uint16_t *layout) {
-    return c_measure(job, bytes, length_weight, bend_weight, layout, entries);
-}
-static int64_t nothing(uint16_t *layout) { return layout[0]; }
 
-static call_of *const ours[CALLS] = {our_first, our_next, our_measure};
-static call_of *const plain[CALLS] = {their_first, their_next, their_measure};
+static call_of *const ours[CALLS] = {cheremysl_first, cheremysl_next, our_measure};
+static call_of *const plain[CALLS] = {c_first, c_next, their_measure};
+
+static int64_t ask(call_of *call, uint16_t *layout) {
+    return call(job, bytes, length_weight, bend_weight, layout, entries);
+}
 
 /* Does both, from the same list; the list is then the library's. */
 static int64_t both(int call, uint16_t *layout) {
     uint16_t theirs[ENTRIES];
     memcpy(theirs, layout, sizeof theirs);
-    int64_t answer = ours[call](layout), expected = plain[call](theirs);
+    int64_t answer = ask(ours[call], layout), expected = ask(plain[call], theirs);
     if (answer == expected && memcmp(layout, theirs, sizeof theirs) == 0) return answer;
     printf("%s, %zu bytes: library %" PRId64 ", plain C %" PRId64 ", %s\n", call_names[call], bytes, answer, expected,
            memcmp(layout, theirs, sizeof theirs) ? "lists differ" : "lists agree");
@@ -109,7 +105,7 @@ static int measure_calls(char **words) {
     both(call, layout);
     for (int k = 0; k < times; k++) {
         memcpy(layout, start, sizeof layout);
-        answer = run(layout);
+        answer = ask(run, layout);
     }
     printf("%" PRId64 "\n", answer);
     return 0;

@@ -45,6 +45,9 @@ enum board {
 /* Makes an accepted job of n records, 1 to 64. */
 void make_board(uint8_t *job, size_t n, enum board kind);
 
+/* Pads joined to ports in order of height: no assignment has less length, touching or not. */
+int64_t least_length(const uint8_t *job, size_t n);
+
 /* The record numbers of the pads from left to right. */
 void left_to_right(const uint8_t *job, size_t n, size_t *order);
 

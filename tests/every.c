@@ -7,7 +7,6 @@
 #include <stdlib.h>
 
 #include "boards.h"
-#include "plain.h"
 #include "trial.h"
 
 static long sheets_listed, most_sheets;
@@ -56,7 +55,7 @@ static bool run(struct question *q, const struct sheets *all) {
 
 /* Next and Measure from every assignment: a later sheet, the end, or the refusal it deserves. */
 static void from_each(struct question *q, size_t i) {
-    size_t n = q->job_bytes / 16;
+    size_t n = records_of(q);
     if (i == n) {
         q->call = NEXT;
         expect(q, plain_reply(q));
@@ -79,7 +78,7 @@ static size_t any_size(void) {
 
 /* The job with one port less than 8 above the one before: every call refuses. */
 static void too_close(struct question q) {
-    size_t n = q.job_bytes / 16, i = 1 + below((uint32_t)n - 1);
+    size_t i = 1 + below((uint32_t)records_of(&q) - 1);
     put_port(q.job, i, get_port(q.job, i - 1) + 1 + below(7));
     q.count = LIST_ROOM;
     for (q.call = 0; q.call < CALLS; q.call++) expect(&q, keeps(&q, refused(12, (int)i)));
@@ -96,7 +95,7 @@ static void one_job(void) {
     uint32_t noise = below(2) ? 65536 : 8;
     for (size_t k = 0; k < LIST_ROOM; k++) q.list.layout[k] = (uint16_t)below(noise);
     if (n > 1 && below(8) == 0) too_close(q);
-    struct given g = {q.job, q.job_bytes, q.a, q.b, NULL, n, 0, 0, 0, false};
+    struct given g = given_of(&q);
     plain_sheets(&g, &all);
     check(all.found > 0, &q, "no best layout");
     sheets_listed += (long)all.found;

@@ -10,12 +10,9 @@
 #include <string.h>
 
 #include "boards.h"
-#include "plain.h"
 #include "trial.h"
 
 #define ENDS PLAIN_REFUSALS /* an outcome beside the refusal numbers */
-
-static size_t records_of(const struct question *q) { return q->job_bytes / 16; }
 
 /* ---- from bytes to a question ---- */
 
@@ -137,18 +134,6 @@ static int64_t measured(const struct question *q, const union list *list) {
     m.call = MEASURE;
     m.list = *list;
     return plain_reply(&m).answer;
-}
-
-/* Pads joined to ports in order of height: no assignment has less length, touching or not. */
-static int64_t least_length(const uint8_t *job, size_t n) {
-    int64_t length = 0;
-    for (size_t i = 0; i < n; i++) {
-        int64_t y = get_y(job, i);
-        size_t rank = 0;
-        for (size_t j = 0; j < n; j++) rank += get_y(job, j) < y || (get_y(job, j) == y && j < i);
-        length += get_x(job, i) + llabs(y - get_port(job, rank));
-    }
-    return length;
 }
 
 /* An untouching layout of this total, and the entries from n on kept. */

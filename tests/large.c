@@ -15,7 +15,6 @@
 #include <string.h>
 
 #include "boards.h"
-#include "plain.h"
 #include "trial.h"
 
 #define LISTED_PADS 12
@@ -23,8 +22,6 @@
 #define STEPS 60
 
 static long runs_ended, steps_taken;
-
-static size_t records_of(const struct question *q) { return q->job_bytes / 16; }
 
 static void any_job(struct question *q, size_t n) {
     make_board(q->job, n, below(BOARDS));
@@ -34,15 +31,9 @@ static void any_job(struct question *q, size_t n) {
     for (size_t i = 0; i < LIST_ROOM; i++) q->list.layout[i] = (uint16_t)below(65536);
 }
 
-static int64_t distance(int64_t a, int64_t b) { return a < b ? b - a : a - b; }
-
 static int64_t total_of(const struct question *q, const uint16_t *layout) {
-    int64_t total = 0;
-    for (size_t i = 0; i < records_of(q); i++) {
-        int64_t apart = distance(get_y(q->job, i), get_port(q->job, layout[i]));
-        total += q->a * (get_x(q->job, i) + apart) + q->b * (apart != 0);
-    }
-    return total;
+    struct given g = given_of(q);
+    return plain_total(&g, layout);
 }
 
 /* ---- jobs of up to 12 pads: the whole list ---- */
@@ -113,7 +104,7 @@ static void list_agrees(size_t n) {
     static struct sheets all;
     any_job(&q, n);
     list_all(&q, &l);
-    struct given g = {q.job, q.job_bytes, q.a, q.b, NULL, n, 0, 0, 0, false};
+    struct given g = given_of(&q);
     plain_sheets(&g, &all);
     bool same = l.found == all.found && l.least == all.total;
     for (size_t k = 0; same && k < l.found; k++)
@@ -122,21 +113,6 @@ static void list_agrees(size_t n) {
 }
 
 /* ---- jobs of up to 64 pads ---- */
-
-static int compare(const void *a, const void *b) {
-    int64_t x = *(const int64_t *)a, y = *(const int64_t *)b;
-    return (x > y) - (x < y);
-}
-
-/* Pads and ports joined in order of height: no assignment has less length, touching or not. */
-static int64_t least_length(const struct question *q) {
-    int64_t y[64], length = 0;
-    for (size_t i = 0; i < records_of(q); i++) y[i] = get_y(q->job, i);
-    qsort(y, records_of(q), sizeof *y, compare);
-    for (size_t i = 0; i < records_of(q); i++)
-        length += get_x(q->job, i) + distance(y[i], get_port(q->job, i));
-    return length;
-}
 
 static void measured(const struct question *q, int64_t total) {
     struct question m = *q;
@@ -161,7 +137,8 @@ static bool follow(struct question *q, long steps, long *sheets) {
     struct reply r = ask(q, AT_END);
     int64_t total = r.answer;
     if (!check(total >= 0, q, "First refused")) return false;
-    if (q->b == 0) check(total == q->a * least_length(q), q, "not the least length");
+    int64_t shortest = q->a * least_length(q->job, records_of(q));
+    if (q->b == 0) check(total == shortest, q, "not the least length");
     for (*sheets = 1;; ++*sheets) {
         if (!expect(q, r)) return false; /* the same wherever the lists stand */
         check(memcmp(q->list.layout + records_of(q), r.list.layout + records_of(q),

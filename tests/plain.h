@@ -44,6 +44,9 @@ struct given {
 /* The first record at fault for one refusal number, whatever the others say; -1 if none is. */
 int plain_fault(const struct given *g, int number);
 
+/* The total of any assignment, touching or not. */
+int64_t plain_total(const struct given *g, const uint16_t *layout);
+
 /* Pads of records i and j, led to the ports p and q: do the leaders share a point? */
 bool plain_touch(const uint8_t *job, size_t i, size_t p, size_t j, size_t q);
 

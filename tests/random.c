@@ -7,12 +7,9 @@
 #include <string.h>
 
 #include "boards.h"
-#include "plain.h"
 #include "trial.h"
 
 static uint32_t any_bits(void) { return below(65536) << 16 | below(65536); }
-
-static size_t records_of(const struct question *q) { return q->job_bytes / 16; }
 
 /* A random record number; any record's place in the buffer is there even if the job is shorter. */
 static size_t any_record(const struct question *q) {

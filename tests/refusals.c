@@ -6,7 +6,6 @@
 #include <string.h>
 
 #include "boards.h"
-#include "plain.h"
 #include "trial.h"
 
 #define N 6

@@ -193,7 +193,7 @@ static void is_refused(const struct question *q, int number, int record) {
 
 /* The reply to n straight leaders, for more records than the plain account can try too. */
 static void is_straight(const struct question *q) {
-    int64_t n = (int64_t)q->job_bytes / 16;
+    int64_t n = (int64_t)records_of(q);
     struct reply r = keeps(q, q->call == NEXT ? END : 5 * n * (n + 1));
     for (int64_t i = 0; i < n && q->call == FIRST; i++) r.list.layout[i] = (uint16_t)i;
     if (q->call == DRAW)

@@ -9,7 +9,6 @@
 #include <unistd.h>
 
 #include "cheremysl.h"
-#include "plain.h"
 
 #define FAILURES_SHOWN 5
 
@@ -74,6 +73,15 @@ void begin(void) {
 
 /* ---- replies ---- */
 
+size_t records_of(const struct question *q) { return q->job_bytes / 16; }
+
+struct given given_of(const struct question *q) {
+    bool draw = q->call == DRAW;
+    struct given g = {q->job, q->job_bytes, draw ? 0 : q->a, draw ? 0 : q->b, q->list.layout,
+                      q->count, q->a, q->b, q->count, draw};
+    return g;
+}
+
 int64_t refused(int number, int record) { return -(65536 * (int64_t)number + record); }
 
 struct reply keeps(const struct question *q, int64_t answer) {
@@ -85,7 +93,7 @@ struct reply keeps(const struct question *q, int64_t answer) {
 
 struct reply gives(const struct question *q, int64_t answer, const uint16_t *layout) {
     struct reply r = keeps(q, answer);
-    memcpy(r.list.layout, layout, q->job_bytes / 16 * sizeof *layout);
+    memcpy(r.list.layout, layout, records_of(q) * sizeof *layout);
     return r;
 }
 
@@ -104,9 +112,7 @@ struct reply plain_reply(const struct question *q) {
 }
 
 int fault_of(const struct question *q, int number) {
-    bool draw = q->call == DRAW;
-    struct given g = {q->job, q->job_bytes, draw ? 0 : q->a, draw ? 0 : q->b, q->list.layout,
-                      q->count, q->a, q->b, q->count, draw};
+    struct given g = given_of(q);
     return plain_fault(&g, number);
 }
 

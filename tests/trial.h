@@ -10,6 +10,7 @@
 #include <stdint.h>
 
 #include "guard.h"
+#include "plain.h"
 
 /* With NO_SEARCH the tests keep to the calls that search for nothing: the first two. */
 enum call { MEASURE, DRAW, FIRST, NEXT };
@@ -44,6 +45,10 @@ struct reply {
 /* By call: its name, and the refusal numbers that it can give, in order of checks; 0 ends it. */
 extern const char *const call_names[];
 extern const int *const refusals_of[];
+
+/* How many records the job has, and the question as the plain account is given it. */
+size_t records_of(const struct question *q);
+struct given given_of(const struct question *q);
 
 /* The answer of a refusal. */
 int64_t refused(int number, int record);
