@@ -27,7 +27,7 @@ pub mod Trying
 pub mod Rank
 pub mod Earliest
 pub mod Kept
--- THE THEOREMS: determinacy, each promise can be met, demand 3, the sheets P1 to P12.
+-- THE THEOREMS: determinacy, each promise can be met, demand 3, the worked sheets.
 pub mod Determined
 pub mod Met
 pub mod Demand
