@@ -93,7 +93,7 @@ fn lies_between(m: i64, a: i64, b: i64) -> bool
 }
 
 // x says which arm passes the other pad: one test is enough.
-pub fn leaders_touch(x: u32, y: i64, port: i64, x2: u32, y2: i64, port2: i64) -> bool
+fn leaders_touch(x: u32, y: i64, port: i64, x2: u32, y2: i64, port2: i64) -> bool
     ensures { λ r. ⌜ r ≡ touching (record { x = x; y = y; port = port }) (record { x = x2; y = y2; port = port2 }) ⌝ }
 {
     if x2 < x {

@@ -33,7 +33,7 @@ pub fn bends(job: &[u8], i: u16, q: u16) -> u64
 }
 
 // What it costs with these weights.
-pub fn cost(job: &[u8], lw: u32, bw: u32, i: u16, q: u16) -> u64
+fn cost(job: &[u8], lw: u32, bw: u32, i: u16, q: u16) -> u64
     requires { ⌜ Accepted (now job) × (lw ≤ 1000) × (bw ≤ 1000) × (i < count (now job)) × (q < count (now job)) ⌝ }
     ensures { λ r. ⌜ (r ≡ weighted (boardOf (now (job .entry))) lw bw i q) × (r ≤ 3000001000) ⌝ }
 {

@@ -162,7 +162,7 @@ fn step(
 }
 
 // The total of a layout.
-pub fn total_of(order: &[u8], cost: &[u32], w: &[u16]) -> u64
+fn total_of(order: &[u8], cost: &[u32], w: &[u16]) -> u64
     requires { ⌜ Measurable (now order) (now cost) (now w) ⌝ }
     ensures { λ r. ⌜ r ≡ total (now (order .entry)) (now (cost .entry)) (now (w .entry)) ⌝ }
 {
@@ -178,7 +178,7 @@ pub fn total_of(order: &[u8], cost: &[u32], w: &[u16]) -> u64
 }
 
 // An untouching layout is best exactly if its total is the table's.
-pub fn is_best(order: &[u8], cost: &[u32], lo: &[u8], hi: &[u8], w: &[u16], least: u64) -> bool
+fn is_best(order: &[u8], cost: &[u32], lo: &[u8], hi: &[u8], w: &[u16], least: u64) -> bool
     requires { ⌜ Proper (now order) (now cost) (now lo) (now hi) ⌝ }
     requires { ⌜ length (now order) ≤ length (now w) ⌝ }
     requires { ⌜ Untouching (now order) (now cost) (now lo) (now hi) (now w) ⌝ }

@@ -14,7 +14,7 @@ ghost use Rattle.table.specs.Strip.{spans, fits, bit, count};
 ghost use Rattle.table.specs.Cell.{noTotal, sides, figures, boardOf, choice, coded, Pads, Sizes, Strip, Ready, Leads, NextPort, Head, RowsOf, PartsOf, Table, leastOf};
 ghost use Rattle.table.specs.Cell.{cornerOf, Port, opens, sumAt, portTotal, Tallies, EnteringAll, Rooms, Top, Valued, Copied};
 
-pub const NONE: u64 = 18446744073709551615;
+const NONE: u64 = 18446744073709551615;
 
 // The place in a table of the strip 0 .. b - 1.
 fn corner(b: usize) -> usize
