@@ -108,3 +108,5 @@ pub record Listing (top : ℕ) (Before : Relation) (Good : Property) (First : An
   -- whoever asks on has had at most top sheets, and has had the first sheets of the run
   pub short : (us : List (List ℕ)) → SoFar First Next us → length us ≤ top
   pub goes-on : (us : List (List ℕ)) → SoFar First Next us → (vs : List (List ℕ)) × Run First Next (us ++ vs)
+  -- whoever asks on from any good sheet comes to the end
+  pub asks-on : (w : List ℕ) → Good w → (ws : List (List ℕ)) × Asked Next w ws

@@ -186,4 +186,5 @@ module _ (top : ℕ) (Before : Relation) (Good : Property) (First : Answer → T
     lists = λ ws r. record { only = run-only ws r; every = λ w g. once ws (run-rising ws r) w (run-every ws r w g); rising = run-rising ws r };
     short = run-short;
     goes-on = run-goes-on;
+    asks-on = λ w g. asked-ends top w g (omega arith);
   }

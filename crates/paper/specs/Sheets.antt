@@ -1,12 +1,14 @@
 -- DEFINITIONS. 01, "Sheets worked by hand": the jobs as bytes, and the sheets P1 to P12, each with its call, its input and its whole reply.
--- After P10 stands Measure's sheet for "its total is 85"; after P12, four for refusal 12.
+-- After P10 stands Measure's sheet for "its total is 85"; after P12, four for refusal 12. Page has its own list.
 use mathlib.Core.Path.{_≡_}
 use mathlib.Core.List.{List, [], _∷_, _++_}
 use Prim.Native.Nat.{ℕ, _/_, _%_}
 use Rattle.paper.specs.Refusals.{refusal}
 use Rattle.paper.specs.declared.Answer.{Answer}
 use Rattle.paper.specs.declared.Answer.the-variants.{Total, End, Refused}
-use Rattle.paper.specs.Promises.{number, FirstPromise, NextPromise, MeasurePromise}
+use Rattle.paper.specs.declared.Paged.{Paged}
+use Rattle.paper.specs.declared.Paged.the-variants.{Wrote, Refused as NotPaged}
+use Rattle.paper.specs.Promises.{number, pagedNumber, FirstPromise, NextPromise, PagePromise, MeasurePromise}
 
 -- 4 bytes, lowest first; a record of a name (with the reserved field, 0), a pad (x, y) and a port height
 abbrev pub bytes4 : ℕ → List ℕ
@@ -52,10 +54,10 @@ AllowedBy Measure s = MeasurePromise (s .job) (s .lw) (s .bw) (s .before) (numbe
 abbrev pub Allowed : Sheet → Type 0
 Allowed s = AllowedBy (s .call) s
 
--- Each of these sheets is such a reply.
-abbrev pub Each : List Sheet → Type 0
-Each [] = Unit {0}
-Each (s ∷ ss) = Allowed s × Each ss
+-- P holds of each of these sheets.
+abbrev pub Each : {S : Type 0} → (S → Type 0) → List S → Type 0
+Each P [] = Unit {0}
+Each P (s ∷ ss) = P s × Each P ss
 
 abbrev pub sheet : Call → List ℕ → ℕ → ℕ → List ℕ → Answer → List ℕ → Sheet
 sheet call job lw bw before answer after = record { call = call; job = job; lw = lw; bw = bw; before = before; answer = answer; after = after }
@@ -82,4 +84,41 @@ sheets =
     sheet First (padAndPort 101 10 0 10 ++ padAndPort 102 20 30 17) 1 0 (9 ∷ 9 ∷ []) (refused 12 1) (9 ∷ 9 ∷ []) ∷
     sheet First (padAndPort 101 10 0 10 ++ padAndPort 102 20 30 17 ++ padAndPort 103 30 40 17) 1 0 (9 ∷ 9 ∷ 9 ∷ []) (refused 5 2) (9 ∷ 9 ∷ 9 ∷ []) ∷
     sheet First (padAndPort 101 10 0 10 ++ padAndPort 102 20 30 17 ++ padAndPort 101 30 40 30) 1 0 (9 ∷ 9 ∷ 9 ∷ []) (refused 12 1) (9 ∷ 9 ∷ 9 ∷ []) ∷
+    []
+
+-- ---- Page
+
+-- Its sheet: job, weights, the given layout, the page at entry, the answer, the page at exit.
+pub record PageSheet : Type 0 where
+  pub job : List ℕ
+  pub lw : ℕ
+  pub bw : ℕ
+  pub given : List ℕ
+  pub before : List ℕ
+  pub answer : Paged
+  pub after : List ℕ
+
+abbrev pub PageAllowed : PageSheet → Type 0
+PageAllowed s = PagePromise (s .job) (s .lw) (s .bw) (s .given) (s .before) (pagedNumber (s .answer)) (s .after)
+
+abbrev pub pageSheet : List ℕ → ℕ → ℕ → List ℕ → List ℕ → Paged → List ℕ → PageSheet
+pageSheet job lw bw given before answer after = record { job = job; lw = lw; bw = bw; given = given; before = before; answer = answer; after = after }
+
+abbrev pub pageRefused : ℕ → ℕ → Paged
+pageRefused r i = NotPaged (refusal r i)
+
+-- J3 with a third pad and a third port: (1 2 0), (1 0 2) and (0 1 2) are best.
+abbrev pub J3plus : List ℕ
+J3plus = J3 ++ padAndPort 103 30 15 30
+
+-- In this order: fewer than fit, where the end comes; none after the last; no room for one; as many as fit; two; a refusal; a refusal without room.
+abbrev pub pages : List PageSheet
+pages =
+    pageSheet J3 1 0 (1 ∷ 0 ∷ []) (9 ∷ 9 ∷ 9 ∷ 9 ∷ 9 ∷ []) (Wrote 1) (0 ∷ 1 ∷ 9 ∷ 9 ∷ 9 ∷ []) ∷
+    pageSheet J3 1 0 (0 ∷ 1 ∷ []) (9 ∷ 9 ∷ 9 ∷ 9 ∷ 9 ∷ []) (Wrote 0) (9 ∷ 9 ∷ 9 ∷ 9 ∷ 9 ∷ []) ∷
+    pageSheet J3 1 0 (1 ∷ 0 ∷ []) (9 ∷ []) (Wrote 0) (9 ∷ []) ∷
+    pageSheet J3plus 1 0 (1 ∷ 2 ∷ 0 ∷ []) (9 ∷ 9 ∷ 9 ∷ 9 ∷ 9 ∷ []) (Wrote 1) (1 ∷ 0 ∷ 2 ∷ 9 ∷ 9 ∷ []) ∷
+    pageSheet J3plus 1 0 (1 ∷ 2 ∷ 0 ∷ []) (9 ∷ 9 ∷ 9 ∷ 9 ∷ 9 ∷ 9 ∷ 9 ∷ []) (Wrote 2) (1 ∷ 0 ∷ 2 ∷ 0 ∷ 1 ∷ 2 ∷ 9 ∷ []) ∷
+    pageSheet J3 1 0 (0 ∷ 0 ∷ []) (9 ∷ 9 ∷ 9 ∷ 9 ∷ 9 ∷ []) (pageRefused 8 1) (9 ∷ 9 ∷ 9 ∷ 9 ∷ 9 ∷ []) ∷
+    pageSheet J4 1 0 (1 ∷ 0 ∷ []) [] (pageRefused 10 0) [] ∷
     []

@@ -27,8 +27,10 @@ pub mod Trying
 pub mod Rank
 pub mod Earliest
 pub mod Kept
--- THE THEOREMS: determinacy, each promise can be met, demand 3, the worked sheets.
+pub mod Pages
+-- THE THEOREMS: determinacy, each promise can be met, demand 3, a page is what calls of Next give, the worked sheets.
 pub mod Determined
 pub mod Met
 pub mod Demand
+pub mod ByNext
 pub mod Worked

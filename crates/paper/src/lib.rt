@@ -14,6 +14,12 @@ pub enum Answer {
     Refused(Refusal),
 }
 
+// What Page answers: how many layouts it wrote.
+pub enum Paged {
+    Wrote(u64),
+    Refused(Refusal),
+}
+
 // A point of the canvas.
 pub struct Point {
     pub x: f32,

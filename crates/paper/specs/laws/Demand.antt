@@ -12,7 +12,7 @@ use Rattle.listing.specs.Listing.{listing}
 use Rattle.paper.specs.declared.Answer.the-variants.{Total, End}
 use Rattle.paper.specs.Job.{count}
 use Rattle.paper.specs.Layouts.{Board, boardOf, held, weighted, Best, Before}
-use Rattle.paper.specs.Refusals.{Passed, firstTrials, measureTrials}
+use Rattle.paper.specs.Refusals.{Passed, firstTrials, measureTrials, nextTrials}
 use Rattle.paper.specs.Promises.{Kept, FirstPromise, NextPromise, FirstAnswers, NextAnswers}
 use Rattle.paper.specs.Runs.{NextRun, Run, NextSoFar, SoFar, Once, Demand3}
 use Rattle.paper.specs.laws.Proper.{Differ, Same}
@@ -21,10 +21,10 @@ use Rattle.paper.specs.laws.Order.{before-irrefl, before-trans, before-t
 use Rattle.paper.specs.laws.Rank.{rank, rank-rises, rank-top}
 use Rattle.paper.specs.laws.Trying.{words}
 use Rattle.paper.specs.laws.Earliest.{listed}
-use Rattle.paper.specs.laws.Accepted.{first-accepted, untouching-passed}
+use Rattle.paper.specs.laws.Accepted.{first-accepted, measure-accepted, untouching-passed, next-measured}
 use Rattle.paper.specs.laws.Numbers.{total-told, next-total-told, end-told}
 use Rattle.paper.specs.laws.Kept.{kept-trans, kept-one}
-use Rattle.paper.specs.laws.Met.{first-made, next-made}
+use Rattle.paper.specs.laws.Met.{first-made, next-made, passed-best}
 
 module _ (job : List ℕ) (lw bw : ℕ) (lent : List ℕ) where
   abbrev b : Board
@@ -163,3 +163,11 @@ module _ (job : List ℕ) (lw bw : ℕ) (lent : List ℕ) where
       only = λ ls r k h. lists ls r .only k h .1;
       rising = λ ls r. lists ls r .rising;
     }
+
+-- THEOREM. Whoever asks on from any list that Next accepts comes to the end.
+pub next-ends : (job : List ℕ) (lw bw : ℕ) (list : List ℕ) → Passed (nextTrials job lw bw list) → (ls : List (List ℕ)) × NextRun job lw bw list ls
+next-ends job lw bw list p =
+    let accepted = measure-accepted job lw bw list (next-measured job lw bw list p) .0 in
+    let same : Kept (count job) list list = record { long = refl; rest = λ k h. refl } in
+    let r = theorem job lw bw list accepted .asks-on list (same, passed-best job lw bw list p) in
+    (r .0, to-next job lw bw list accepted list (r .0) (r .1))

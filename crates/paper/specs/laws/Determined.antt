@@ -7,17 +7,21 @@ use lib.IntN.{ℤ}
 use lib.Ieee.{Float}
 use Rattle.paper.specs.declared.Answer.{Answer}
 use Rattle.paper.specs.declared.Answer.the-variants.{Total, End, Refused}
+use Rattle.paper.specs.declared.Paged.{Paged}
+use Rattle.paper.specs.declared.Paged.the-variants.{Wrote, Refused as NotPaged}
 use Rattle.paper.specs.declared.Drawn.{Drawn}
 use Rattle.paper.specs.declared.Drawn.the-variants.{Straight, Bent, Refused as NotDrawn}
 use Rattle.paper.specs.Job.{count}
 use Rattle.paper.specs.Layouts.{boardOf, held, leader, weighted}
 use Rattle.paper.specs.Refusals.{firstTrials, measureTrials, nextTrials, drawTrials}
-use Rattle.paper.specs.Promises.{number, drawnNumber, coordinates, overwritten, FirstAnswers, NextAnswers, MeasureAnswers, DrawAnswers}
+use Rattle.paper.specs.Promises.{number, pagedNumber, drawnNumber, coordinates, overwritten}
+use Rattle.paper.specs.Promises.{FirstAnswers, NextAnswers, PageAnswers, MeasureAnswers, DrawAnswers}
 use Rattle.paper.specs.laws.Totals.{totalOf}
-use Rattle.paper.specs.Promises.{FirstPromise, NextPromise, MeasurePromise, DrawPromise}
+use Rattle.paper.specs.Promises.{FirstPromise, NextPromise, PagePromise, MeasurePromise, DrawPromise}
 use Rattle.paper.specs.laws.Trials.{refused-one, not-both}
 use Rattle.paper.specs.laws.Order.{first-best-one, next-best-one, next-not-last}
 use Rattle.paper.specs.laws.Kept.{kept-one}
+use Rattle.paper.specs.laws.Pages.{following-one}
 use Rattle.paper.specs.laws.Drawn.{straight-one, bent-one}
 
 module _ (job : List ℕ) (lw bw : ℕ) (before : List ℕ) where
@@ -66,6 +70,19 @@ module _ (job : List ℕ) (lw bw : ℕ) (before : List ℕ) where
   -- THEOREM. What Measure replies is determined.
   pub measure-determined : (n m : ℤ) → MeasurePromise job lw bw before n → MeasurePromise job lw bw before m → n ≡ m
   measure-determined n m p q = p .2 ∙ ap number (measure-answer (p .0) (q .0) (p .1) (q .1)) ∙ sym (q .2)
+
+module _ (job : List ℕ) (lw bw : ℕ) (given before : List ℕ) where
+  pub page-answer : (a c : Paged) (l m : List ℕ) → PageAnswers job lw bw given before a l → PageAnswers job lw bw given before c m → (a ≡ c) × (l ≡ m)
+  page-answer (Wrote k) (Wrote j) l m p q =
+      let e = following-one (boardOf job) (weighted (boardOf job) lw bw) given before k j l m (p .1) (q .1) in
+      (ap Wrote (e .0), e .1)
+  page-answer (Wrote k) (NotPaged r) l m p q = absurd (not-both (nextTrials job lw bw given) r (p .0) (q .0))
+  page-answer (NotPaged r) (Wrote k) l m p q = absurd (not-both (nextTrials job lw bw given) r (q .0) (p .0))
+  page-answer (NotPaged r) (NotPaged s) l m p q = (ap NotPaged (refused-one (nextTrials job lw bw given) r s (p .0) (q .0)), p .1 ∙ sym (q .1))
+
+  -- THEOREM. What Page replies is determined.
+  pub page-determined : (n m : ℤ) (l k : List ℕ) → PagePromise job lw bw given before n l → PagePromise job lw bw given before m k → (n ≡ m) × (l ≡ k)
+  page-determined n m l k p q = let e = page-answer (p .0) (q .0) l k (p .1) (q .1) in (p .2 ∙ ap pagedNumber (e .0) ∙ sym (q .2), e .1)
 
 module _ (job : List ℕ) (i q : ℕ) (before : List Float) where
   pub draw-answer : (d e : Drawn) (l m : List Float) → DrawAnswers job i q before d l → DrawAnswers job i q before e m → (d ≡ e) × (l ≡ m)

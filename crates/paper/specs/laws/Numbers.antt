@@ -5,19 +5,21 @@ use mathlib.Core.List.{List, [], _∷_}
 use Prim.Native.Nat.{ℕ, _+_, _*_, _≤_, _<_}
 use native.Mathlib.Omega.{arith}
 use lib.ListN.{length}
-use lib.IntN.{pos, negsuc}
+use lib.IntN.{pos, negsuc, negℤ}
+use lib.Signed.{_≤ℤ_}
 use lib.Ieee.{Float}
-use Rattle.numbers.specs.Whole.{eq-num, neg-nums}
+use Rattle.numbers.specs.Whole.{whole, eq-num, neg-nums}
 use Rattle.paper.specs.declared.Refusal.{Refusal}
 use Rattle.paper.specs.declared.Answer.{Answer}
 use Rattle.paper.specs.declared.Answer.the-variants.{Total, End, Refused}
+use Rattle.paper.specs.declared.Paged.the-variants.{Wrote, Refused as NotPaged}
 use Rattle.paper.specs.declared.Two.{Two}
 use Rattle.paper.specs.declared.Three.{Three}
 use Rattle.paper.specs.declared.Drawn.the-variants.{Straight, Bent, Refused as NotDrawn}
 use Rattle.paper.specs.Layouts.{boardOf, weighted}
 use Rattle.paper.specs.Refusals.{Trial, Clean, RefusedBy, firstTrials, measureTrials, nextTrials, drawTrials, bestTrial}
-use Rattle.paper.specs.Promises.{refusalNumber, number, FirstAnswers, NextAnswers, MeasureAnswers, DrawAnswers}
-use Rattle.paper.specs.Promises.{FirstPromise, NextPromise, MeasurePromise, DrawPromise}
+use Rattle.paper.specs.Promises.{refusalNumber, number, FirstAnswers, NextAnswers, PageAnswers, MeasureAnswers, DrawAnswers}
+use Rattle.paper.specs.Promises.{FirstPromise, NextPromise, PagePromise, MeasurePromise, DrawPromise}
 use Rattle.paper.specs.laws.Trials.{refused-left}
 use Rattle.paper.specs.laws.Accepted.{few-records}
 
@@ -26,6 +28,9 @@ use Rattle.paper.specs.laws.Accepted.{few-records}
 -- A refusal with a number of 1 or more and a record number of 16 bits. C's number of it is -65,536 or less, and tells both.
 abbrev pub SmallRefusal : Refusal → Type 0
 SmallRefusal r = (1 ≤ r .reason) × (r .at < 65536)
+
+pub refusal-low : (r : Refusal) → SmallRefusal r → refusalNumber r ≤ℤ negℤ (pos 65536)
+refusal-low r s = omega (whole, neg-nums (pos (65536 * r .reason + r .at)), neg-nums (pos 65536))
 
 refusal-apart : (r : Refusal) (t : ℕ) → SmallRefusal r → pos t ≡ refusalNumber r → ⊥
 refusal-apart r t s e = omega (arith, eq-num (pos t) (refusalNumber r) e, neg-nums (pos (65536 * r .reason + r .at)))
@@ -132,6 +137,24 @@ next-total-told job lw bw before t after = next-told job lw bw before (Total t) 
 pub end-told : (job : List ℕ) (lw bw : ℕ) (before after : List ℕ)
     → NextPromise job lw bw before (negsuc 0) after → NextAnswers job lw bw before End after
 end-told job lw bw before after = next-told job lw bw before End after tt
+
+-- ---- Page
+
+module _ (job : List ℕ) (lw bw : ℕ) (given before after : List ℕ) where
+  paged-small : (r : Refusal) → PageAnswers job lw bw given before (NotPaged r) after → SmallRefusal r
+  paged-small r p = omega (arith, next-within job lw bw given r (p .0))
+
+  -- A number of 0 or more is that of the layouts written,
+  pub wrote-told : (k : ℕ) → PagePromise job lw bw given before (pos k) after → PageAnswers job lw bw given before (Wrote k) after
+  wrote-told k (Wrote m, p, e) = let n : m ≡ k = cc in rw n at p
+  wrote-told k (NotPaged r, p, e) = absurd (refusal-apart r k (paged-small r p) e)
+
+  -- and a refusal's number that refusal.
+  pub not-paged-told : (r : Refusal) → SmallRefusal r → PagePromise job lw bw given before (refusalNumber r) after
+      → PageAnswers job lw bw given before (NotPaged r) after
+  not-paged-told r s (Wrote k, p, e) = absurd (refusal-apart r k s (sym e))
+  not-paged-told r s (NotPaged w, p, e) =
+      subst (λ (r : Refusal). PageAnswers job lw bw given before (NotPaged r) after) (refusal-told w r (paged-small w p) s (sym e)) p
 
 -- ---- Draw
 

@@ -132,3 +132,18 @@ module _ (b : Board) (cost : ℕ → ℕ → ℕ) where
     later = before-same b l f l g (λ i k. refl) same (s .later);
     earliest = λ h t u k. s .earliest h t u (before-same b h g h f (λ i l. refl) (λ i l. sym (same i l)) k);
   }
+
+  -- Being the next, or the last, depends only on the ports of the layout before.
+  pub next-of-same : (l m f : ℕ → ℕ) → Same b l m → NextBest b cost l f → NextBest b cost m f
+  next-of-same l m f same s = record {
+    best = s .best;
+    later = before-same b l f m f same (λ i k. refl) (s .later);
+    earliest = λ h t u. s .earliest h t (before-same b m h l h (λ i k. sym (same i k)) (λ i k. refl) u);
+  }
+
+  pub last-of-same : (l m : ℕ → ℕ) → Same b l m → LastBest b cost l → LastBest b cost m
+  last-of-same l m same s g t k = s g t (before-same b m g l g (λ i h. sym (same i h)) (λ i h. refl) k)
+
+  -- Both at once: the layout before and the next.
+  pub next-same : (l m f g : ℕ → ℕ) → Same b l m → Same b f g → NextBest b cost l f → NextBest b cost m g
+  next-same l m f g s t n = next-of-same l m g s (next-best-same l f g t n)

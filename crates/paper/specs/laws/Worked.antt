@@ -1,32 +1,37 @@
--- THE WORKED SHEETS, P1 to P12 and those for 12, by one theorem over one list: a test that the checker computes for each sheet, and a lemma that turns
--- the test into the call's promise. Assumes nothing.
+-- THE WORKED SHEETS, P1 to P12 and those for 12, by one theorem over one list, and Page's by another: a test that the checker computes for each sheet,
+-- and a lemma that turns the test into the call's promise. Assumes nothing.
 use mathlib.Core.Path.{_≡_, refl, sym, ap, _∙_, subst}
-use mathlib.Core.Bool.{Bool, true, false, not, _&&_}
+use mathlib.Core.Bool.{Bool, true, false, not, _&&_, _||_}
 use mathlib.Core.List.{List, [], _∷_, _++_}
-use Prim.Native.Nat.{ℕ}
+use Prim.Native.Nat.{ℕ, zero, suc, _+_, _*_, _-_, _≤_}
 use native.Mathlib.Omega.{arith}
-use lib.Dec.{T, eqb, eqb→eq, leb, leb→le}
-use lib.ListN.{length, List·getD-eq-default}
-use Rattle.numbers.specs.Tests.{both}
+use lib.Dec.{T, eqb, eqb→eq, leb, leb→le, ltb}
+use lib.ListN.{length, getD, drop}
+use lib.Seq.{getD-drop}
+use Rattle.numbers.specs.Tests.{both, or-iff, ltb-iff}
 use Rattle.paper.specs.declared.Refusal.{Refusal}
 use Rattle.paper.specs.declared.verdict.Verdict.{Verdict}
 use Rattle.paper.specs.declared.verdict.Verdict.the-variants.{Sound, Refused as Stopped}
 use Rattle.paper.specs.declared.Answer.{Answer}
 use Rattle.paper.specs.declared.Answer.the-variants.{Total, End, Refused}
+use Rattle.paper.specs.declared.Paged.{Paged}
+use Rattle.paper.specs.declared.Paged.the-variants.{Wrote, Refused as NotPaged}
 use Rattle.paper.specs.Job.{count, twos, nameOf, reservedOf, xOf, yOf, portOf}
 use Rattle.paper.specs.Layouts.{Board, boardOf, held, weighted, Best, sum}
 use Rattle.paper.specs.Refusals.{Trial, Passed, firstTrials, measureTrials, nextTrials}
-use Rattle.paper.specs.Promises.{Kept, FirstAnswers, NextAnswers, MeasureAnswers}
+use Rattle.paper.specs.Promises.{Kept, inTurn, Following, FirstAnswers, NextAnswers, PageAnswers, MeasureAnswers}
 use Rattle.paper.specs.laws.Totals.{totalOf}
-use Rattle.paper.specs.Sheets.{sheets, Each, Call, First, Next, Measure, Sheet, AllowedBy}
+use Rattle.paper.specs.Sheets.{sheets, Each, Call, First, Next, Measure, Sheet, AllowedBy, Allowed, pages, PageSheet, PageAllowed}
 use Rattle.paper.specs.laws.Search.{first, some}
 use Rattle.paper.specs.laws.Tests.{outside, between, touching}
 use Rattle.paper.specs.Leaders.{lengthOf, bendsOf}
 use Rattle.paper.specs.laws.Verdicts.{Finding, run, run-append, atWhole, firstFindings, measureFindings, jobFindings, layoutFindings}
 use Rattle.paper.specs.laws.Proper.{Differ}
+use Rattle.paper.specs.laws.Order.{below-suc}
 use Rattle.paper.specs.laws.Trials.{Judged}
 use Rattle.paper.specs.laws.Judged.{first-judged, measure-judged}
 use Rattle.paper.specs.laws.Accepted.{first-accepted, measure-facts, measure-refused, best-passed, not-best-refused, next-differ}
+use Rattle.paper.specs.laws.Pages.{Follow}
 use Rattle.paper.specs.laws.Trying.{bestTest, firstTest, nextTest, lastTest, best-iff, first-iff, next-iff, last-iff}
 use Rattle.paper.specs.laws.Trying.{heads, words, any, someWord, leastTest, misled, untouchingTest, differRight, decidedAt, beforeTest, cheaper, laterTest}
 
@@ -47,9 +52,9 @@ sameList [] (y ∷ ys) = false
 sameList (x ∷ xs) [] = false
 sameList (x ∷ xs) (y ∷ ys) = eqb x y && sameList xs ys
 
--- a list of n entries, and another of the same length
-abbrev sameLength : ℕ → List ℕ → List ℕ → Bool
-sameLength n l m = eqb (length m) (length l) && leb (length l) n
+-- two lists of the same length that are alike from n on
+abbrev sameRest : ℕ → List ℕ → List ℕ → Bool
+sameRest n l m = eqb (length m) (length l) && sameList (drop n m) (drop n l)
 
 -- 10 is tried by trying every assignment
 nextFindings : List ℕ → ℕ → ℕ → List ℕ → List Finding
@@ -58,14 +63,14 @@ nextFindings job lw bw list = measureFindings job lw bw list ++ ((10, atWhole (n
 abbrev firstHolds : List ℕ → ℕ → ℕ → List ℕ → Answer → List ℕ → Bool
 firstHolds job lw bw l (Total t) m =
     sameVerdict (run Sound (firstFindings job lw bw (length l))) Sound
-    && (firstTest (boardOf job) (weighted (boardOf job) lw bw) (held m) && (eqb t (totalOf job lw bw m) && sameLength (count job) l m))
+    && (firstTest (boardOf job) (weighted (boardOf job) lw bw) (held m) && (eqb t (totalOf job lw bw m) && sameRest (count job) l m))
 firstHolds job lw bw l End m = false
 firstHolds job lw bw l (Refused r) m = sameVerdict (run Sound (firstFindings job lw bw (length l))) (Stopped r) && sameList m l
 
 abbrev nextHolds : List ℕ → ℕ → ℕ → List ℕ → Answer → List ℕ → Bool
 nextHolds job lw bw l (Total t) m =
     sameVerdict (run Sound (nextFindings job lw bw l)) Sound
-    && (nextTest (boardOf job) (weighted (boardOf job) lw bw) (held l) (held m) && (eqb t (totalOf job lw bw m) && sameLength (count job) l m))
+    && (nextTest (boardOf job) (weighted (boardOf job) lw bw) (held l) (held m) && (eqb t (totalOf job lw bw m) && sameRest (count job) l m))
 nextHolds job lw bw l End m =
     sameVerdict (run Sound (nextFindings job lw bw l)) Sound && (lastTest (boardOf job) (weighted (boardOf job) lw bw) (held l) && sameList m l)
 nextHolds job lw bw l (Refused r) m = sameVerdict (run Sound (nextFindings job lw bw l)) (Stopped r) && sameList m l
@@ -75,6 +80,22 @@ measureHolds job lw bw l (Total t) = sameVerdict (run Sound (measureFindings job
 measureHolds job lw bw l End = false
 measureHolds job lw bw l (Refused r) = sameVerdict (run Sound (measureFindings job lw bw l)) (Stopped r)
 
+-- k layouts that follow f 0
+abbrev followTest : Board → (ℕ → ℕ → ℕ) → (ℕ → ℕ → ℕ) → ℕ → Bool
+followTest b cost f zero = true
+followTest b cost f (suc k) = followTest b cost f k && nextTest b cost (f k) (f (suc k))
+
+-- there is room for them; and for no more, or none comes after them
+abbrev pageTest : Board → (ℕ → ℕ → ℕ) → List ℕ → List ℕ → ℕ → List ℕ → Bool
+pageTest b cost given l k m =
+    (leb (k * b .pads) (length l) && followTest b cost (inTurn (b .pads) given m) k)
+    && ((ltb (length l) (suc k * b .pads) || lastTest b cost (inTurn (b .pads) given m k)) && sameRest (k * b .pads) l m)
+
+abbrev pageHolds : List ℕ → ℕ → ℕ → List ℕ → List ℕ → Paged → List ℕ → Bool
+pageHolds job lw bw given l (Wrote k) m =
+    sameVerdict (run Sound (nextFindings job lw bw given)) Sound && pageTest (boardOf job) (weighted (boardOf job) lw bw) given l k m
+pageHolds job lw bw given l (NotPaged r) m = sameVerdict (run Sound (nextFindings job lw bw given)) (Stopped r) && sameList m l
+
 abbrev holdsFor : Call → Sheet → Bool
 holdsFor First s = firstHolds (s .job) (s .lw) (s .bw) (s .before) (s .answer) (s .after)
 holdsFor Next s = nextHolds (s .job) (s .lw) (s .bw) (s .before) (s .answer) (s .after)
@@ -83,9 +104,12 @@ holdsFor Measure s = measureHolds (s .job) (s .lw) (s .bw) (s .before) (s .answe
 abbrev holds : Sheet → Bool
 holds s = holdsFor (s .call) s
 
-abbrev allHold : List Sheet → Bool
-allHold [] = true
-allHold (s ∷ ss) = holds s && allHold ss
+abbrev pageSheetHolds : PageSheet → Bool
+pageSheetHolds s = pageHolds (s .job) (s .lw) (s .bw) (s .given) (s .before) (s .answer) (s .after)
+
+abbrev allHold : {S : Type 0} → (S → Bool) → List S → Bool
+allHold test [] = true
+allHold test (s ∷ ss) = test s && allHold test ss
 
 -- ---- what they say
 
@@ -106,12 +130,14 @@ same-list [] (y ∷ ys) t = absurd t
 same-list (x ∷ xs) [] t = absurd t
 same-list (x ∷ xs) (y ∷ ys) t = let u = both (eqb x y) (sameList xs ys) .0 t in λ i. eqb→eq x y (u .0) i ∷ same-list xs ys (u .1) i
 
-full : (n : ℕ) (l m : List ℕ) → T (sameLength n l m) → Kept n l m
-full n l m t =
-    let u = both (eqb (length m) (length l)) (leb (length l) n) .0 t in
-    let e = eqb→eq (length m) (length l) (u .0) in
-    let h = leb→le (length l) n (u .1) in
-    record { long = e; rest = λ k g. List·getD-eq-default m 0 {n = k} (omega arith) ∙ sym (List·getD-eq-default l 0 {n = k} (omega arith)) }
+same-rest : (n : ℕ) (l m : List ℕ) → T (sameRest n l m) → Kept n l m
+same-rest n l m t =
+    let u = both (eqb (length m) (length l)) (sameList (drop n m) (drop n l)) .0 t in
+    let e = same-list (drop n m) (drop n l) (u .1) in
+    record { long = eqb→eq (length m) (length l) (u .0); rest = λ k h. sym (at m k h) ∙ ap (λ (o : List ℕ). getD o (k - n) 0) e ∙ at l k h }
+  where
+    at : (o : List ℕ) (k : ℕ) → n ≤ k → getD (drop n o) (k - n) 0 ≡ getD o k 0
+    at o k h = let d : n + (k - n) ≡ k = omega arith in rw d at (getD-drop n o (k - n) 0)
 
 judged-as : (v w : Verdict) (ts : List Trial) → Judged v ts → T (sameVerdict v w) → Judged w ts
 judged-as v w ts j t = subst (λ (u : Verdict). Judged u ts) (same-verdict v w t) j
@@ -141,14 +167,14 @@ module _ (job : List ℕ) (lw bw : ℕ) (l : List ℕ) where
   first-holds : (a : Answer) (m : List ℕ) → T (firstHolds job lw bw l a m) → FirstAnswers job lw bw l a m
   first-holds (Total t) m h =
       let c = eqb t (totalOf job lw bw m) in
-      let d = sameLength (count job) l m in
+      let d = sameRest (count job) l m in
       let e = firstTest b cost (held m) in
       let u = both (sameVerdict (run Sound (firstFindings job lw bw (length l))) Sound) (e && (c && d)) .0 h in
       let w = both e (c && d) .0 (u .1) in
       let x = both c d .0 (w .1) in
       let p = judged-as (run Sound (firstFindings job lw bw (length l))) Sound (firstTrials job lw bw (length l)) (first-judged job lw bw (length l)) (u .0) in
       let differ = first-accepted job lw bw (length l) p .0 .proper .differ in
-      (p, first-iff b cost differ (held m) .0 (w .0), eqb→eq t (totalOf job lw bw m) (x .0), full (count job) l m (x .1))
+      (p, first-iff b cost differ (held m) .0 (w .0), eqb→eq t (totalOf job lw bw m) (x .0), same-rest (count job) l m (x .1))
   first-holds End m h = absurd h
   first-holds (Refused r) m h =
       let u = both (sameVerdict (run Sound (firstFindings job lw bw (length l))) (Stopped r)) (sameList m l) .0 h in
@@ -158,13 +184,13 @@ module _ (job : List ℕ) (lw bw : ℕ) (l : List ℕ) where
   next-holds : (a : Answer) (m : List ℕ) → T (nextHolds job lw bw l a m) → NextAnswers job lw bw l a m
   next-holds (Total t) m h =
       let c = eqb t (totalOf job lw bw m) in
-      let d = sameLength (count job) l m in
+      let d = sameRest (count job) l m in
       let e = nextTest b cost (held l) (held m) in
       let u = both (sameVerdict (run Sound (nextFindings job lw bw l)) Sound) (e && (c && d)) .0 h in
       let w = both e (c && d) .0 (u .1) in
       let x = both c d .0 (w .1) in
       let p = judged-as (run Sound (nextFindings job lw bw l)) Sound (nextTrials job lw bw l) next-judged (u .0) in
-      (p, next-iff b cost (next-differ job lw bw l p) (held l) (held m) .0 (w .0), eqb→eq t (totalOf job lw bw m) (x .0), full (count job) l m (x .1))
+      (p, next-iff b cost (next-differ job lw bw l p) (held l) (held m) .0 (w .0), eqb→eq t (totalOf job lw bw m) (x .0), same-rest (count job) l m (x .1))
   next-holds End m h =
       let e = lastTest b cost (held l) in
       let u = both (sameVerdict (run Sound (nextFindings job lw bw l)) Sound) (e && sameList m l) .0 h in
@@ -174,6 +200,38 @@ module _ (job : List ℕ) (lw bw : ℕ) (l : List ℕ) where
   next-holds (Refused r) m h =
       let u = both (sameVerdict (run Sound (nextFindings job lw bw l)) (Stopped r)) (sameList m l) .0 h in
       (judged-as (run Sound (nextFindings job lw bw l)) (Stopped r) (nextTrials job lw bw l) next-judged (u .0), same-list m l (u .1))
+
+  module _ (differ : Differ b) where
+    follow-told : (f : ℕ → ℕ → ℕ) (k : ℕ) → T (followTest b cost f k) → Follow b cost k f
+    follow-told f zero h = λ j i. absurd (omega arith)
+    follow-told f (suc k) h =
+        let u = both (followTest b cost f k) (nextTest b cost (f k) (f (suc k))) .0 h in
+        below-suc k (follow-told f k (u .0)) (next-iff b cost differ (f k) (f (suc k)) .0 (u .1))
+
+    page-told : (before : List ℕ) (k : ℕ) (m : List ℕ) → T (pageTest b cost l before k m) → Following b cost l before k m
+    page-told before k m h =
+        let f = inTurn (count job) l m in
+        let c = leb (k * count job) (length before) in
+        let d = ltb (length before) (suc k * count job) in
+        let e = sameRest (k * count job) before m in
+        let u = both (c && followTest b cost f k) ((d || lastTest b cost (f k)) && e) .0 h in
+        let w = both c (followTest b cost f k) .0 (u .0) in
+        let x = both (d || lastTest b cost (f k)) e .0 (u .1) in
+        record {
+          fit = leb→le (k * count job) (length before) (w .0);
+          follow = follow-told f k (w .1);
+          all = or-iff d (lastTest b cost (f k)) (ltb-iff (length before) (suc k * count job)) (last-iff b cost differ (f k)) .0 (x .0);
+          kept = same-rest (k * count job) before m (x .1);
+        }
+
+  page-holds : (before : List ℕ) (a : Paged) (m : List ℕ) → T (pageHolds job lw bw l before a m) → PageAnswers job lw bw l before a m
+  page-holds before (Wrote k) m h =
+      let u = both (sameVerdict (run Sound (nextFindings job lw bw l)) Sound) (pageTest b cost l before k m) .0 h in
+      let p = judged-as (run Sound (nextFindings job lw bw l)) Sound (nextTrials job lw bw l) next-judged (u .0) in
+      (p, page-told (next-differ job lw bw l p) before k m (u .1))
+  page-holds before (NotPaged r) m h =
+      let u = both (sameVerdict (run Sound (nextFindings job lw bw l)) (Stopped r)) (sameList m before) .0 h in
+      (judged-as (run Sound (nextFindings job lw bw l)) (Stopped r) (nextTrials job lw bw l) next-judged (u .0), same-list m before (u .1))
 
   measure-holds : (a : Answer) → T (measureHolds job lw bw l a) → MeasureAnswers job lw bw l a
   measure-holds (Total t) h =
@@ -190,13 +248,24 @@ holds-allowed Measure s h =
     let u = both (measureHolds (s .job) (s .lw) (s .bw) (s .before) (s .answer)) (sameList (s .after) (s .before)) .0 h in
     ((s .answer, measure-holds (s .job) (s .lw) (s .bw) (s .before) (s .answer) (u .0), refl), same-list (s .after) (s .before) (u .1))
 
-all-allowed : (ss : List Sheet) → T (allHold ss) → Each ss
-all-allowed [] h = tt
-all-allowed (s ∷ ss) h = let u = both (holds s) (allHold ss) .0 h in (holds-allowed (s .call) s (u .0), all-allowed ss (u .1))
+page-allowed : (s : PageSheet) → T (pageSheetHolds s) → PageAllowed s
+page-allowed s h = (s .answer, page-holds (s .job) (s .lw) (s .bw) (s .given) (s .before) (s .answer) (s .after) h, refl)
 
--- THEOREM. Every sheet of the list is a reply that its call's promise allows. (It allows no other: laws/Determined.)
-pub worked : Each sheets
+all-allowed : {S : Type 0} (test : S → Bool) (P : S → Type 0) → ((s : S) → T (test s) → P s) → (ss : List S) → T (allHold test ss) → Each P ss
+all-allowed test P says [] h = tt
+all-allowed test P says (s ∷ ss) h = let u = both (test s) (allHold test ss) .0 h in (says s (u .0), all-allowed test P says ss (u .1))
+
+-- Each passes its test.
+all-hold : T (allHold holds sheets) × T (allHold pageSheetHolds pages)
 unfolding heads words any someWord leastTest misled untouchingTest differRight decidedAt beforeTest cheaper bestTest firstTest laterTest nextTest lastTest
     first some outside between touching jobFindings layoutFindings firstFindings measureFindings nextFindings
     twos nameOf reservedOf xOf yOf portOf lengthOf bendsOf sum weighted
-worked = all-allowed sheets tt
+all-hold = (tt, tt)
+
+-- THEOREM. Every sheet of the list is a reply that its call's promise allows. (It allows no other: laws/Determined.)
+pub worked : Each Allowed sheets
+worked = all-allowed holds Allowed (λ s. holds-allowed (s .call) s) sheets (all-hold .0)
+
+-- THEOREM. So is every sheet of Page's list.
+pub worked-pages : Each PageAllowed pages
+worked-pages = all-allowed pageSheetHolds PageAllowed page-allowed pages (all-hold .1)
