@@ -2,12 +2,15 @@
 use mathlib.Core.List.{List}
 use Prim.Native.Nat.{ℕ}
 use lib.ListN.{length}
-use Rattle.steps.specs.declared.Answer.the-variants.{Total, End, NotBest}
+use Rattle.sheets.specs.declared.Tally.{Tally}
+use Rattle.sheets.specs.declared.Reply.the-variants.{Walked, NotBest as NotWalked}
+use Rattle.sheets.specs.declared.Step.the-variants.{Total, End, NotBest}
 use Rattle.paper.specs.declared.Answer.the-variants.{Total as Sum, End as Last, Refused}
+use Rattle.paper.specs.declared.Paged.the-variants.{Wrote, Refused as NotPaged}
 use Rattle.paper.specs.Refusals.{refusal, Passed, firstTrials, measureTrials}
-use Rattle.paper.specs.Promises.{FirstAnswers, NextAnswers}
+use Rattle.paper.specs.Promises.{FirstAnswers, NextAnswers, PageAnswers}
 use Rattle.paper.specs.laws.Accepted.{best-passed, not-best-refused}
-use Rattle.sheets.specs.Replies.{FirstOn, NextOn}
+use Rattle.sheets.specs.Replies.{FirstOn, NextOn, PageOn}
 
 module _ (job : List ℕ) (lw bw : ℕ) (before : List ℕ) where
   pub first-answers : (after : List ℕ) (t : ℕ) → Passed (firstTrials job lw bw (length before)) → FirstOn job lw bw before after t
@@ -23,3 +26,9 @@ module _ (job : List ℕ) (lw bw : ℕ) (before : List ℕ) where
 
     pub not-best-answers : (after : List ℕ) → NextOn job lw bw before after NotBest → NextAnswers job lw bw before (Refused (refusal 10 0)) after
     not-best-answers after n = (not-best-refused job lw bw before p (n .0), n .1)
+
+    pub page-answers : (lent after : List ℕ) (r : Tally) → PageOn job lw bw before lent after (Walked r) → PageAnswers job lw bw before lent (Wrote (r .count)) after
+    page-answers lent after r n = (best-passed job lw bw before p (n .0), n .1)
+
+    pub not-paged-answers : (lent after : List ℕ) → PageOn job lw bw before lent after NotWalked → PageAnswers job lw bw before lent (NotPaged (refusal 10 0)) after
+    not-paged-answers lent after n = (not-best-refused job lw bw before p (n .0), n .1)

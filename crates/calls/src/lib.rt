@@ -1,14 +1,16 @@
 // The calls as Rattle functions that answer an enum. Each keeps the promise of its name in paper's Promises.antt, for every input.
 use paper::Answer;
 use paper::Drawn;
+use paper::Paged;
 use paper::Refusal;
 use paper::verdict::Verdict;
-use steps::Answer as Step;
+use sheets::Reply;
+use sheets::Step;
 ghost use mathlib.Core.Path.{_≡_};
 ghost use lib.ListN.{length};
 ghost use Rattle.paper.specs.Layouts.{boardOf, leader};
 ghost use Rattle.paper.specs.Refusals.{Passed, measureTrials, drawTrials};
-ghost use Rattle.paper.specs.Promises.{FirstAnswers, NextAnswers, MeasureAnswers, DrawAnswers};
+ghost use Rattle.paper.specs.Promises.{FirstAnswers, NextAnswers, PageAnswers, MeasureAnswers, DrawAnswers};
 ghost use Rattle.paper.specs.laws.Drawn.{leaderDrawn};
 
 // First: the earliest best layout, in the first n entries of `list`.
@@ -43,6 +45,29 @@ pub fn next(job: &[u8], lw: u32, bw: u32, list: &mut [u16]) -> Answer
     match v {
         Verdict::Sound => step(job, lw, bw, list),
         Verdict::Refused(r) => Answer::Refused(r),
+    }
+}
+
+// Page, once the layout is known to be untouching.
+fn follow(job: &[u8], lw: u32, bw: u32, list: &[u16], page: &mut [u16]) -> Paged
+    requires { ⌜ Passed (measureTrials (now job) lw bw (now list)) ⌝ }
+    ensures { λ r. ⌜ PageAnswers (now (job .entry)) lw bw (now (list .entry)) (now (page .entry)) r (now (page .exit)) ⌝ }
+{
+    let s = sheets::page_on(job, lw, bw, list, page);
+    match s {
+        Reply::Walked(t) => Paged::Wrote(t.count),
+        Reply::NotBest => Paged::Refused(Refusal { reason: 10, at: 0 }),
+    }
+}
+
+// Page: the best layouts after the one in `list`, one after the other in `page`.
+pub fn page(job: &[u8], lw: u32, bw: u32, list: &[u16], page: &mut [u16]) -> Paged
+    ensures { λ r. ⌜ PageAnswers (now (job .entry)) lw bw (now (list .entry)) (now (page .entry)) r (now (page .exit)) ⌝ }
+{
+    let v = checks::verdicts::of_measure(job, lw, bw, list);
+    match v {
+        Verdict::Sound => follow(job, lw, bw, list, page),
+        Verdict::Refused(r) => Paged::Refused(r),
     }
 }
 

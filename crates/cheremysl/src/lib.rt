@@ -2,12 +2,14 @@
 // input, is the promise of its name in paper's Promises.antt.
 use paper::Answer;
 use paper::Drawn;
+use paper::Paged;
 use paper::Refusal;
 ghost use mathlib.Core.Path.{_≡_};
-ghost use Rattle.paper.specs.Promises.{refusalNumber, number, drawnNumber, FirstPromise, NextPromise, MeasurePromise, DrawPromise};
-ghost use Rattle.paper.specs.laws.Bounds.{Bounded};
+ghost use Rattle.paper.specs.Promises.{refusalNumber, number, pagedNumber, drawnNumber};
+ghost use Rattle.paper.specs.Promises.{FirstPromise, NextPromise, PagePromise, MeasurePromise, DrawPromise};
+ghost use Rattle.paper.specs.laws.Bounds.{Bounded, Counted};
 
-// C's number of a refusal, of an answer and of a drawn leader.
+// C's number of a refusal, of an answer, of a page and of a drawn leader.
 fn of_refusal(f: Refusal) -> i64
     ensures { λ r. ⌜ r ≡ refusalNumber f ⌝ }
 {
@@ -23,6 +25,16 @@ fn of_answer(a: Answer) -> i64
         Answer::Total(t) => t as i64,
         Answer::End => -1,
         Answer::Refused(f) => of_refusal(f),
+    }
+}
+
+fn of_paged(a: Paged) -> i64
+    requires { ⌜ Counted a ⌝ }
+    ensures { λ r. ⌜ r ≡ pagedNumber a ⌝ }
+{
+    match a {
+        Paged::Wrote(k) => k as i64,
+        Paged::Refused(f) => of_refusal(f),
     }
 }
 
@@ -58,6 +70,19 @@ pub extern "C" fn cheremysl_next(
     ensures { λ r. ⌜ NextPromise (now (job .entry)) «length_weight» «bend_weight» (now (layout .entry)) r (now (layout .exit)) ⌝ }
 {
     of_answer(calls::next(job, length_weight, bend_weight, layout))
+}
+
+#[no_mangle]
+pub extern "C" fn cheremysl_page(
+    job: &[u8],
+    length_weight: u32,
+    bend_weight: u32,
+    layout: &[u16],
+    page: &mut [u16],
+) -> i64
+    ensures { λ r. ⌜ PagePromise (now (job .entry)) «length_weight» «bend_weight» (now (layout .entry)) (now (page .entry)) r (now (page .exit)) ⌝ }
+{
+    of_paged(calls::page(job, length_weight, bend_weight, layout, page))
 }
 
 #[no_mangle]

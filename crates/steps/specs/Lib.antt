@@ -1,3 +1,4 @@
--- Steps: the definitions that the contracts cite. Lists: what a proper board is to the theory.
+-- Steps: the definitions that the contracts cite. Memory: those of what a walk remembers. Lists: what a proper board is to the theory.
 pub mod Steps
+pub mod Memory
 pub mod Lists

@@ -3,10 +3,8 @@
 use mathlib.Core.Path.{_≡_}
 use mathlib.Core.Bool.{Bool, true, false}
 use mathlib.Core.List.{List}
-use Prim.Native.Nat.{ℕ, _+_, _*_, _≤_, _<_}
+use Prim.Native.Nat.{ℕ, _+_, _-_, _*_, _≤_, _<_}
 use lib.ListN.{length, getD, take}
-use Rattle.steps.specs.declared.Answer.{Answer}
-use Rattle.steps.specs.declared.Answer.the-variants.{Total, End, NotBest}
 use Rattle.strips.specs.Board.{Sol, sum}
 use Rattle.strips.specs.Order.{Same, Earliest}
 use Rattle.strips.specs.Places.{Optimal, Later, Extends, FilledFrom, At}
@@ -45,10 +43,9 @@ pub record Kept (n : ℕ) (w v : List ℕ) : Type 0 where
   pub long : length v ≡ length w
   pub rest : (k : ℕ) → n ≤ k → getD v k 0 ≡ getD w k 0
 
--- FIRST: v holds the earliest best layout, and t is its total.
-pub record FirstIs (order cs lo hi w v : List ℕ) (t : ℕ) : Type 0 where
+-- FIRST: v holds the earliest best layout.
+pub record FirstIs (order cs lo hi w v : List ℕ) : Type 0 where
   pub earliest : Earliest order (Optimal (boardOf order cs lo hi) order (length order)) (portOf v)
-  pub totals : t ≡ total order cs v
   pub kept : Kept (length order) w v
 
 -- NEXT: v holds the earliest best layout after the layout of w; or there is none, and v is w.
@@ -63,12 +60,6 @@ pub record EndIs (order cs lo hi w v : List ℕ) : Type 0 where
 abbrev pub StepIs : List ℕ → List ℕ → List ℕ → List ℕ → List ℕ → List ℕ → Bool → Type 0
 StepIs order cs lo hi w v true = NextIs order cs lo hi w v
 StepIs order cs lo hi w v false = EndIs order cs lo hi w v
-
--- NEXT, asked of an untouching layout w: a step and its total, or the end, or w is not best and is left as it was.
-abbrev pub NextMeets : List ℕ → List ℕ → List ℕ → List ℕ → List ℕ → List ℕ → Answer → Type 0
-NextMeets order cs lo hi w v (Total t) = BestLayout order cs lo hi w × NextIs order cs lo hi w v × (t ≡ total order cs v)
-NextMeets order cs lo hi w v End = BestLayout order cs lo hi w × EndIs order cs lo hi w v
-NextMeets order cs lo hi w v NotBest = (BestLayout order cs lo hi w → ⊥) × (v ≡ w)
 
 -- r says whether P.
 abbrev pub Told : Bool → Type 0 → Type 0
@@ -102,6 +93,38 @@ pub record Chosen (Q : ℕ → Type 0) (from q : ℕ) : Type 0 where
   pub start : q < 64 → from ≤ q
   pub found : q < 64 → Q q
   pub passed : (i : ℕ) → from ≤ i → i < q → Q i → ⊥
+
+-- at has for each port that one of the first m pads has the place of that pad; for any other port it has m or more.
+pub record Placed (order w : List ℕ) (m : ℕ) (at : List ℕ) : Type 0 where
+  pub room : length order ≤ length at
+  pub taken : (i : ℕ) → i < m → getD at (portOf w (getD order i 0)) 0 < m
+  pub by : (q : ℕ) → q < length order → getD at q 0 < m → portOf w (getD order (getD at q 0) 0) ≡ q
+
+-- The same, with no later place entered.
+pub record Entered (order w : List ℕ) (m : ℕ) (at : List ℕ) : Type 0 where
+  pub placed : Placed order w m at
+  pub free : (q : ℕ) → q < length order → m ≤ getD at q 0 → 64 ≤ getD at q 0
+
+-- What entering the first m places starts from: their pads have ports, for which at has room, and at has no place yet.
+pub record Placeable (order w : List ℕ) (m : ℕ) (at : List ℕ) : Type 0 where
+  pub few : m ≤ 64
+  pub inside : m ≤ length order
+  pub listed : (k : ℕ) → k < m → getD order k 0 < length w
+  pub ports : (k : ℕ) → k < m → portOf w (getD order k 0) < length at
+  pub none : Entered order w 0 at
+
+-- A walk from l down ends at a: no place before m has a port from a to l - 1, and one has port a - 1, unless a is 0 ..
+pub record Lowest (at : List ℕ) (m l a : ℕ) : Type 0 where
+  pub under : a ≤ l
+  pub free : (q : ℕ) → a ≤ q → q < l → m ≤ getD at q 0
+  pub stop : 0 < a → getD at (a - 1) 0 < m
+
+-- .. and one from h up ends at b: no place before m has a port from h to b - 1, and one has port b, unless b is n.
+pub record Highest (at : List ℕ) (m h n b : ℕ) : Type 0 where
+  pub over : h ≤ b
+  pub inside : b ≤ n
+  pub free : (q : ℕ) → h ≤ q → q < b → m ≤ getD at q 0
+  pub stop : b < n → getD at b 0 < m
 
 -- What filling from place k on leaves in v, where w was.
 pub record FilledUp (order cs lo hi w v : List ℕ) (k : ℕ) : Type 0 where

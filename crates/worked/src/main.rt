@@ -1,11 +1,12 @@
 // Runs the calls on the cases that standard input has as text, and prints each with its answer and the list that the call leaves. A case reads
 //     TITLE: A B [SIZE] | NAME X Y PORT, NAME X Y PORT, .. | ENTRY ENTRY ..;
-// The title's first letter tells the call: First, Next or Measure with the weights A and B; Draw of record A to port B, with eight numbers lent, each
-// 99; or Print, the job's sheet. SIZE is the job's size in bytes where it is not 16 for each record.
+// The title's first letter tells the call: First, Next or Measure with the weights A and B; A page with these, of eight entries lent, each 9; Draw of
+// record A to port B, with eight numbers lent, each 99; or Print, the job's sheet. SIZE is the job's size in bytes where it is not 16 for each record.
 use libc::STDIN_FILENO;
 use libc::STDOUT_FILENO;
 use paper::Answer;
 use paper::Drawn;
+use paper::Paged;
 use paper::Refusal;
 ghost use mathlib.Core.Path.{_≡_};
 ghost use Prim.Native.Nat.{_*_, _≤_, _<_};
@@ -151,15 +152,30 @@ fn say_entries(list: &[u16]) {
     }
 }
 
+fn say_list(list: &[u16]) {
+    say(b" [");
+    say_entries(list);
+    say(b"]\n");
+}
+
 fn say_answer(a: Answer, list: &[u16]) {
     match a {
         Answer::Total(t) => say_number(b" = total ", t),
         Answer::End => say(b" = end"),
         Answer::Refused(f) => say_refusal(f),
     }
-    say(b" [");
-    say_entries(list);
-    say(b"]\n");
+    say_list(list);
+}
+
+// Page, with its layouts and the entries after them.
+fn paged(job: &[u8], a: u32, b: u32, list: &[u16]) {
+    let mut page = [9u16; 8];
+    let p = calls::page(job, a, b, list, &mut page);
+    match p {
+        Paged::Wrote(k) => say_number(b" = layouts ", k),
+        Paged::Refused(f) => say_refusal(f),
+    }
+    say_list(&page);
 }
 
 // Four times a drawn number, without its sign.
@@ -226,6 +242,7 @@ fn run(call: u8, job: &[u8], a: u32, b: u32, list: &mut [u16]) {
         b'P' => printed(job),
         b'M' => say_answer(calls::measure(job, a, b, list), list),
         b'N' => say_answer(calls::next(job, a, b, list), list),
+        b'A' => paged(job, a, b, list),
         _ => say_answer(calls::first(job, a, b, list), list),
     }
 }

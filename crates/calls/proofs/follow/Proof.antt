@@ -1,0 +1,45 @@
+-- `calls::follow` meets its contract. Assumes nothing.
+use denote.Ref.{now}
+use borrow.Author.Needs.{needs}
+use Rattle.paper.specs.laws.Accepted.{measure-accepted, measure-facts}
+use Rattle.calls.proofs.Facts.{page-answers, not-paged-answers}
+use Rattle.calls.proofs.follow.Statement.{statement}
+use Rattle.calls.proofs.follow.Tie as tie
+
+page-on-requires : tie.Need-page-on-requires
+page-on-requires c κs =
+    let s = c .before .before .before .before in
+    let a = s .args in
+    (measure-facts (now (a .job)) (a .lw) (a .bw) (now (a .list)) (s .pre), measure-accepted (now (a .job)) (a .lw) (a .bw) (now (a .list)) (s .pre) .1)
+
+enum-known-s : tie.Need-enum-known-s
+enum-known-s c = search needs
+
+enum-told : tie.Need-enum-told
+enum-told c = search needs
+
+same-length : tie.Need-same-length
+same-length c = search needs
+
+returns : tie.Need-returns
+returns c =
+    let d = c .before .before .before .before .before in
+    let s = d .before .before .before .before .before in
+    let a = s .args in
+    page-answers (now (a .job)) (a .lw) (a .bw) (now (a .list)) (s .pre) (now (a .page)) _ (c .before .s .given .0 .0)
+    (rw (c .before .s .given .1) at (d .page-on .ensures))
+
+same-length-2 : tie.Need-same-length-2
+same-length-2 c = search needs
+
+returns-2 : tie.Need-returns-2
+returns-2 c =
+    let d = c .before .before .before .before in
+    let s = d .before .before .before .before .before in
+    let a = s .args in
+    not-paged-answers (now (a .job)) (a .lw) (a .bw) (now (a .list)) (s .pre) (now (a .page)) _ (rw (c .enum-told .given .1) at (d .page-on .ensures))
+
+pub follow-spec : {M : Type 1} → statement M
+follow-spec =
+    tie.close
+    (tie.spec page-on-requires enum-known-s enum-told same-length returns same-length-2 returns-2)

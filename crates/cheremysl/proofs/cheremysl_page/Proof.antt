@@ -1,0 +1,31 @@
+-- `cheremysl::cheremysl_page` meets its contract. Assumes nothing.
+use mathlib.Core.Path.{_∙_}
+use native.Mathlib.Omega.{arith}
+use denote.Ref.{now}
+use mir.Facts.{toZ-ofZ}
+use borrow.Author.Needs.{needs, sfits-of}
+use Rattle.paper.specs.laws.Bounds.{page-counted}
+use Rattle.cheremysl.proofs.cheremysl_page.Statement.{statement}
+use Rattle.cheremysl.proofs.cheremysl_page.Tie as tie
+
+page-requires : tie.Need-page-requires
+page-requires c κs = search needs
+
+of-paged-requires : tie.Need-of-paged-requires
+of-paged-requires c κs =
+    let d = c .before .before in
+    let s = d .before .before .before .before .before in
+    let a = s .args in
+    page-counted (now (a .job)) (a .length-weight) (a .bend-weight) (now (a .layout)) (now (a .page)) (d .page .result) _
+    (omega (arith, s .good .1 .1 .1 .1 .0 .1)) (d .page .ensures)
+
+same-length : tie.Need-same-length
+same-length c = search needs
+
+returns : tie.Need-returns
+returns c =
+    let d = c .before .before .before in
+    (d .page .result, d .page .ensures, toZ-ofZ (sfits-of (c .of-paged .ok)) ∙ c .of-paged .ensures)
+
+pub cheremysl-page-spec : {M : Type 1} → statement M
+cheremysl-page-spec = tie.close (tie.spec page-requires of-paged-requires same-length returns)
