@@ -6,6 +6,8 @@
 /* These are refused by the compiler if a prototype is another. */
 typedef int64_t fill(const uint8_t *, size_t, uint32_t, uint32_t, uint16_t *, size_t);
 typedef int64_t read_only(const uint8_t *, size_t, uint32_t, uint32_t, const uint16_t *, size_t);
+typedef int64_t fill_page(const uint8_t *, size_t, uint32_t, uint32_t, const uint16_t *, size_t,
+                          uint16_t *, size_t);
 typedef int64_t draw(const uint8_t *, size_t, uint32_t, uint32_t, float *, size_t);
 
 static read_only *const measure_call = cheremysl_measure;
@@ -13,6 +15,7 @@ static draw *const draw_call = cheremysl_draw;
 #ifndef NO_SEARCH
 static fill *const first_call = cheremysl_first;
 static fill *const next_call = cheremysl_next;
+static fill_page *const page_call = cheremysl_page;
 #endif
 
 static int passed, failed;
@@ -46,6 +49,7 @@ static void calls(void) {
 #ifndef NO_SEARCH
     is_refusal(first_call(NULL, 0, 0, 0, NULL, 0), CHEREMYSL_BAD_SIZE, 0);
     is_refusal(next_call(NULL, 0, 0, 0, NULL, 0), CHEREMYSL_BAD_SIZE, 0);
+    is_refusal(page_call(NULL, 0, 0, 0, NULL, 0, NULL, 0), CHEREMYSL_BAD_SIZE, 0);
 #endif
 }
 

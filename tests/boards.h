@@ -45,6 +45,9 @@ enum board {
 /* Makes an accepted job of n records, 1 to 64. */
 void make_board(uint8_t *job, size_t n, enum board kind);
 
+/* Straight pads, and so many pairs half way between two ports: weights 1, 0 have 2^pairs sheets. */
+void make_tied(uint8_t *job, size_t n, size_t pairs);
+
 /* Pads joined to ports in order of height: no assignment has less length, touching or not. */
 int64_t least_length(const uint8_t *job, size_t n);
 

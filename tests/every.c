@@ -1,12 +1,13 @@
 /*
- * every [COUNT [SEED]]: First, Next, .., end on jobs of up to seven pads, against the list of every
- * best layout among all assignments. Random and degenerate boards; now and then with a port too
- * close to the one before, for which every call refuses the job.
+ * every [COUNT [SEED]]: First, Next, .., end on jobs of up to seven pads, and a page from each
+ * sheet, against the list of every best layout among all assignments. Random and degenerate boards;
+ * now and then with a port too close to the one before, for which every call refuses the job.
  */
 #include <stdio.h>
 #include <stdlib.h>
 
 #include "boards.h"
+#include "questions.h"
 #include "trial.h"
 
 static long sheets_listed, most_sheets;
@@ -48,19 +49,21 @@ static bool run(struct question *q, const struct sheets *all) {
         struct reply expected = gives(q, all->total, all->sheet[k].port);
         if (!expect(q, expected)) return false;
         q->list = expected.list;
+        q->call = PAGE;
+        lend_page(q, any_room(records_of(q)));
+        expected = fills(q, all->sheet[k].port + PLAIN_PADS, PLAIN_PADS, all->found - k - 1);
+        if (!expect(q, expected)) return false;
         q->call = NEXT;
     }
     return expect(q, keeps(q, -1)) && expect(q, keeps(q, -1));
 }
 
-/* Next and Measure from every assignment: a later sheet, the end, or the refusal it deserves. */
+/* From every assignment: a later sheet, a page, the end, the total, or the refusal it deserves. */
 static void from_each(struct question *q, size_t i) {
     size_t n = records_of(q);
     if (i == n) {
-        q->call = NEXT;
-        expect(q, plain_reply(q));
-        q->call = MEASURE;
-        expect(q, plain_reply(q));
+        for (q->call = 0; q->call < CALLS; q->call++)
+            if (takes_layout(q->call)) expect(q, plain_reply(q));
         return;
     }
     for (uint16_t port = 0; port < n; port++) {
@@ -94,6 +97,7 @@ static void one_job(void) {
     any_weights(&q.a, &q.b);
     uint32_t noise = below(2) ? 65536 : 8;
     for (size_t k = 0; k < LIST_ROOM; k++) q.list.layout[k] = (uint16_t)below(noise);
+    lend_page(&q, any_room(n));
     if (n > 1 && below(8) == 0) too_close(q);
     struct given g = given_of(&q);
     plain_sheets(&g, &all);

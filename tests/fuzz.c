@@ -56,8 +56,8 @@ static void best_layout(struct question *q, uint32_t steps) {
 #ifndef NO_SEARCH
     struct question search = *q;
     search.call = FIRST;
-    call_library(&search, search.job, &search.list);
-    for (search.call = NEXT; steps > 0; steps--) call_library(&search, search.job, &search.list);
+    call_library(&search);
+    for (search.call = NEXT; steps > 0; steps--) call_library(&search);
     q->list = search.list;
 #else
     (void)steps;
@@ -81,16 +81,22 @@ static void take_layout(struct bytes *b, struct question *q) {
     }
 }
 
+/* Room for some layouts, exactly or with a remainder; now and then any room. From few bytes. */
+static void take_page(struct bytes *b, struct question *q) {
+    size_t n = records_of(q), kind = take(b, 256), rest = kind & 8 ? 1 + kind / 16 : 0;
+    lend_page(q, kind < 248 ? n * (kind % 8) + rest : take(b, PAGE_ROOM + 1));
+}
+
 static void damage(struct bytes *b, struct question *q) {
     static const int64_t limits[] = {0,        1,        1000000,   1000001,
                                      -1000000, -1000001, INT32_MAX, INT32_MIN};
     size_t n = records_of(q) + (records_of(q) == 0);
-    size_t i = take(b, n), j = take(b, n), field = 4 * take(b, 4);
+    size_t i = take(b, n), j = take(b, n), field = 4 * take(b, 4), early = field / 8 * 4;
     uint16_t *list = q->list.layout, kept = list[i];
-    switch (take(b, 11)) {
+    switch (take(b, 12)) {
     case 0: q->job[take(b, JOB_ROOM)] = (uint8_t)take(b, 256); break;
     case 1: q->job_bytes = take(b, JOB_ROOM + 1); break;
-    case 2: q->count = take(b, LIST_ROOM + 1); break;
+    case 2: q->count = take(b, take(b, 2) ? n + 1 : LIST_ROOM + 1); break;
     case 3: q->a = take_bits(b); break;
     case 4: q->b = take_bits(b); break;
     case 5: list[i] = (uint16_t)take_bits(b); break;
@@ -98,6 +104,7 @@ static void damage(struct bytes *b, struct question *q) {
     case 7: put_number(q->job + 16 * i + field, 4, limits[take(b, 8)]); break;
     case 8: memcpy(q->job + 16 * i + field, q->job + 16 * j + field, 4); break;
     case 9: put_port(q->job, i, get_port(q->job, i - (i > 0)) + 6 + take(b, 4)); break;
+    case 10: memcpy(q->job + 16 * i + early, q->job + 16 * j + early, 4); break; /* name or x */
     default:
         list[i] = list[j];
         list[j] = kept;
@@ -122,7 +129,8 @@ static void question_of(const uint8_t *data, size_t size, struct question *q) {
     q->count = (q->call == DRAW ? 6 : records_of(q)) + take(&b, 3);
     q->a = q->call == DRAW ? take(&b, records_of(q)) : take_weight(&b);
     q->b = q->call == DRAW ? take(&b, records_of(q)) : take_weight(&b);
-    if (q->call == NEXT || q->call == MEASURE) take_layout(&b, q);
+    if (takes_layout(q->call)) take_layout(&b, q);
+    if (q->call == PAGE) take_page(&b, q);
     uint32_t times = take(&b, 8);
     for (; times > 4; times--) damage(&b, q);
 }
@@ -162,7 +170,7 @@ static bool passed_over(const struct reply *first, const struct question *next,
     return reply->answer >= -1 && before(next, &next->list, &found) && earlier;
 }
 
-/* First's sheet, and what Next says of the question's layout, or of a random one for First. */
+/* First's sheet; Next of the question's layout, or of a random one if it asks First; and Page. */
 static bool large_sheet(const struct question *q) {
     size_t n = records_of(q);
     struct question first = *q, next = *q;
@@ -180,7 +188,8 @@ static bool large_sheet(const struct question *q) {
     else
         ok &= is_sheet(&next, &r, f.answer) && before(q, &next.list, &r.list);
     for (int k = 0; k < 8; k++) ok &= !passed_over(&f, &next, &r);
-    return check(ok, q, "not a best sheet") && expect(&first, f) && expect(&next, r);
+    return check(ok, q, "not a best sheet") && expect(&first, f) && expect(&next, r) &&
+           (q->call != PAGE || expect(q, stepped(q)));
 }
 
 /* ---- the trial ---- */
@@ -216,7 +225,7 @@ int LLVMFuzzerTestOneInput(const uint8_t *data, size_t size) {
 #define SIZE 400     /* the longest input */
 #define SIZES (8 + JOB_ROOM / 128 + 1)   /* classes of numbers of records */
 #define KEPT (CALLS * (ENDS + 1) * SIZES) /* one input for each kind of outcome */
-#define ENOUGH 20000 /* inputs for every refusal to have come */
+#define ENOUGH (5000 * CALLS) /* inputs for every refusal to have come */
 
 struct input {
     uint8_t data[SIZE];

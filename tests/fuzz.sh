@@ -26,10 +26,10 @@ fi
 $cc -std=c99 -O2 $strict $static -o build/fuzz $files || exit 1
 end=$(($(date +%s) + seconds)) seed=$(date +%s) passed=0 failed=0 inputs=0
 while [ "$(date +%s)" -lt $end ]; do
-    $run build/fuzz 20000 $seed >build/fuzz.log || failed=$((failed + 1))
+    $run build/fuzz 25000 $seed >build/fuzz.log || failed=$((failed + 1))
     counts=$(sed -n '$s/^\([0-9]*\) passed, 0 failed$/\1/p' build/fuzz.log)
     [ "$counts" ] || { cat build/fuzz.log; break; }
-    passed=$((passed + counts)) inputs=$((inputs + 20000)) seed=$((seed + 1))
+    passed=$((passed + counts)) inputs=$((inputs + 25000)) seed=$((seed + 1))
 done
 echo "inputs by the trial's own driver: $inputs"
 echo "$passed passed, $failed failed"

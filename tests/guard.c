@@ -15,21 +15,22 @@ static void need(bool ok, const char *what) {
     exit(2);
 }
 
-/* The same page of a file that has no name is seen twice: by the tests, and by the library. */
-struct guarded guard_page(bool writable, size_t element) {
+/* The same bytes of a file that has no name are seen twice: by the tests, and by the library. */
+struct guarded guard_memory(bool writable, size_t element, size_t most) {
     struct guarded g;
     FILE *file = tmpfile();
     unsigned char *around;
     int rights = writable ? PROT_READ | PROT_WRITE : PROT_READ;
+    size_t unit = (size_t)sysconf(_SC_PAGESIZE);
     g.element = element;
-    g.size = (size_t)sysconf(_SC_PAGESIZE);
+    g.size = (2 * (most + element) + unit - 1) / unit * unit; /* a list amid has half of it */
     need(file != NULL && ftruncate(fileno(file), (off_t)g.size) == 0, "tmpfile");
     g.ours = mmap(NULL, g.size, PROT_READ | PROT_WRITE, MAP_SHARED, fileno(file), 0);
     need(g.ours != MAP_FAILED, "mmap");
-    around = mmap(NULL, 3 * g.size, PROT_NONE, MAP_PRIVATE | MAP_ANONYMOUS, -1, 0);
+    around = mmap(NULL, g.size + 2 * unit, PROT_NONE, MAP_PRIVATE | MAP_ANONYMOUS, -1, 0);
     need(around != MAP_FAILED, "mmap");
-    g.theirs = mmap(around + g.size, g.size, rights, MAP_SHARED | MAP_FIXED, fileno(file), 0);
-    need(g.theirs == around + g.size, "mmap");
+    g.theirs = mmap(around + unit, g.size, rights, MAP_SHARED | MAP_FIXED, fileno(file), 0);
+    need(g.theirs == around + unit, "mmap");
     fclose(file);
     return g;
 }

@@ -1,7 +1,7 @@
 /*
- * guard.h: memory for lent lists with an unreadable page on either side, so that one element too
- * far is a crash. The tests write it through another view; the library's view of what it may only
- * read can not be written.
+ * guard.h: memory for lent lists, unreadable on either side, so that one element too far is a
+ * crash. The tests write it through another view; the library's view of what it may only read can
+ * not be written.
  */
 #ifndef GUARD_H
 #define GUARD_H
@@ -9,26 +9,26 @@
 #include <stdbool.h>
 #include <stddef.h>
 
-/* Where a list stands: up to the end of its page, from the start on, or amid, badly aligned. */
+/* Where a list stands: up to the end of its memory, from the start on, or amid, badly aligned. */
 enum side { AT_END, AT_START, AMID, SIDES };
 
 struct guarded {
-    unsigned char *ours;   /* the page as the tests see it */
-    unsigned char *theirs; /* the page as the library sees it, unreadable pages around it */
+    unsigned char *ours;   /* the memory as the tests see it */
+    unsigned char *theirs; /* the memory as the library sees it, unreadable around it */
     size_t size;
     size_t element; /* the size of a list's elements */
 };
 
-/* One page, writable by the library or not. */
-struct guarded guard_page(bool writable, size_t element);
+/* Memory for lists of up to so many bytes, writable by the library or not. */
+struct guarded guard_memory(bool writable, size_t element, size_t most);
 
 /*
- * Copies a list into the page, fills the rest of the page with a pattern, and returns the list's
- * address for the library. An empty list at the start is NULL, one at the end is the page's end.
+ * Copies a list into the memory, fills the rest of it with a pattern, and returns the list's
+ * address for the library. An empty list at the start is NULL, one at the end is the memory's end.
  */
 void *guard_put(const struct guarded *g, enum side side, const void *list, size_t bytes);
 
-/* Copies the list back; false if the rest of the page was changed. */
+/* Copies the list back; false if the rest of the memory was changed. */
 bool guard_get(const struct guarded *g, enum side side, void *list, size_t bytes);
 
 #endif

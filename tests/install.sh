@@ -71,6 +71,24 @@ total 40
   record 1 to port 1: (5.00, -3.75) (5.00, -5.00) (0.00, -5.00)' $run "$room/sheets" "$share/J3.job"
 prints 1 'refused 1 record 0' $run "$room/sheets" "$share/sheets.c"
 
+# Page by page, four sheets each: eight sheets end within the second page, five with a full first one.
+ports_of() { $run "$room/sheets" "$1" | awk '/^total/ { printf line; line = "\n" } /to port/ { printf "%d", $5 }'; }
+printf '1 10 15 10\n2 20 15 20\n3 30 35 30\n4 40 35 40\n5 50 55 50\n6 60 55 60\n' | "$share/mkjob" >"$room/eight.job"
+prints 0 '103254
+013254
+102354
+012354
+103245
+013245
+102345
+012345' ports_of "$room/eight.job"
+printf '1 10 15 10\n2 20 15 20\n3 30 15 30\n4 40 15 40\n5 50 15 50\n' | "$share/mkjob" >"$room/five.job"
+prints 0 '12340
+12304
+12034
+10234
+01234' ports_of "$room/five.job"
+
 touching="this record's leader touches that of an earlier record"
 prints 1 "refused 9 record 2 (pad 403): $touching" $run "$room/audit" "$share/crossing.job" $(cat "$share/crossing.layout")
 prints 0 'sound: length 546, bends 2' $run "$room/audit" "$share/crossing.job" 3 2 1 0
@@ -117,7 +135,7 @@ prints 0 'refused 1 record 0' printed /dev/null
 for page in "$installed"/share/man/man?/*; do
     check "manual" mandoc -T lint -W warning "$page"
 done
-for call in first next measure draw; do
+for call in first next page measure draw; do
     check "manual of each call" grep -q "cheremysl_$call(" "$installed/share/man/man3/cheremysl_$call.3"
 done
 

@@ -1,5 +1,5 @@
 /*
- * large [COUNT [SEED]]: First and Next on jobs of 8 to 64 pads.
+ * large [COUNT [SEED]]: First, Next and Page on jobs of 8 to 64 pads.
  *
  * Up to 12 pads the whole run is compared with a list of all layouts without a touching pair, made
  * from left to right: the leftmost pad has every other arm to its right, so it can only take the
@@ -8,13 +8,14 @@
  *
  * Beyond, each sheet is measured, the run rises and keeps its total, no sheet found at random has a
  * smaller one, and with bend weight 0 the total is that of pads and ports joined in order of
- * height, than which no assignment is shorter.
+ * height, than which no assignment is shorter. A page has what as many calls of Next give.
  */
 #include <stdio.h>
 #include <stdlib.h>
 #include <string.h>
 
 #include "boards.h"
+#include "questions.h"
 #include "trial.h"
 
 #define LISTED_PADS 12
@@ -80,6 +81,13 @@ static void list_all(const struct question *q, struct listing *l) {
     list_from(q, l, 0);
 }
 
+/* A page from sheet k, which the question holds. */
+static bool page_of_list(struct question q, const struct listing *l, size_t k) {
+    q.call = PAGE;
+    lend_page(&q, any_room(records_of(&q)));
+    return expect(&q, fills(&q, l->sheet[k] + LISTED_PADS, LISTED_PADS, l->found - k - 1));
+}
+
 static void whole_list(size_t n) {
     static struct question q;
     static struct listing l;
@@ -91,6 +99,7 @@ static void whole_list(size_t n) {
         if (!expect(&q, expected)) return;
         q.list = expected.list;
         q.call = NEXT;
+        if ((below(4) == 0 || k + 1 == l.found) && !page_of_list(q, &l, k)) return;
     }
     expect(&q, keeps(&q, -1));
     expect(&q, keeps(&q, -1));
@@ -121,14 +130,16 @@ static void measured(const struct question *q, int64_t total) {
     expect(&m, keeps(&m, total));
 }
 
-/* A layout found at random: it is not better, and Next says so if it is worse. */
+/* A layout found at random: it is not better; Next and Page say so if it is worse. */
 static void no_better(const struct question *q, int64_t total) {
     struct question other = *q;
     other.call = NEXT;
     any_untouching(q->job, records_of(q), other.list.layout);
+    lend_page(&other, any_room(records_of(q)));
     int64_t found = total_of(&other, other.list.layout);
     check(found >= total, &other, "a smaller total than First's");
-    if (found > total) expect(&other, keeps(&other, refused(10, 0)));
+    for (; other.call <= PAGE && found > total; other.call++)
+        expect(&other, keeps(&other, refused(10, 0)));
 }
 
 /* First, then Next for some steps; true if the end came. */
@@ -164,20 +175,19 @@ static void large_job(size_t n) {
     long sheets;
     any_job(&q, n);
     follow(&q, STEPS, &sheets);
+    q.call = PAGE;
+    lend_page(&q, any_room(n));
+    expect(&q, stepped(&q));
     q.call = MEASURE;
     int64_t total = ask(&q, AT_END).answer;
     for (int k = 0; k < 10; k++) no_better(&q, total);
 }
 
-/* Straight pads, and k pairs of pads half way between two ports: 2 to the k best layouts. */
-static void counted_run(size_t n, int pairs) {
+static void counted_run(size_t n, size_t pairs) {
     static struct question q;
     long sheets = 0, expected = 1L << pairs;
     any_job(&q, n);
-    make_board(q.job, n, STRAIGHT);
-    for (size_t i = 0; i < n; i++) put_port(q.job, i, 10 * (int64_t)i);
-    for (size_t i = 0; i < n; i++) put_y(q.job, i, 10 * (int64_t)i);
-    for (size_t i = 0; i < 2 * (size_t)pairs; i++) put_y(q.job, i, 20 * (int64_t)(i / 2) + 5);
+    make_tied(q.job, n, pairs);
     q.a = 1;
     q.b = 0;
     check(follow(&q, expected, &sheets), &q, "the run should end");
@@ -191,7 +201,7 @@ int main(int argc, char **argv) {
     for (long k = 0; k < 10 * count; k++) list_agrees(1 + below(6));
     for (long k = 0; k < 10 * count; k++) whole_list(8 + below(5));
     for (long k = 0; k < count; k++) large_job(k % 4 == 0 ? 64 : 8 + below(57));
-    for (int pairs = 0; pairs <= 7; pairs++) counted_run(64, pairs);
+    for (size_t pairs = 0; pairs <= 7; pairs++) counted_run(64, pairs);
     check(runs_ended > 0, NULL, "no run ended");
     printf("%ld jobs, %ld steps, %ld runs to the end\n", 21 * count + 8, steps_taken, runs_ended);
     return done();

@@ -1,6 +1,6 @@
 /*
- * plain.h: the four calls in plain C, written from the paper's text alone. They share nothing with
- * the library: touching is sharing a point of hand or arm, and First and Next try every
+ * plain.h: the calls in plain C, written from the paper's text alone. They share nothing with the
+ * library: touching is sharing a point of hand or arm, and First, Next and Page try every
  * assignment of ports to pads. The tests hold the library to this account.
  */
 #ifndef PLAIN_H
@@ -10,7 +10,7 @@
 #include <stddef.h>
 #include <stdint.h>
 
-#define PLAIN_PADS 7            /* First and Next try every assignment up to so many pads .. */
+#define PLAIN_PADS 7            /* these three try every assignment up to so many pads .. */
 #define PLAIN_UNKNOWN INT64_MIN /* .. and answer this for an accepted job with more */
 #define PLAIN_SHEETS 5040       /* assignments of seven pads */
 
@@ -19,6 +19,9 @@ int64_t plain_first(const uint8_t *job, size_t job_bytes, uint32_t length_weight
                     uint32_t bend_weight, uint16_t *layout, size_t entries);
 int64_t plain_next(const uint8_t *job, size_t job_bytes, uint32_t length_weight,
                    uint32_t bend_weight, uint16_t *layout, size_t entries);
+int64_t plain_page(const uint8_t *job, size_t job_bytes, uint32_t length_weight,
+                   uint32_t bend_weight, const uint16_t *layout, size_t entries, uint16_t *page,
+                   size_t page_entries);
 int64_t plain_measure(const uint8_t *job, size_t job_bytes, uint32_t length_weight,
                       uint32_t bend_weight, const uint16_t *layout, size_t entries);
 int64_t plain_draw(const uint8_t *job, size_t job_bytes, uint32_t record, uint32_t port,
@@ -26,7 +29,7 @@ int64_t plain_draw(const uint8_t *job, size_t job_bytes, uint32_t record, uint32
 
 #define PLAIN_REFUSALS 13 /* one more than the largest refusal number */
 
-/* The refusal numbers that each call can give, in the order of its checks; 0 ends the list. */
+/* The refusal numbers a call can give, in the order of its checks; 0 ends it. Page has Next's. */
 extern const int first_checks[], next_checks[], measure_checks[], draw_checks[];
 
 /* What a call is given. First's and Draw's lists have a size only; Draw has no weights. */

@@ -4,159 +4,21 @@
  */
 #include <stdio.h>
 #include <stdlib.h>
-#include <string.h>
 
 #include "boards.h"
+#include "questions.h"
 #include "trial.h"
-
-static uint32_t any_bits(void) { return below(65536) << 16 | below(65536); }
-
-/* A random record number; any record's place in the buffer is there even if the job is shorter. */
-static size_t any_record(const struct question *q) {
-    return below((uint32_t)records_of(q) + (records_of(q) == 0));
-}
-
-/* ---- questions that are accepted, or touch ---- */
-
-static void any_layout(const uint8_t *job, size_t n, uint16_t *layout) {
-    if (below(4)) {
-        any_untouching(job, n, layout);
-        return;
-    }
-    for (size_t i = 0; i < n; i++) {
-        size_t k = below((uint32_t)i + 1);
-        layout[i] = layout[k];
-        layout[k] = (uint16_t)i;
-    }
-}
-
-/* A best layout: the first, or one some steps on. */
-static void best_layout(const struct question *q, uint16_t *layout) {
-    plain_first(q->job, q->job_bytes, q->a, q->b, layout, q->count);
-    for (uint32_t steps = below(4); steps > 0; steps--)
-        plain_next(q->job, q->job_bytes, q->a, q->b, layout, q->count);
-}
-
-static void sound_question(struct question *q) {
-    size_t n = 1 + below(below(3) ? 5 : 64);
-    memset(q, 0, sizeof *q);
-    q->call = below(CALLS);
-    for (size_t k = 0; k < JOB_ROOM; k++) q->job[k] = (uint8_t)below(256);
-    for (size_t k = 0; k < LIST_ROOM; k++) {
-        uint32_t bits = any_bits();
-        memcpy(q->list.points + k, &bits, sizeof bits);
-    }
-    make_board(q->job, n, below(BOARDS));
-    q->job_bytes = 16 * n;
-    q->count = (q->call == DRAW ? 6 : n) + below(4);
-    any_weights(&q->a, &q->b);
-    if (q->call == DRAW) {
-        q->a = below((uint32_t)n);
-        q->b = below((uint32_t)n);
-    }
-    if (q->call == NEXT && n <= 5 && below(2))
-        best_layout(q, q->list.layout);
-    else if (q->call == NEXT || q->call == MEASURE)
-        any_layout(q->job, n, q->list.layout);
-}
-
-/* ---- damage ---- */
-
-static int64_t far_out(void) {
-    static const int64_t values[] = {1000001, -1000001, INT32_MAX, INT32_MIN, 1 << 24};
-    return below(4) ? values[below(5)] : (int64_t)any_bits();
-}
-
-static void damage_size(struct question *q) {
-    static const size_t sizes[] = {0, 15, 17, 1023, 1025, 1040, JOB_ROOM};
-    q->job_bytes = below(2) ? sizes[below(7)] : below(JOB_ROOM + 1);
-}
-
-static void damage_field(struct question *q) {
-    size_t i = any_record(q);
-    switch (below(7)) {
-    case 0: put_reserved(q->job, i, below(2) ? 1u << below(16) : below(65536)); break;
-    case 1: put_x(q->job, i, below(2) ? 0 : far_out()); break;
-    case 2: put_y(q->job, i, far_out()); break;
-    case 3: put_port(q->job, i, far_out()); break;
-    case 4: q->job[16 * i + below(16)] = (uint8_t)below(256); break;
-    case 5: q->job[16 * i + below(16)] ^= (uint8_t)(1 << below(8)); break;
-    default: put_number(q->job + 16 * i, 4, any_bits());
-    }
-}
-
-static void damage_against_another(struct question *q) {
-    size_t i = any_record(q), j = any_record(q);
-    int64_t port = get_port(q->job, i);
-    switch (below(6)) {
-    case 0: put_name(q->job, i, get_name(q->job, j)); break;
-    case 1: put_x(q->job, i, get_x(q->job, j)); break;
-    case 2: put_port(q->job, i, get_port(q->job, j) - below(2)); break;
-    case 3: put_y(q->job, i, get_port(q->job, j)); break;
-    case 4: put_port(q->job, i, get_port(q->job, i - (i > 0)) + 6 + below(4)); break;
-    default:
-        put_port(q->job, i, get_port(q->job, j));
-        put_port(q->job, j, port);
-    }
-}
-
-static void damage_entries(struct question *q) {
-    size_t i = any_record(q), j = any_record(q);
-    uint16_t *list = q->list.layout, kept = list[i];
-    if (q->call == DRAW) return;
-    switch (below(4)) {
-    case 0: list[i] = (uint16_t)(records_of(q) + below(2)); break;
-    case 1: list[i] = (uint16_t)any_bits(); break;
-    case 2: list[i] = list[j]; break;
-    default:
-        list[i] = list[j];
-        list[j] = kept;
-    }
-}
-
-static void damage_numbers(struct question *q) {
-    uint32_t *number = below(2) ? &q->a : &q->b;
-    uint32_t least = q->call == DRAW ? (uint32_t)records_of(q) : 1001;
-    *number = below(2) ? least : below(2) ? UINT32_MAX : any_bits();
-}
-
-static void damage(struct question *q) {
-    switch (below(12)) {
-    case 0: damage_size(q); break;
-    case 1: q->count = below((uint32_t)q->count + 1); break;
-    case 2: damage_numbers(q); break;
-    case 3:
-    case 4:
-    case 5: damage_field(q); break;
-    case 6:
-    case 7:
-    case 8: damage_against_another(q); break;
-    default: damage_entries(q);
-    }
-}
-
-/* ---- the trial ---- */
 
 static long came[CALLS][PLAIN_REFUSALS]; /* by refusal number; 0: accepted */
 
 static void one_question(void) {
     static struct question q;
     struct reply r;
-    sound_question(&q);
+    sound_question(&q, below(CALLS));
     for (uint32_t times = below(4); times > 0; times--) damage(&q);
     while ((r = plain_reply(&q)).answer == PLAIN_UNKNOWN) damage(&q);
     came[q.call][r.answer < -1 ? r.answer / -65536 : 0]++;
     expect(&q, r);
-}
-
-static void report(void) {
-    for (int call = 0; call < CALLS; call++) {
-        printf("%-8s %ld accepted, refused", call_names[call], came[call][0]);
-        for (const int *number = refusals_of[call]; *number != 0; number++) {
-            printf(" %d: %ld%s", *number, came[call][*number], number[1] ? "," : "\n");
-            check(came[call][*number] > 0, NULL, "a refusal that never came");
-        }
-    }
 }
 
 int main(int argc, char **argv) {
@@ -164,7 +26,8 @@ int main(int argc, char **argv) {
     seed_random(argc > 2 ? strtoull(argv[2], NULL, 10) : 1);
     begin();
     for (long k = 0; k < count; k++) one_question();
-    report();
+    for (enum call call = 0; call < CALLS; call++)
+        report_refusals(call_names[call], call, came[call]);
     printf("%ld inputs\n", count);
     return done();
 }

@@ -1,6 +1,7 @@
 /*
  * Every refusal of every call, at every record and in every way; every pair of refusals that one
- * input can deserve, wherever both stand; and all of them at once, mended one by one.
+ * input can deserve, wherever both stand; and all of them at once, mended one by one. Each time
+ * nothing is written, and Page refuses alike with room for some and with room for none.
  */
 #include <stdio.h>
 #include <string.h>
@@ -25,6 +26,7 @@ static struct question good(enum call call) {
     for (size_t i = 0; i < N; i++)
         put_record(q.job, i, 101 + (int64_t)i, x[i], y[i], 10 * (int64_t)i);
     memset(&q.list, 0xC3, sizeof q.list);
+    lend_page(&q, 2 * N + 1);
     if (call == DRAW) {
         q.a = 4;
         q.b = 5;
@@ -83,6 +85,13 @@ static bool spoil(struct question *q, int number, size_t i, int way) {
     }
 }
 
+static void is_refused(struct question q, int number, int record) {
+    expect(&q, keeps(&q, refused(number, record)));
+    if (q.call != PAGE) return;
+    q.page_entries = 0;
+    expect(&q, keeps(&q, refused(number, record)));
+}
+
 /* Each refusal alone. */
 static void alone(enum call call, int number) {
     for (size_t i = 0; i < N; i++)
@@ -90,7 +99,7 @@ static void alone(enum call call, int number) {
             struct question q = good(call);
             if (!spoil(&q, number, i, way)) continue;
             check(fault_of(&q, number) == (int)i, &q, "the plain account finds another record");
-            expect(&q, keeps(&q, refused(number, (int)i)));
+            is_refused(q, number, (int)i);
         }
 }
 
@@ -104,7 +113,7 @@ static long both(enum call call, int one, int other) {
         if (!spoil(&q, one, i, way) || !spoil(&q, other, j, other_way)) continue;
         if (fault_of(&q, one) < 0 || fault_of(&q, other) < 0) continue;
         deserved++;
-        expect(&q, keeps(&q, refused(one, fault_of(&q, one))));
+        is_refused(q, one, fault_of(&q, one));
     }
     return deserved;
 }
@@ -128,9 +137,9 @@ static void longer_and_wrong(enum call call) {
     struct question q = good(call);
     swap_entries(&q, 4, 5);
     swap_entries(&q, 2, 3);
-    expect(&q, keeps(&q, refused(9, 3)));
+    is_refused(q, 9, 3);
     q.list.layout[1] = q.list.layout[0];
-    expect(&q, keeps(&q, refused(8, 1)));
+    is_refused(q, 8, 1);
 }
 
 /* Earlier checks at later records, as far as can be: a 12 at record 3 would mend the 5 at 4. */
@@ -145,16 +154,16 @@ static void mended_one_by_one(enum call call) {
         struct question q = good(call);
         for (const int *number = unmended; *number != 0; number++)
             spoil(&q, *number, record_for(*number), 0);
-        expect(&q, keeps(&q, refused(*unmended, (int)record_for(*unmended))));
+        is_refused(q, *unmended, (int)record_for(*unmended));
     }
 }
 
-/* Nothing at all: NULL with 0 for both lists. */
+/* Nothing at all: NULL with 0 for every list. */
 static void nothing(enum call call) {
     struct question q;
     memset(&q, 0, sizeof q);
     q.call = call;
-    expect(&q, keeps(&q, refused(1, 0)));
+    is_refused(q, 1, 0);
 }
 
 int main(void) {
@@ -163,7 +172,7 @@ int main(void) {
         nothing(call);
         for (const int *number = refusals_of[call]; *number != 0; number++) alone(call, *number);
         pairs(call);
-        if (call == MEASURE || call == NEXT) longer_and_wrong(call);
+        if (takes_layout(call)) longer_and_wrong(call);
         mended_one_by_one(call);
     }
     return done();

@@ -60,7 +60,7 @@ build() {
     file=$1 program=$2
     shift 2
     $cc $strict "$@" $static -o $out/$file \
-        tests/$program.c tests/trial.c tests/guard.c tests/boards.c tests/plain.c "$archive" ||
+        tests/$program.c tests/trial.c tests/questions.c tests/guard.c tests/boards.c tests/plain.c "$archive" ||
         { fail "$file does not compile"; false; }
 }
 
@@ -72,7 +72,7 @@ both() {
 }
 
 # The archive exports nothing but the calls, has no variables, and needs nothing but memcpy and its kin.
-exports=$($nm -g --defined-only "$archive" | sed -En '/ cheremysl_(first|next|measure|draw)$/!s/.* . //p')
+exports=$($nm -g --defined-only "$archive" | sed -En '/ cheremysl_(first|next|page|measure|draw)$/!s/.* . //p')
 others=$($nm "$archive" | sed -En '/ [BbCDdGgSs] | U /{/ U (mem(cpy|set|move|cmp)|_GLOBAL_OFFSET_TABLE_)$/!s/.* //p}')
 [ -z "$exports" ] && passed=$((passed + 1)) || fail "the archive exports" $exports
 [ -z "$others" ] && passed=$((passed + 1)) || fail "the archive has or needs" $others
@@ -87,11 +87,12 @@ done
 
 both sheets
 both refusals
-both random 200000 20000
-both fuzz 200000 20000
+both random 250000 25000
+both fuzz 250000 25000
 if [ $search ]; then
     both every 20000 2000
     both large 100 10
+    both pages 200 20
 fi
 # A stack of its own is not for the sanitizers. Bound at the start: binding a function when it is first called takes stack.
 build stack stack -std=c99 -O2 -Wl,-z,now && try stack $out/stack

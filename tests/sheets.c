@@ -20,6 +20,7 @@ static struct question about(enum call call, size_t n, const struct record *reco
         put_record(q.job, i, 101 + (int64_t)i, records[i].x, records[i].y, records[i].port);
     for (size_t k = 0; k < LIST_ROOM; k++) q.list.layout[k] = (uint16_t)(KEPT + k);
     q.count = n + 2;
+    lend_page(&q, 2 * n + 1);
     return q;
 }
 
@@ -35,14 +36,14 @@ static const struct record J5[] = {{10, 10, 0}, {20, 20, 10}, {30, 30, 20}};
 #define REFUSED(r, i) (-65536 * (r) - (i))
 #define END (-1)
 
-/* A job, a call, its weights, the layout given, the answer, the layout afterwards if another. */
+/* A job, a call, its weights, the layout given, the answer, the layout that was written, if any. */
 static const struct {
     const char *mark;
     const struct record *job;
     size_t n;
     enum call call;
     uint32_t length_weight, bend_weight;
-    int given[3], answer, after[3];
+    int given[3], answer, written[3];
 } sheets[] = {
     {"P1", J1, 1, FIRST, 1, 0, NONE, 5, {0}},
     {"P2", J1, 1, FIRST, 0, 1, NONE, 0, {0}},
@@ -61,6 +62,17 @@ static const struct {
     {"J4, weights 0, 0", J4, 2, FIRST, 0, 0, NONE, 0, {1, 0}},
     {"J4, weights 0, 0", J4, 2, NEXT, 0, 0, {1, 0}, 0, {0, 1}},
     {"J4, weights 0, 0", J4, 2, NEXT, 0, 0, {0, 1}, END, NONE},
+    /* Page from the same layouts: the one that follows, none, or Next's refusal. */
+    {"P4 as a page", J2, 2, PAGE, 1, 0, {1, 0}, REFUSED(9, 1), NONE},
+    {"P6 as a page", J3, 2, PAGE, 1, 0, {1, 0}, 1, {0, 1}},
+    {"P7 as a page", J3, 2, PAGE, 1, 0, {0, 1}, 0, NONE},
+    {"P8 as a page", J3, 2, PAGE, 1, 0, {0, 0}, REFUSED(8, 1), NONE},
+    {"P10 as a page", J4, 2, PAGE, 1, 0, {1, 0}, REFUSED(10, 0), NONE},
+    {"J4, weights 0, 0", J4, 2, PAGE, 0, 0, {1, 0}, 1, {0, 1}},
+    {"J4, weights 0, 0", J4, 2, PAGE, 0, 0, {0, 1}, 0, NONE},
+    {"J5's end", J5, 3, PAGE, 2, 3, {1, 2, 0}, 0, NONE},
+    {"J5 by pad height", J5, 3, PAGE, 1, 0, {0, 1, 2}, REFUSED(9, 1), NONE},
+    {"ports 7 apart", J2_7, 2, PAGE, 1, 0, {0, 1}, REFUSED(12, 1), NONE},
     /* What First and Next find, measured; their refusals, from Measure. */
     {"P1 measured", J1, 1, MEASURE, 1, 0, {0}, 5, NONE},
     {"P2 measured", J1, 1, MEASURE, 0, 1, {0}, 0, NONE},
@@ -82,9 +94,9 @@ static const struct {
     {"ports 7 apart", J2_7, 2, MEASURE, 1, 0, {0, 1}, REFUSED(12, 1), NONE},
 };
 
-static void put_layout(union list *list, const int *layout, size_t n) {
+static void put_layout(uint16_t *list, const int *layout, size_t n) {
     if (layout[0] < 0) return;
-    for (size_t i = 0; i < n; i++) list->layout[i] = (uint16_t)layout[i];
+    for (size_t i = 0; i < n; i++) list[i] = (uint16_t)layout[i];
 }
 
 static void worked_sheets(void) {
@@ -93,9 +105,9 @@ static void worked_sheets(void) {
         struct question q = about(sheets[k].call, sheets[k].n, sheets[k].job);
         q.a = sheets[k].length_weight;
         q.b = sheets[k].bend_weight;
-        put_layout(&q.list, sheets[k].given, sheets[k].n);
+        put_layout(q.list.layout, sheets[k].given, sheets[k].n);
         struct reply r = keeps(&q, sheets[k].answer);
-        put_layout(&r.list, sheets[k].after, sheets[k].n);
+        put_layout(q.call == PAGE ? r.page : r.list.layout, sheets[k].written, sheets[k].n);
         if (!expect(&q, r)) printf("  this was %s\n", sheets[k].mark);
         if (plain_reply(&q).answer != r.answer) check(false, &q, "the plain account differs");
     }
@@ -173,7 +185,7 @@ static struct question spaced(enum call call, size_t n, int apart) {
     }
     struct question q = call == DRAW ? draw_of(n, job, 0, 0) : about(call, n, job);
     if (call != DRAW) q.a = 1;
-    if (call == MEASURE || call == NEXT)
+    if (takes_layout(call))
         for (size_t i = 0; i < n; i++) q.list.layout[i] = (uint16_t)i;
     return q;
 }
@@ -194,7 +206,8 @@ static void is_refused(const struct question *q, int number, int record) {
 /* The reply to n straight leaders, for more records than the plain account can try too. */
 static void is_straight(const struct question *q) {
     int64_t n = (int64_t)records_of(q);
-    struct reply r = keeps(q, q->call == NEXT ? END : 5 * n * (n + 1));
+    int64_t none_follows = q->call == PAGE ? 0 : END;
+    struct reply r = keeps(q, takes_best(q->call) ? none_follows : 5 * n * (n + 1));
     for (int64_t i = 0; i < n && q->call == FIRST; i++) r.list.layout[i] = (uint16_t)i;
     if (q->call == DRAW)
         drawn(q, 2, (const uint32_t[]){0x40200000, 0, 0, 0});
@@ -258,7 +271,7 @@ static void room(enum call call) {
 static void give_best(struct question *q) {
     struct question first = *q;
     first.call = FIRST;
-    if (q->call == MEASURE || q->call == NEXT) q->list = plain_reply(&first).list;
+    if (takes_layout(q->call)) q->list = plain_reply(&first).list;
 }
 
 typedef void put_field(uint8_t *job, size_t i, int64_t value);

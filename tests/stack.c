@@ -50,9 +50,7 @@ static void prepare(void) {
     sigaction(SIGBUS, &action, NULL);
 }
 
-static void away_from_home(void) {
-    answer = call_library(&question, question.job, &question.list);
-}
+static void away_from_home(void) { answer = call_library(&question); }
 
 static unsigned char paint(size_t k, size_t coat) {
     return (unsigned char)(167 * k + 91 * coat + 13);
@@ -95,11 +93,12 @@ static void on_board(enum call call, enum board board) {
     question.a = call == DRAW ? 63 : 1;
     question.b = call == DRAW ? 0 : 1;
 #ifndef NO_SEARCH
-    if (call == NEXT)
+    if (takes_best(call))
         cheremysl_first(question.job, question.job_bytes, question.a, question.b,
                         question.list.layout, question.count);
 #endif
     if (call == MEASURE) any_untouching(question.job, 64, question.list.layout);
+    lend_page(&question, PAGE_ROOM);
     ask_on_small_stack();
     check(answer >= -1, &question, "refused");
     for (int step = 0; step < 3 && call == NEXT; step++) ask_on_small_stack();

@@ -8,28 +8,43 @@
 #include <string.h>
 #include <unistd.h>
 
+#include "boards.h"
 #include "cheremysl.h"
 
 #define FAILURES_SHOWN 5
 
-const int *const refusals_of[] = {measure_checks, draw_checks, first_checks, next_checks};
-const char *const call_names[] = {"Measure", "Draw", "First", "Next"};
+const int *const refusals_of[] = {measure_checks, draw_checks, first_checks, next_checks,
+                                  next_checks};
+const char *const call_names[] = {"Measure", "Draw", "First", "Next", "Page"};
 
 /* ---- counting ---- */
 
 static long passed, failed;
 static const struct question *asked; /* for the report of a crash */
 
-static void show_list(const struct question *q, const union list *list) {
-    for (size_t k = 0; k < q->count; k++) {
+static void show_entries(const uint16_t *list, size_t count) {
+    for (size_t k = 0; k < count; k++) printf(" %u", (unsigned)list[k]);
+    printf("\n");
+}
+
+static void show_floats(const float *list, size_t count) {
+    for (size_t k = 0; k < count; k++) {
         uint32_t bits;
-        memcpy(&bits, list->points + k, sizeof bits);
-        if (q->call == DRAW)
-            printf(" %08" PRIx32, bits);
-        else
-            printf(" %u", (unsigned)list->layout[k]);
+        memcpy(&bits, list + k, sizeof bits);
+        printf(" %08" PRIx32, bits);
     }
     printf("\n");
+}
+
+static void show_lists(const struct question *q, const union list *list, const uint16_t *page) {
+    printf("list of %zu:", q->count);
+    if (q->call == DRAW)
+        show_floats(list->points, q->count);
+    else
+        show_entries(list->layout, q->count);
+    if (q->call != PAGE) return;
+    printf("  page of %zu:", q->page_entries);
+    show_entries(page, q->page_entries);
 }
 
 static void show(const struct question *q) {
@@ -37,8 +52,8 @@ static void show(const struct question *q) {
            q->b, q->job_bytes);
     for (size_t k = 0; k < q->job_bytes; k++)
         printf("%s%02x", k % 16 == 0 ? "\n    " : k % 4 == 0 ? " " : "", (unsigned)q->job[k]);
-    printf("\n  list of %zu:", q->count);
-    show_list(q, &q->list);
+    printf("\n  ");
+    show_lists(q, &q->list, q->page);
 }
 
 bool check(bool ok, const struct question *q, const char *what) {
@@ -71,7 +86,16 @@ void begin(void) {
     signal(SIGBUS, crashed);
 }
 
-/* ---- replies ---- */
+/* ---- questions ---- */
+
+bool takes_layout(enum call call) { return call == MEASURE || takes_best(call); }
+bool takes_best(enum call call) { return call == NEXT || call == PAGE; }
+
+void lend_page(struct question *q, size_t entries) {
+    size_t from = below(65536);
+    q->page_entries = entries;
+    for (size_t k = 0; k < PAGE_ROOM; k++) q->page[k] = (uint16_t)(from + 40503 * k);
+}
 
 size_t records_of(const struct question *q) { return q->job_bytes / 16; }
 
@@ -82,18 +106,41 @@ struct given given_of(const struct question *q) {
     return g;
 }
 
+/* ---- replies ---- */
+
 int64_t refused(int number, int record) { return -(65536 * (int64_t)number + record); }
 
 struct reply keeps(const struct question *q, int64_t answer) {
     struct reply r;
     r.answer = answer;
     r.list = q->list;
+    memcpy(r.page, q->page, sizeof r.page);
     return r;
 }
 
 struct reply gives(const struct question *q, int64_t answer, const uint16_t *layout) {
     struct reply r = keeps(q, answer);
     memcpy(r.list.layout, layout, records_of(q) * sizeof *layout);
+    return r;
+}
+
+struct reply fills(const struct question *q, const uint16_t *layouts, size_t apart, size_t count) {
+    struct reply r = keeps(q, 0);
+    size_t n = records_of(q);
+    for (size_t at = 0; (size_t)r.answer < count && at + n <= q->page_entries; at += n, r.answer++)
+        memcpy(r.page + at, layouts + apart * (size_t)r.answer, n * sizeof *r.page);
+    return r;
+}
+
+struct reply stepped(const struct question *q) {
+    struct question step = *q;
+    struct reply r = keeps(q, 0);
+    size_t n = records_of(q), at = 0;
+    int64_t answer;
+    step.call = NEXT;
+    for (; (answer = call_library(&step)) >= 0 && at + n <= q->page_entries; at += n, r.answer++)
+        memcpy(r.page + at, step.list.layout, n * sizeof *r.page);
+    if (answer < -1) r.answer = answer;
     return r;
 }
 
@@ -108,6 +155,9 @@ struct reply plain_reply(const struct question *q) {
         r.answer = plain_first(q->job, q->job_bytes, q->a, q->b, layout, q->count);
     if (q->call == NEXT)
         r.answer = plain_next(q->job, q->job_bytes, q->a, q->b, layout, q->count);
+    if (q->call == PAGE)
+        r.answer = plain_page(q->job, q->job_bytes, q->a, q->b, layout, q->count, r.page,
+                              q->page_entries);
     return r;
 }
 
@@ -120,46 +170,67 @@ static size_t bytes_of(const struct question *q) {
     return q->count * (q->call == DRAW ? sizeof(float) : sizeof(uint16_t));
 }
 
-int64_t call_library(const struct question *q, const uint8_t *job, void *list) {
+/* Other calls have no page. */
+static size_t page_bytes_of(const struct question *q) {
+    return q->call == PAGE ? q->page_entries * sizeof *q->page : 0;
+}
+
+/* ---- asking the library ---- */
+
+/* Over a job and lists that stand anywhere. */
+static int64_t call_over(const struct question *q, const uint8_t *job, void *list,
+                         uint16_t *page) {
+    (void)page;
     switch (q->call) {
     case MEASURE: return cheremysl_measure(job, q->job_bytes, q->a, q->b, list, q->count);
     case DRAW: return cheremysl_draw(job, q->job_bytes, q->a, q->b, list, q->count);
 #ifndef NO_SEARCH
     case FIRST: return cheremysl_first(job, q->job_bytes, q->a, q->b, list, q->count);
     case NEXT: return cheremysl_next(job, q->job_bytes, q->a, q->b, list, q->count);
+    case PAGE:
+        return cheremysl_page(job, q->job_bytes, q->a, q->b, list, q->count, page,
+                              q->page_entries);
 #endif
     default: abort();
     }
 }
 
+int64_t call_library(struct question *q) { return call_over(q, q->job, &q->list, q->page); }
+
 struct reply ask(const struct question *q, enum side side) {
-    static struct guarded jobs, read_only, writable;
+    static struct guarded jobs, read_only, writable, pages;
     static uint8_t job[JOB_ROOM];
     struct reply r = keeps(q, 0);
-    const struct guarded *lists = q->call == MEASURE ? &read_only : &writable;
+    bool only_read = q->call == MEASURE || q->call == PAGE;
+    const struct guarded *lists = only_read ? &read_only : &writable;
     if (jobs.size == 0) {
-        jobs = guard_page(false, 1);
-        read_only = guard_page(false, sizeof(uint16_t));
-        writable = guard_page(true, sizeof(float));
+        jobs = guard_memory(false, 1, JOB_ROOM);
+        read_only = guard_memory(false, sizeof(uint16_t), sizeof q->list.layout);
+        writable = guard_memory(true, sizeof(float), sizeof q->list);
+        pages = guard_memory(true, sizeof *q->page, sizeof q->page);
     }
     asked = q;
-    r.answer = call_library(q, guard_put(&jobs, side, q->job, q->job_bytes),
-                            guard_put(lists, side, &q->list, bytes_of(q)));
+    r.answer = call_over(q, guard_put(&jobs, side, q->job, q->job_bytes),
+                         guard_put(lists, side, &q->list, bytes_of(q)),
+                         guard_put(&pages, side, q->page, page_bytes_of(q)));
     asked = NULL;
-    if (!guard_get(lists, side, &r.list, bytes_of(q))) check(false, q, "written beside the list");
+    if (!guard_get(lists, side, &r.list, bytes_of(q)) ||
+        !guard_get(&pages, side, r.page, page_bytes_of(q)))
+        check(false, q, "written beside the list");
     if (!guard_get(&jobs, side, job, q->job_bytes) || memcmp(job, q->job, q->job_bytes) != 0)
         check(false, q, "the job was changed");
     return r;
 }
 
 static bool same(const struct question *q, const struct reply *r, const struct reply *expected) {
-    if (r->answer == expected->answer && memcmp(&r->list, &expected->list, bytes_of(q)) == 0)
+    if (r->answer == expected->answer && memcmp(&r->list, &expected->list, bytes_of(q)) == 0 &&
+        memcmp(r->page, expected->page, page_bytes_of(q)) == 0)
         return true;
     if (failed < FAILURES_SHOWN) {
-        printf("expected %" PRId64 ", list:", expected->answer);
-        show_list(q, &expected->list);
-        printf("answered %" PRId64 ", list:", r->answer);
-        show_list(q, &r->list);
+        printf("expected %" PRId64 ", ", expected->answer);
+        show_lists(q, &expected->list, expected->page);
+        printf("answered %" PRId64 ", ", r->answer);
+        show_lists(q, &r->list, r->page);
     }
     return false;
 }

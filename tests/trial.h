@@ -1,6 +1,6 @@
 /*
- * trial.h: a question is one call with all that it is given; a reply is its answer and the lent
- * list afterwards. Questions go to the library in guarded memory, or to the plain account.
+ * trial.h: a question is one call with all that it is given; a reply is its answer and the lists
+ * afterwards. Questions go to the library in guarded memory, or to the plain account.
  */
 #ifndef TRIAL_H
 #define TRIAL_H
@@ -13,15 +13,16 @@
 #include "plain.h"
 
 /* With NO_SEARCH the tests keep to the calls that search for nothing: the first two. */
-enum call { MEASURE, DRAW, FIRST, NEXT };
+enum call { MEASURE, DRAW, FIRST, NEXT, PAGE };
 #ifdef NO_SEARCH
 #define CALLS 2
 #else
-#define CALLS 4
+#define CALLS 5
 #endif
 
 #define JOB_ROOM 1056 /* two records more than the largest job */
 #define LIST_ROOM 80
+#define PAGE_ROOM 1343 /* 20 layouts of the largest job, and an entry too few for one more */
 
 union list {
     uint16_t layout[LIST_ROOM];
@@ -35,16 +36,26 @@ struct question {
     uint32_t a, b; /* length weight and bend weight; Draw: record number and port number */
     union list list;
     size_t count; /* of the list's entries or floats */
+    uint16_t page[PAGE_ROOM]; /* Page alone has it; its list is the given layout */
+    size_t page_entries;
 };
 
 struct reply {
     int64_t answer;
     union list list;
+    uint16_t page[PAGE_ROOM];
 };
 
 /* By call: its name, and the refusal numbers that it can give, in order of checks; 0 ends it. */
 extern const char *const call_names[];
 extern const int *const refusals_of[];
+
+/* Is the call given a layout? And does it refuse one that is not best? */
+bool takes_layout(enum call call);
+bool takes_best(enum call call);
+
+/* Lends a page of so many entries, which hold other numbers each time, all different. */
+void lend_page(struct question *q, size_t entries);
 
 /* How many records the job has, and the question as the plain account is given it. */
 size_t records_of(const struct question *q);
@@ -53,18 +64,24 @@ struct given given_of(const struct question *q);
 /* The answer of a refusal. */
 int64_t refused(int number, int record);
 
-/* The reply that leaves the list as it is; the one that puts a layout into its first n entries. */
+/* The reply that leaves the lists as they are; the one that puts a layout into the list. */
 struct reply keeps(const struct question *q, int64_t answer);
 struct reply gives(const struct question *q, int64_t answer, const uint16_t *layout);
+
+/* Page's reply where so many layouts follow, `apart` entries from the start of one to the next. */
+struct reply fills(const struct question *q, const uint16_t *layouts, size_t apart, size_t count);
+
+/* The reply to Page that calls of the library's Next make: one a layout that fits, and one more. */
+struct reply stepped(const struct question *q);
 
 /* The plain account's reply, and its word on one refusal number (plain_fault). */
 struct reply plain_reply(const struct question *q);
 int fault_of(const struct question *q, int number);
 
-/* The library's answer, over a job and a list that stand anywhere. */
-int64_t call_library(const struct question *q, const uint8_t *job, void *list);
+/* The library's answer, over the question's own job and lists. */
+int64_t call_library(struct question *q);
 
-/* The library's reply. It fails if anything but the lent list was changed. */
+/* The library's reply. It fails if anything but the list that it may write was changed. */
 struct reply ask(const struct question *q, enum side side);
 
 /* Asks the library, the lists at every side, and compares with the expected reply, to the bit. */

@@ -1,0 +1,19 @@
+/* questions.h: random questions, damage of every kind, and a report of the refusals that came. */
+#ifndef QUESTIONS_H
+#define QUESTIONS_H
+
+#include "trial.h"
+
+/* A random question of one call that is accepted, or whose layout touches or is not best. */
+void sound_question(struct question *q, enum call call);
+
+/* Changes one thing; the question may then deserve a refusal, or another. */
+void damage(struct question *q);
+
+/* How many entries a page has: room for none, or for some, exactly or with a remainder; n pads. */
+size_t any_room(size_t n);
+
+/* Prints how often each refusal of a call came; each must have. Counts by number; 0: accepted. */
+void report_refusals(const char *title, enum call call, const long *came);
+
+#endif
