@@ -11,16 +11,17 @@
  *      y
  *     30 |                 o 103         cheremysl_first     the earliest best sheet of a board
  *        |                 |             cheremysl_next      the best sheet after a given one
- *     20 *-----------o 102 |             cheremysl_measure   the total of any sheet that is sound
- *        |                 |             cheremysl_draw      one leader's points for the canvas
- *     10 *-----o 101       |
- *        |                 |             Best: no two leaders share a point, and no such sheet has
- *      0 *-----------------+             a smaller total of lengths and bends, each times a weight
- *        +-----+-----+-----+--> x        that the caller chooses.
- *        0    10    20    30
+ *     20 *-----------o 102 |             cheremysl_page      several best sheets after a given one
+ *        |                 |             cheremysl_measure   the total of any sheet that is sound
+ *     10 *-----o 101       |             cheremysl_draw      one leader's points for the canvas
+ *        |                 |
+ *      0 *-----------------+             Best: no two leaders share a point, and no such sheet has
+ *        +-----+-----+-----+--> x        a smaller total of lengths and bends, each times a weight
+ *        0    10    20    30             that the caller chooses.
  *
- * First and then Next until the end list every best sheet once and nothing else. Every accepted
- * job has one. Answers and lists are proved to be what this header says, for every input.
+ * First and then Next until the end list every best sheet once and nothing else; Page does the
+ * work of several calls of Next. Every accepted job has a best sheet. Answers and lists are
+ * proved to be what this header says, for every input.
  *
  * A MINUTE'S USE
  *
@@ -33,6 +34,8 @@
  *          show(layout, answer);
  *          answer = cheremysl_next(job, job_bytes, 1, 0, layout, CHEREMYSL_MAX_RECORDS);
  *      }
+ *
+ * The example sheets.c takes them page by page.
  *
  * THE JOB
  *
@@ -75,8 +78,8 @@
  *
  * Each call answers one signed 64-bit number:
  *
- *      0 or more           the total (First, Next, Measure; at most CHEREMYSL_MAX_TOTAL), or the
- *                          number of points, 2 or 3 (Draw)
+ *      0 or more           the total (First, Next, Measure; at most CHEREMYSL_MAX_TOTAL), the
+ *                          number of layouts written (Page), or of points, 2 or 3 (Draw)
  *      -1                  the end (Next only): no best layout comes after the given one
  *      -(65536 * r + i)    refusal number r with record number i
  *
@@ -89,7 +92,8 @@
  *       1   job_bytes is 0, not a multiple of 16, or above 1,024             0
  *       2   a weight is above 1,000                                          0
  *       3   the layout list has fewer than n entries, or Draw's list         0
- *           fewer than six floats (for a straight leader too)
+ *           fewer than six floats (for a straight leader too); Page's
+ *           page may have any number of entries
  *       4   a field is outside its range                                     first such record
  *       5   a port height is not above the one before                        first such record
  *       6   a name other than 0 stood in an earlier record                   first such record
@@ -104,6 +108,7 @@
  *
  *      First     1, 2, 3, 4, 5, 12, 6, 7
  *      Next      1, 2, 3, 4, 5, 12, 6, 7, 8, 9, 10
+ *      Page      1, 2, 3, 4, 5, 12, 6, 7, 8, 9, 10
  *      Measure   1, 2, 3, 4, 5, 12, 6, 7, 8, 9
  *      Draw      1, 3, 4, 5, 12, 6, 7, 11
  *
@@ -114,15 +119,18 @@
  * WHO OWNS WHAT, AND WHAT STAYS UNCHANGED
  *
  * All memory is the caller's, and the library keeps no pointer after a call. Every list is lent
- * as a pointer and the number of its elements (bytes of a job, entries of a layout, floats);
- * all of them must be there. NULL with 0 is an empty list; NULL with another number is not
- * allowed. A job may stand at any address; layouts and floats are aligned as uint16_t and float
- * always are. A list that a call writes must not overlap the job.
+ * as a pointer and the number of its elements (bytes of a job, entries of a layout or of a page,
+ * floats); all of them must be there. NULL with 0 is an empty list; NULL with another number is
+ * not allowed. A job may stand at any address; layouts, pages and floats are aligned as uint16_t
+ * and float always are. A list that a call writes must not overlap the job, nor Page's page the
+ * layout: to go on from the last layout of a page, copy it out first.
  *
  *      the job                       never written
- *      Measure's layout              never written
+ *      Page's layout, Measure's      never written
  *      after a refusal, or the end   nothing was written: every lent list is as it was
  *      First, Next with a total      entries 0 to n - 1 are replaced, those from n on unchanged
+ *      Page with k layouts           the page's entries 0 to k * n - 1 are replaced, those from
+ *                                    k * n on unchanged
  *      Draw with 2 or 3 points       the first 4 or 6 floats are replaced, those after unchanged
  *
  * Reply and lists depend on the arguments and on what the lists hold, and on nothing else.
@@ -132,10 +140,12 @@
  * The calls keep no state: no static variables, no heap, no locks, no files, no errno. Any
  * number of threads may call at once, on one job too, as long as no list that one of them
  * writes is used by another meanwhile. Working memory is on the stack: at most 64 KiB in any
- * call (CHEREMYSL_STACK_BYTES). tests/stack.c measures it at 64 records: under 37 KiB for First
- * and for Next, under 1 KiB for Measure and for Draw.
+ * call (CHEREMYSL_STACK_BYTES). tests/stack.c measures it at 64 records: under 38 KiB for First,
+ * Next and Page, under 1 KiB for Measure and for Draw.
  *
- * First and Next take time that grows with n cubed, Measure with n squared.
+ * First and Next take time that grows with n cubed, Measure with n squared. What grows with n
+ * cubed is the making of a table of least totals. Page does as Next does, and one table serves
+ * the whole page.
  */
 #ifndef CHEREMYSL_H
 #define CHEREMYSL_H
@@ -167,7 +177,7 @@ extern "C" {
 enum cheremysl_refusal {
     CHEREMYSL_BAD_SIZE = 1,       /* job_bytes is 0, not a multiple of 16, or above 1,024 */
     CHEREMYSL_BAD_WEIGHT = 2,     /* a weight is above 1,000 */
-    CHEREMYSL_NO_ROOM = 3,        /* fewer than n entries, or fewer than six floats */
+    CHEREMYSL_NO_ROOM = 3,        /* a layout of fewer than n entries, fewer than six floats */
     CHEREMYSL_BAD_FIELD = 4,      /* a field is outside its range */
     CHEREMYSL_PORT_NOT_ABOVE = 5, /* a port height is not above the one before */
     CHEREMYSL_NAME_TWICE = 6,     /* a name other than 0 stood in an earlier record */
@@ -213,6 +223,41 @@ int64_t cheremysl_first(const uint8_t *job, size_t job_bytes, uint32_t length_we
  */
 int64_t cheremysl_next(const uint8_t *job, size_t job_bytes, uint32_t length_weight,
                        uint32_t bend_weight, uint16_t *layout, size_t entries);
+
+/*
+ * Page: the best layouts after the given one, as many as a list has room for.
+ *
+ *      job, job_bytes      the job; only read
+ *      length_weight       as for Next
+ *      bend_weight
+ *      layout, entries     a list of at least n entries, whose first n hold a best layout, from
+ *                          anywhere: checked, not trusted; only read
+ *      page, page_entries  a lent list with room for page_entries / n layouts, to be filled; what
+ *                          it holds on entry makes no difference
+ *
+ * Answers how many layouts it wrote: as many as fit, or fewer where the end comes. They are those
+ * of that many calls of Next, one after the other, n entries each: number k, counted from 0,
+ * begins at page[k * n]. All have the total of the given one. The entries after them are
+ * unchanged, a rest too small for one more layout included.
+ *
+ * Never answers the end, -1. Fewer layouts than fit, page_entries / n, say it: no best layout comes
+ * after the last one written, or after the given one if there is none. A page that comes back full
+ * may have been the last one too; the page after it then gets 0.
+ *
+ * Room for none is allowed, NULL with 0 too: the answer is 0, after the same checks, and tells
+ * nothing about the end.
+ *
+ * Or refuses with 1 to 5, 12 or 6 to 10, checked in this order, where Next would and with the same
+ * record, and writes nothing. 3 speaks of the layout, never of the page.
+ *
+ * The page must overlap neither the job nor the layout. From a full page to the next:
+ *
+ *      memcpy(layout, page + (written - 1) * n, n * sizeof *layout);
+ *      written = cheremysl_page(job, job_bytes, 1, 0, layout, n, page, page_entries);
+ */
+int64_t cheremysl_page(const uint8_t *job, size_t job_bytes, uint32_t length_weight,
+                       uint32_t bend_weight, const uint16_t *layout, size_t entries,
+                       uint16_t *page, size_t page_entries);
 
 /*
  * Measure: the total of a layout without a touching pair, best or not.
