@@ -24,11 +24,11 @@ module _ (job : List ℕ) (lw bw : ℕ) (before : List ℕ) where
     pub end-answers : (after : List ℕ) → NextOn job lw bw before after End → NextAnswers job lw bw before Last after
     end-answers after n = (best-passed job lw bw before p (n .0), n .1, n .2)
 
-    pub not-best-answers : (after : List ℕ) → NextOn job lw bw before after NotBest → NextAnswers job lw bw before (Refused (refusal 10 0)) after
+    pub not-best-answers : (after : List ℕ) → NextOn job lw bw before after NotBest → NextAnswers job lw bw before (Refused (refusal 10 0 0)) after
     not-best-answers after n = (not-best-refused job lw bw before p (n .0), n .1)
 
     pub page-answers : (lent after : List ℕ) (r : Tally) → PageOn job lw bw before lent after (Walked r) → PageAnswers job lw bw before lent (Wrote (r .count)) after
     page-answers lent after r n = (best-passed job lw bw before p (n .0), n .1)
 
-    pub not-paged-answers : (lent after : List ℕ) → PageOn job lw bw before lent after NotWalked → PageAnswers job lw bw before lent (NotPaged (refusal 10 0)) after
+    pub not-paged-answers : (lent after : List ℕ) → PageOn job lw bw before lent after NotWalked → PageAnswers job lw bw before lent (NotPaged (refusal 10 0 0)) after
     not-paged-answers lent after n = (not-best-refused job lw bw before p (n .0), n .1)

@@ -9,7 +9,7 @@ use sheets::Step;
 ghost use mathlib.Core.Path.{_≡_};
 ghost use lib.ListN.{length};
 ghost use Rattle.paper.specs.Layouts.{boardOf, leader};
-ghost use Rattle.paper.specs.Refusals.{Passed, measureTrials, drawTrials};
+ghost use Rattle.paper.specs.Refusals.{Passed, refusal, measureTrials, drawTrials};
 ghost use Rattle.paper.specs.Promises.{FirstAnswers, NextAnswers, PageAnswers, MeasureAnswers, DrawAnswers};
 ghost use Rattle.paper.specs.laws.Drawn.{leaderDrawn};
 
@@ -24,6 +24,17 @@ pub fn first(job: &[u8], lw: u32, bw: u32, list: &mut [u16]) -> Answer
     }
 }
 
+// 10: the given layout has no touching pair but isn't best.
+fn not_best() -> Refusal
+    ensures { λ r. ⌜ r ≡ refusal 10 0 0 ⌝ }
+{
+    Refusal {
+        reason: 10,
+        at: 0,
+        earlier: 0,
+    }
+}
+
 // Next, once the layout is known to be untouching.
 fn step(job: &[u8], lw: u32, bw: u32, list: &mut [u16]) -> Answer
     requires { ⌜ Passed (measureTrials (now job) lw bw (now list)) ⌝ }
@@ -33,7 +44,7 @@ fn step(job: &[u8], lw: u32, bw: u32, list: &mut [u16]) -> Answer
     match s {
         Step::Total(t) => Answer::Total(t),
         Step::End => Answer::End,
-        Step::NotBest => Answer::Refused(Refusal { reason: 10, at: 0 }),
+        Step::NotBest => Answer::Refused(not_best()),
     }
 }
 
@@ -56,7 +67,7 @@ fn follow(job: &[u8], lw: u32, bw: u32, list: &[u16], page: &mut [u16]) -> Paged
     let s = sheets::page_on(job, lw, bw, list, page);
     match s {
         Reply::Walked(t) => Paged::Wrote(t.count),
-        Reply::NotBest => Paged::Refused(Refusal { reason: 10, at: 0 }),
+        Reply::NotBest => Paged::Refused(not_best()),
     }
 }
 

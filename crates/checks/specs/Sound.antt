@@ -17,7 +17,7 @@ use Rattle.paper.specs.laws.Tests.{badSize, badEntry}
 use Rattle.paper.specs.laws.Verdicts.{Finding, outcome, next, atWhole}
 
 outcome-sound : (r : ℕ) (f : Found) → outcome r f ≡ Sound → f ≡ Nowhere
-outcome-sound r (At i) e = absurd (let z : _≡_ {A = ℕ} 0 1 = cc in omega arith)
+outcome-sound r (At i j) e = absurd (let z : _≡_ {A = ℕ} 0 1 = cc in omega arith)
 outcome-sound r Nowhere e = refl
 
 -- The verdict after a check is sound: it was before, and the check found nothing.

@@ -1,4 +1,4 @@
-// The first record that fails a check: one loop for all checks, and one below it for those on two records.
+// The first record that fails a check: one loop for all checks that name one record, and one below it for those on two.
 use crate::Check;
 use crate::tests;
 use paper::verdict::Found;
@@ -19,7 +19,6 @@ fn clash(c: Check, job: &[u8], list: &[u16], n: u16, i: u16, j: u16) -> bool
         Check::Name => tests::same_name(job, i, j),
         Check::Place => tests::same_x(job, i, j),
         Check::Entry => tests::same_entry(list, i, j),
-        Check::Touch => tests::touches(job, list, i, j),
         Check::Space => false,
     }
 }
@@ -50,7 +49,6 @@ fn fails(c: Check, job: &[u8], list: &[u16], n: u16, i: u16) -> bool
         Check::Name => clashes(c, job, list, n, i),
         Check::Place => clashes(c, job, list, n, i),
         Check::Entry => (n <= list[i as usize]) | clashes(c, job, list, n, i),
-        Check::Touch => clashes(c, job, list, n, i),
         Check::Space => tests::too_close(job, i),
     }
 }
@@ -63,7 +61,7 @@ pub fn first_failing(c: Check, job: &[u8], list: &[u16], n: u16) -> Found
     let mut i = 0;
     while i < n {
         if fails(c, job, list, n, i) {
-            return Found::At(i);
+            return Found::At(i, 0);
         }
         i += 1;
     }

@@ -1,15 +1,18 @@
 // The checks of each call, in order. A verdict goes from check to check, and a refusal stands.
 use crate::Check;
 use crate::find;
+use crate::pairs;
 use crate::tests;
 use paper::Refusal;
 use paper::verdict::Found;
 use paper::verdict::Verdict;
 ghost use mathlib.Core.Path.{_≡_};
-ghost use Prim.Native.Nat.{_≤_};
+ghost use Prim.Native.Nat.{ℕ, _≤_, _<_};
 ghost use lib.ListN.{length};
 ghost use Rattle.paper.specs.Job.{count};
-ghost use Rattle.paper.specs.laws.Search.{first};
+ghost use Rattle.paper.specs.Layouts.{boardOf, held};
+ghost use Rattle.paper.specs.laws.Search.{first, firstPair};
+ghost use Rattle.paper.specs.laws.Tests.{touch};
 ghost use Rattle.paper.specs.laws.Verdicts.{outcome, next, run, atWhole, jobFindings, layoutFindings, firstFindings, measureFindings, drawFindings};
 ghost use Rattle.checks.specs.Dispatch.{testOf, Ready};
 
@@ -18,7 +21,11 @@ fn verdict(reason: u16, found: Found) -> Verdict
     ensures { λ r. ⌜ r ≡ outcome reason found ⌝ }
 {
     match found {
-        Found::At(i) => Verdict::Refused(Refusal { reason, at: i }),
+        Found::At(i, j) => Verdict::Refused(Refusal {
+            reason,
+            at: i,
+            earlier: j,
+        }),
         Found::Nowhere => Verdict::Sound,
     }
 }
@@ -30,7 +37,7 @@ fn try_whole(v: Verdict, reason: u16, fault: bool) -> Verdict
     match v {
         Verdict::Sound => {
             if fault {
-                verdict(reason, Found::At(0))
+                verdict(reason, Found::At(0, 0))
             } else {
                 Verdict::Sound
             }
@@ -46,6 +53,17 @@ fn try_records(v: Verdict, reason: u16, c: Check, job: &[u8], list: &[u16]) -> V
 {
     match v {
         Verdict::Sound => verdict(reason, find::first_failing(c, job, list, job::records(job))),
+        Verdict::Refused(r) => Verdict::Refused(r),
+    }
+}
+
+// One more check, of the records two at a time.
+fn try_touching(v: Verdict, job: &[u8], list: &[u16]) -> Verdict
+    requires { ⌜ (v ≡ Verdict.Sound → (length (now job) ≤ 1024) × (count (now job) ≤ length (now list)) × ((k : ℕ) → k < count (now job) → held (now list) k < count (now job))) ⌝ }
+    ensures { λ r. ⌜ r ≡ next v (9, firstPair (touch (boardOf (now (job .entry))) (held (now (list .entry)))) (count (now (job .entry)))) ⌝ }
+{
+    match v {
+        Verdict::Sound => verdict(9, pairs::first_touching(job, list, job::records(job))),
         Verdict::Refused(r) => Verdict::Refused(r),
     }
 }
@@ -69,7 +87,7 @@ pub fn of_layout(v: Verdict, job: &[u8], list: &[u16]) -> Verdict
     ensures { λ r. ⌜ r ≡ run v (layoutFindings (now (job .entry)) (now (list .entry))) ⌝ }
 {
     let v8 = try_records(v, 8, Check::Entry, job, list);
-    try_records(v8, 9, Check::Touch, job, list)
+    try_touching(v8, job, list)
 }
 
 // First, with room for so many entries: 1, 2, 3 and the job's.

@@ -13,7 +13,7 @@ ghost use Rattle.paper.specs.laws.Bounds.{Bounded, Counted};
 fn of_refusal(f: Refusal) -> i64
     ensures { λ r. ⌜ r ≡ refusalNumber f ⌝ }
 {
-    let n = 65536 * (f.reason as u64) + (f.at as u64);
+    let n = 4294967296 * (f.earlier as u64) + 65536 * (f.reason as u64) + (f.at as u64);
     -(n as i64)
 }
 

@@ -12,33 +12,39 @@ use Rattle.paper.specs.Layouts.{Board, boardOf, held, Touching, Untouchi
 
 -- ---- trials
 
--- A trial: its refusal number, how many records it is tried at, and what puts record i at fault.
+-- A trial: its refusal number, how many records it is tried at, what puts record i at fault, and which j may be named with it.
 pub record Trial : Type 1 where
   pub reason : ℕ
   pub among : ℕ
   pub fault : ℕ → Type 0
+  pub beside : ℕ → ℕ → Type 0
 
--- No record is at fault; record i is the first at fault.
+-- i is the smallest number of which P holds.
+pub record Smallest (P : ℕ → Type 0) (i : ℕ) : Type 0 where
+  pub here : P i
+  pub none-below : (k : ℕ) → k < i → ¬ P k
+
+-- No record is at fault; i is the smallest record at fault, and with it j the smallest that may be named.
 abbrev pub Clean : Trial → Type 0
 Clean t = (i : ℕ) → i < t .among → ¬ t .fault i
 
-pub record FirstFault (t : Trial) (i : ℕ) : Type 0 where
+pub record FirstFault (t : Trial) (i j : ℕ) : Type 0 where
   pub inside : i < t .among
-  pub here : t .fault i
-  pub none-before : (j : ℕ) → j < i → ¬ t .fault j
+  pub first : Smallest (t .fault) i
+  pub named : Smallest (t .beside i) j
 
--- Refusal r with record i.
-abbrev pub refusal : ℕ → ℕ → Refusal
-refusal r i = record { reason = r; at = i }
+-- Refusal r with record i, and with the earlier record j.
+abbrev pub refusal : ℕ → ℕ → ℕ → Refusal
+refusal r i j = record { reason = r; at = i; earlier = j }
 
--- Each trial is over the whole job before the next. All are passed; or the first that is not passed gives its number and its first record.
+-- Each trial is over the whole job before the next. All are passed; or the first that is not passed gives its number and its first records.
 abbrev pub Passed : List Trial → Type 0
 Passed [] = Unit {0}
 Passed (t ∷ ts) = Clean t × Passed ts
 
 abbrev pub RefusedBy : List Trial → Refusal → Type 0
 RefusedBy [] r = ⊥
-RefusedBy (t ∷ ts) r = ((r .reason ≡ t .reason) × FirstFault t (r .at)) ⊎ (Clean t × RefusedBy ts r)
+RefusedBy (t ∷ ts) r = ((r .reason ≡ t .reason) × FirstFault t (r .at) (r .earlier)) ⊎ (Clean t × RefusedBy ts r)
 
 -- ---- faults
 
@@ -84,12 +90,16 @@ BadEntry n list i = (n ≤ held list i) ⊎ Earlier (λ i j. held list i ≡ hel
 
 -- ---- each call's trials
 
--- A trial of each of n records, and one of the input as a whole, whose record number is 0.
+-- A trial of each of n records, and one of the input as a whole, whose record number is 0. These name no earlier record, which is 0.
 abbrev pub ofEach : ℕ → ℕ → (ℕ → Type 0) → Trial
-ofEach r n fault = record { reason = r; among = n; fault = fault }
+ofEach r n fault = record { reason = r; among = n; fault = fault; beside = λ i j. j ≡ 0 }
 
 abbrev pub ofWhole : ℕ → Type 0 → Trial
-ofWhole r P = record { reason = r; among = 1; fault = λ i. P }
+ofWhole r P = ofEach r 1 (λ i. P)
+
+-- A trial of each of n records with those before it, which names an earlier one, too.
+abbrev pub ofPairs : ℕ → ℕ → (ℕ → ℕ → Type 0) → Trial
+ofPairs r n R = record { reason = r; among = n; fault = Earlier R; beside = λ i j. (j < i) × R i j }
 
 -- 4 to 7, and 12 directly after 5: the job's records
 abbrev pub jobTrials : List ℕ → List Trial
@@ -101,11 +111,11 @@ jobTrials job =
     ofEach 7 (count job) (Earlier (SameX job)) ∷
     []
 
--- 8 and 9: the layout that the list holds. 9: a leader touches that of an earlier record
+-- 8 and 9: the layout that the list holds. 9: a leader touches that of an earlier record; both are named (02)
 abbrev pub layoutTrials : Board → List ℕ → List Trial
 layoutTrials b list =
     ofEach 8 (b .pads) (BadEntry (b .ports) list) ∷
-    ofEach 9 (b .pads) (Earlier (Touching b (held list))) ∷
+    ofPairs 9 (b .pads) (Touching b (held list)) ∷
     []
 
 -- 10: the given layout has no touching pair but isn't best

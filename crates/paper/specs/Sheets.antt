@@ -1,5 +1,5 @@
 -- DEFINITIONS. 01, "Sheets worked by hand": the jobs as bytes, and the sheets P1 to P12, each with its call, its input and its whole reply.
--- After P10 stands Measure's sheet for "its total is 85"; after P12, four for refusal 12. Page has its own list.
+-- After P10 stands Measure's sheet for "its total is 85"; after P12, four for refusal 12 and three for both records of 9. Page has its own list.
 use mathlib.Core.Path.{_≡_}
 use mathlib.Core.List.{List, [], _∷_, _++_}
 use Prim.Native.Nat.{ℕ, _/_, _%_}
@@ -32,6 +32,10 @@ J4 = padAndPort 101 10 15 10 ++ padAndPort 102 20 60 20
 abbrev pub J5 : List ℕ
 J5 = padAndPort 101 10 10 0 ++ padAndPort 102 20 20 10 ++ padAndPort 103 30 30 20
 
+-- Led to ports 1, 3, 2 and 0, record 3 touches 0, and 2 touches 1: the smaller of 3 and 2 counts.
+abbrev pub twoPairs : List ℕ
+twoPairs = padAndPort 101 10 0 0 ++ padAndPort 102 20 15 10 ++ padAndPort 103 30 20 20 ++ padAndPort 104 40 5 30
+
 -- A sheet: call, job, weights, the list at entry, the answer, the list at exit.
 pub data Call : Type 0 where
   First Next Measure : Call
@@ -63,14 +67,18 @@ abbrev pub sheet : Call → List ℕ → ℕ → ℕ → List ℕ → Answer →
 sheet call job lw bw before answer after = record { call = call; job = job; lw = lw; bw = bw; before = before; answer = answer; after = after }
 
 abbrev pub refused : ℕ → ℕ → Answer
-refused r i = Refused (refusal r i)
+refused r i = Refused (refusal r i 0)
+
+-- refusal 9 with the two records
+abbrev pub touching : ℕ → ℕ → Answer
+touching i j = Refused (refusal 9 i j)
 
 abbrev pub sheets : List Sheet
 sheets =
     sheet First J1 1 0 (9 ∷ []) (Total 5) (0 ∷ []) ∷
     sheet First J1 0 1 (9 ∷ []) (Total 0) (0 ∷ []) ∷
     sheet First J2 1 0 (9 ∷ 9 ∷ []) (Total 50) (0 ∷ 1 ∷ []) ∷
-    sheet Next J2 1 0 (1 ∷ 0 ∷ []) (refused 9 1) (1 ∷ 0 ∷ []) ∷
+    sheet Next J2 1 0 (1 ∷ 0 ∷ []) (touching 1 0) (1 ∷ 0 ∷ []) ∷
     sheet First J3 1 0 (9 ∷ 9 ∷ []) (Total 40) (1 ∷ 0 ∷ []) ∷
     sheet Next J3 1 0 (1 ∷ 0 ∷ []) (Total 40) (0 ∷ 1 ∷ []) ∷
     sheet Next J3 1 0 (0 ∷ 1 ∷ []) End (0 ∷ 1 ∷ []) ∷
@@ -79,11 +87,14 @@ sheets =
     sheet Next J4 1 0 (1 ∷ 0 ∷ []) (refused 10 0) (1 ∷ 0 ∷ []) ∷
     sheet Measure J4 1 0 (1 ∷ 0 ∷ []) (Total 85) (1 ∷ 0 ∷ []) ∷
     sheet First J5 2 3 (9 ∷ 9 ∷ 9 ∷ []) (Total 183) (1 ∷ 2 ∷ 0 ∷ []) ∷
-    sheet Measure J5 1 0 (0 ∷ 1 ∷ 2 ∷ []) (refused 9 1) (0 ∷ 1 ∷ 2 ∷ []) ∷
+    sheet Measure J5 1 0 (0 ∷ 1 ∷ 2 ∷ []) (touching 1 0) (0 ∷ 1 ∷ 2 ∷ []) ∷
     sheet First (padAndPort 101 10 0 10 ++ padAndPort 102 20 30 18) 1 0 (9 ∷ 9 ∷ []) (Total 52) (0 ∷ 1 ∷ []) ∷
     sheet First (padAndPort 101 10 0 10 ++ padAndPort 102 20 30 17) 1 0 (9 ∷ 9 ∷ []) (refused 12 1) (9 ∷ 9 ∷ []) ∷
     sheet First (padAndPort 101 10 0 10 ++ padAndPort 102 20 30 17 ++ padAndPort 103 30 40 17) 1 0 (9 ∷ 9 ∷ 9 ∷ []) (refused 5 2) (9 ∷ 9 ∷ 9 ∷ []) ∷
     sheet First (padAndPort 101 10 0 10 ++ padAndPort 102 20 30 17 ++ padAndPort 101 30 40 30) 1 0 (9 ∷ 9 ∷ 9 ∷ []) (refused 12 1) (9 ∷ 9 ∷ 9 ∷ []) ∷
+    sheet Measure J5 1 0 (1 ∷ 0 ∷ 2 ∷ []) (touching 2 1) (1 ∷ 0 ∷ 2 ∷ []) ∷
+    sheet Measure J5 1 0 (2 ∷ 0 ∷ 1 ∷ []) (touching 2 0) (2 ∷ 0 ∷ 1 ∷ []) ∷
+    sheet Next twoPairs 1 0 (1 ∷ 3 ∷ 2 ∷ 0 ∷ []) (touching 2 1) (1 ∷ 3 ∷ 2 ∷ 0 ∷ []) ∷
     []
 
 -- ---- Page
@@ -105,13 +116,14 @@ abbrev pub pageSheet : List ℕ → ℕ → ℕ → List ℕ → List ℕ → Pa
 pageSheet job lw bw given before answer after = record { job = job; lw = lw; bw = bw; given = given; before = before; answer = answer; after = after }
 
 abbrev pub pageRefused : ℕ → ℕ → Paged
-pageRefused r i = NotPaged (refusal r i)
+pageRefused r i = NotPaged (refusal r i 0)
 
 -- J3 with a third pad and a third port: (1 2 0), (1 0 2) and (0 1 2) are best.
 abbrev pub J3plus : List ℕ
 J3plus = J3 ++ padAndPort 103 30 15 30
 
--- In this order: fewer than fit, where the end comes; none after the last; no room for one; as many as fit; two; a refusal; a refusal without room.
+-- In this order: fewer than fit, where the end comes; none after the last; no room for one; as many as fit; two; a refusal; a refusal without room;
+-- both records of 9.
 abbrev pub pages : List PageSheet
 pages =
     pageSheet J3 1 0 (1 ∷ 0 ∷ []) (9 ∷ 9 ∷ 9 ∷ 9 ∷ 9 ∷ []) (Wrote 1) (0 ∷ 1 ∷ 9 ∷ 9 ∷ 9 ∷ []) ∷
@@ -121,4 +133,5 @@ pages =
     pageSheet J3plus 1 0 (1 ∷ 2 ∷ 0 ∷ []) (9 ∷ 9 ∷ 9 ∷ 9 ∷ 9 ∷ 9 ∷ 9 ∷ []) (Wrote 2) (1 ∷ 0 ∷ 2 ∷ 0 ∷ 1 ∷ 2 ∷ 9 ∷ []) ∷
     pageSheet J3 1 0 (0 ∷ 0 ∷ []) (9 ∷ 9 ∷ 9 ∷ 9 ∷ 9 ∷ []) (pageRefused 8 1) (9 ∷ 9 ∷ 9 ∷ 9 ∷ 9 ∷ []) ∷
     pageSheet J4 1 0 (1 ∷ 0 ∷ []) [] (pageRefused 10 0) [] ∷
+    pageSheet J5 1 0 (1 ∷ 0 ∷ 2 ∷ []) (9 ∷ 9 ∷ 9 ∷ []) (NotPaged (refusal 9 2 1)) (9 ∷ 9 ∷ 9 ∷ []) ∷
     []

@@ -14,6 +14,7 @@ pub mod Order
 pub mod Trials
 pub mod Judged
 pub mod Accepted
+pub mod Named
 pub mod Numbers
 pub mod Bounds
 -- Drawn points:

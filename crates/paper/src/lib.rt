@@ -1,10 +1,11 @@
 // The types of the calls' answers. What they mean is in specs/: start at docs/READING.md.
 pub mod verdict;
 
-// Why a call refuses, by number, and the record at fault.
+// Why a call refuses, by number, and the record at fault; in refusal 9 the earlier record that it touches as well, which is 0 in every other.
 pub struct Refusal {
     pub reason: u16,
     pub at: u16,
+    pub earlier: u16,
 }
 
 // What First, Next and Measure answer.

@@ -127,9 +127,13 @@ fn say_number(before: &[u8], n: u64) {
     io::print_decimal(STDOUT_FILENO, n);
 }
 
+// Refusal 9 has two records.
 fn say_refusal(f: Refusal) {
     say_number(b" = refused ", f.reason as u64);
     say_number(b" record ", f.at as u64);
+    if f.reason == 9 {
+        say_number(b" with ", f.earlier as u64);
+    }
 }
 
 // What stands between the entries of a list.

@@ -18,6 +18,9 @@ enum-known-s c = search needs
 enum-told : tie.Need-enum-told
 enum-told c = search needs
 
+not-best-requires : tie.Need-not-best-requires
+not-best-requires c κs = search needs
+
 same-length : tie.Need-same-length
 same-length c = search needs
 
@@ -34,12 +37,13 @@ same-length-2 c = search needs
 
 returns-2 : tie.Need-returns-2
 returns-2 c =
-    let d = c .before .before .before .before in
+    let d = c .before .before .before .before .before in
     let s = d .before .before .before .before .before in
     let a = s .args in
-    not-paged-answers (now (a .job)) (a .lw) (a .bw) (now (a .list)) (s .pre) (now (a .page)) _ (rw (c .enum-told .given .1) at (d .page-on .ensures))
+    rw (c .not-best .ensures)
+    (not-paged-answers (now (a .job)) (a .lw) (a .bw) (now (a .list)) (s .pre) (now (a .page)) _ (rw (c .before .enum-told .given .1) at (d .page-on .ensures)))
 
 pub follow-spec : {M : Type 1} → statement M
 follow-spec =
     tie.close
-    (tie.spec page-on-requires enum-known-s enum-told same-length returns same-length-2 returns-2)
+    (tie.spec page-on-requires enum-known-s enum-told not-best-requires same-length returns same-length-2 returns-2)

@@ -21,6 +21,9 @@ enum-told c = search needs
 enum-told-2 : tie.Need-enum-told-2
 enum-told-2 c = search needs
 
+not-best-requires : tie.Need-not-best-requires
+not-best-requires c κs = search needs
+
 same-length : tie.Need-same-length
 same-length c = search needs
 
@@ -47,10 +50,11 @@ same-length-3 c = search needs
 
 returns-3 : tie.Need-returns-3
 returns-3 c =
-    let d = c .before .before .before .before in
+    let d = c .before .before .before .before .before in
     let s = d .before .before .before .before in
     let a = s .args in
-    not-best-answers (now (a .job)) (a .lw) (a .bw) (now (a .list)) (s .pre) (d .next-on .last .1 .1 .1 .0) (rw (c .enum-told2 .given .1) at (d .next-on .ensures))
+    rw (c .not-best .ensures)
+    (not-best-answers (now (a .job)) (a .lw) (a .bw) (now (a .list)) (s .pre) (d .next-on .last .1 .1 .1 .0) (rw (c .before .enum-told2 .given .1) at (d .next-on .ensures)))
 
 pub step-spec : {M : Type 1} → statement M
 step-spec =
@@ -60,6 +64,7 @@ step-spec =
     enum-known-s
     enum-told
     enum-told-2
+    not-best-requires
     same-length
     returns
     same-length-2

@@ -16,7 +16,7 @@ use Rattle.paper.specs.Layouts.{boardOf, held, weighted, total, Layout, 
 use Rattle.paper.specs.Refusals.{BadSize, BadEntry, Passed, RefusedBy, refusal}
 use Rattle.paper.specs.Refusals.{jobTrials, firstTrials, measureTrials, nextTrials, drawTrials, layoutTrials, bestTrial, numberTrial}
 use Rattle.paper.specs.laws.Proper.{Differ, Rising, Proper}
-use Rattle.paper.specs.laws.Trials.{passed-append, append-passed, refused-left, refused-right}
+use Rattle.paper.specs.laws.Trials.{alone, passed-append, append-passed, refused-left, refused-right}
 use Rattle.paper.specs.laws.Judged.{passed-differ}
 use Rattle.paper.specs.laws.Totals.{total-bound}
 
@@ -135,10 +135,10 @@ module _ (job : List ℕ) (lw bw : ℕ) (list : List ℕ) where
 
   -- if the layout is not a best one, Next refuses by 10.
   pub not-best-refused : Passed (measureTrials job lw bw list) → ¬ Best (boardOf job) (weighted (boardOf job) lw bw) (held list)
-      → RefusedBy (nextTrials job lw bw list) (refusal 10 0)
+      → RefusedBy (nextTrials job lw bw list) (refusal 10 0 0)
   not-best-refused p n =
-      refused-right (measureTrials job lw bw list) (bestTrial (boardOf job) (weighted (boardOf job) lw bw) list ∷ []) (refusal 10 0) p
-      (inl (refl, record { inside = omega arith; here = (measure-accepted p .1, n); none-before = λ j l. absurd (omega arith) }))
+      refused-right (measureTrials job lw bw list) (bestTrial (boardOf job) (weighted (boardOf job) lw bw) list ∷ []) (refusal 10 0 0) p
+      (inl (refl, record { inside = omega arith; first = record { here = (measure-accepted p .1, n); none-below = λ j l. absurd (omega arith) }; named = alone }))
 
   -- What Measure refuses, Next refuses alike.
   pub measure-refused : (r : Refusal) → RefusedBy (measureTrials job lw bw list) r → RefusedBy (nextTrials job lw bw list) r

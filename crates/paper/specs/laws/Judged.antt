@@ -1,11 +1,9 @@
 -- Each test of laws/Tests says what its fault says, so that the findings of laws/Verdicts give the right verdict on every input.
-use mathlib.Core.Path.{_≡_, subst}
-use mathlib.Core.Logic.{_≢_, _⊎_, inl, inr, ⊎-elim, _↔_, Iff·trans}
+use mathlib.Core.Path.{_≡_}
+use mathlib.Core.Logic.{_≢_, _⊎_, inl, inr, _↔_, Iff·trans}
 use mathlib.Core.Bool.{Bool, not, _||_, or-assoc}
 use mathlib.Core.List.{List}
-use Prim.Native.Nat.{ℕ, zero, suc, _-_, _%_, _≤_, _<_}
-use native.Mathlib.Nat.{le-of-suc-le-suc, not-suc-le-zero, eq-or-lt-of-le}
-use native.Mathlib.Omega.{arith}
+use Prim.Native.Nat.{ℕ, _-_, _%_, _≤_, _<_}
 use lib.Dec.{T, eqb, leb, ltb}
 use lib.ListN.{length}
 use lib.IntN.{ℤ, pos, negsuc, negℤ, _-ℤ_}
@@ -15,30 +13,14 @@ use Rattle.numbers.specs.Tests.{and-iff, or-iff, not-iff, leb-iff, ltb-iff, le-
 use Rattle.paper.specs.Job.{count, nameOf, reservedOf, xOf, yOf, portOf}
 use Rattle.paper.specs.Layouts.{Board, boardOf, held, leader, Touching}
 use Rattle.paper.specs.Refusals.{Passed, jobTrials, firstTrials, measureTrials, drawTrials}
-use Rattle.paper.specs.Refusals.{Earlier, BadSize, BadWeight, Outside, BadField, NotAbove, TooClose, SameName, SameX, BadEntry}
+use Rattle.paper.specs.Refusals.{BadSize, BadWeight, Outside, BadField, NotAbove, TooClose, SameName, SameX, BadEntry}
 use Rattle.paper.specs.declared.verdict.Verdict.the-variants.{Sound}
-use Rattle.paper.specs.laws.Search.{some}
-use Rattle.paper.specs.laws.Tests.{badSize, badWeight, outside, badField, notAbove, tooClose, sameName, sameX, sameEntry, earlier, badEntry, touch, badNumber}
+use Rattle.paper.specs.laws.Search.{earlier}
+use Rattle.paper.specs.laws.Tests.{badSize, badWeight, outside, badField, notAbove, tooClose, sameName, sameX, sameEntry, badEntry, touch, badNumber}
 use Rattle.paper.specs.laws.Verdicts.{run, jobFindings, layoutFindings, firstFindings, measureFindings, drawFindings}
-use Rattle.paper.specs.laws.Trials.{Judged, Tried, finds-first, finds-whole, tried-none, tried-more, tried-append}
+use Rattle.paper.specs.laws.Trials.{Judged, Tried, earlier-iff, finds-first, finds-whole, finds-pairs, tried-none, tried-more, tried-append}
 use Rattle.paper.specs.laws.Proper.{Differ}
 use Rattle.paper.specs.laws.Touching.{touching-iff}
-
--- ---- tests in general
-
--- The test holds at some number below n.
-pub some-iff : (p : ℕ → Bool) (P : ℕ → Type 0) (n : ℕ) → ((j : ℕ) → j < n → T (p j) ↔ P j) → T (some p n) ↔ ((j : ℕ) × (j < n) × P j)
-unfolding some
-some-iff p P zero says = ((λ t. absurd t), (λ (j, l, x). absurd (not-suc-le-zero l)))
-some-iff p P (suc n) says =
-    Iff·trans (or-iff (some p n) (p n) (some-iff p P n (λ j l. says j (omega arith))) (says n (omega arith))) (
-      ⊎-elim (λ (j, l, x). (j, omega arith, x)) (λ x. (n, omega arith, x)),
-      λ (j, l, x). ⊎-elim (λ e. inr (subst P e x)) (λ k. inl (j, k, x)) (eq-or-lt-of-le (le-of-suc-le-suc l)),
-    )
-
--- It holds of record i and an earlier one.
-pub earlier-iff : (q : ℕ → ℕ → Bool) (R : ℕ → ℕ → Type 0) (i : ℕ) → ((j : ℕ) → j < i → T (q i j) ↔ R i j) → T (earlier q i) ↔ Earlier R i
-earlier-iff q R i says = some-iff (q i) (R i) i says
 
 -- ---- what each fault's test says
 
@@ -101,9 +83,9 @@ bad-entry-iff n list i =
     or-iff (leb n (held list i)) (earlier (sameEntry list) i) (leb-iff n (held list i))
     (earlier-iff (sameEntry list) (λ i j. held list i ≡ held list j) i (λ j l. eqb-iff (held list i) (held list j)))
 
--- 9, for a pad whose x differs from that of every earlier one.
-pub touch-earlier-iff : (b : Board) (f : ℕ → ℕ) (i : ℕ) → ((j : ℕ) → j < i → b .x i ≢ b .x j) → T (earlier (touch b f) i) ↔ Earlier (Touching b f) i
-touch-earlier-iff b f i differ = earlier-iff (touch b f) (Touching b f) i (λ j l. touching-iff (leader b i (f i)) (leader b j (f j)) (differ j l))
+-- 9, for two pads whose x differ.
+pub touch-iff : (b : Board) (f : ℕ → ℕ) (i j : ℕ) → b .x i ≢ b .x j → T (touch b f i j) ↔ Touching b f i j
+touch-iff b f i j differ = touching-iff (leader b i (f i)) (leader b j (f j)) differ
 
 -- 11
 pub bad-number-iff : (n i q : ℕ) → T (badNumber n i q) ↔ ((n ≤ i) ⊎ (n ≤ q))
@@ -114,11 +96,11 @@ bad-number-iff n i q = or-iff (leb n i) (leb n q) (leb-iff n i) (leb-iff n q)
 job-tried : (job : List ℕ) → Tried (jobFindings job) (jobTrials job)
 unfolding jobFindings
 job-tried job =
-    tried-more (finds-first _ (badField job) (λ i l. bad-field-iff job i)) (λ _.
-    tried-more (finds-first _ (notAbove job) (λ i l. not-above-iff job i)) (λ _.
-    tried-more (finds-first _ (tooClose job) (λ i l. too-close-iff job i)) (λ _.
-    tried-more (finds-first _ (earlier (sameName job)) (λ i l. earlier-iff (sameName job) (SameName job) i (λ j k. same-name-iff job i j))) (λ _.
-    tried-more (finds-first _ (earlier (sameX job)) (λ i l. earlier-iff (sameX job) (SameX job) i (λ j k. same-x-iff job i j))) (λ _.
+    tried-more (finds-first 4 _ _ (badField job) (λ i l. bad-field-iff job i)) (λ _.
+    tried-more (finds-first 5 _ _ (notAbove job) (λ i l. not-above-iff job i)) (λ _.
+    tried-more (finds-first 12 _ _ (tooClose job) (λ i l. too-close-iff job i)) (λ _.
+    tried-more (finds-first 6 _ _ (earlier (sameName job)) (λ i l. earlier-iff (sameName job) (SameName job) i (λ j k. same-name-iff job i j))) (λ _.
+    tried-more (finds-first 7 _ _ (earlier (sameX job)) (λ i l. earlier-iff (sameX job) (SameX job) i (λ j k. same-x-iff job i j))) (λ _.
     tried-none)))))
 
 first-tried : (job : List ℕ) (lw bw room : ℕ) → Tried (firstFindings job lw bw room) (firstTrials job lw bw room)
@@ -136,9 +118,9 @@ measure-tried : (job : List ℕ) (lw bw : ℕ) (list : List ℕ) → Tried (meas
 unfolding measureFindings layoutFindings
 measure-tried job lw bw list =
     tried-append (first-tried job lw bw (length list)) (λ passed.
-    tried-more (finds-first _ (badEntry (count job) list) (λ i l. bad-entry-iff (count job) list i)) (λ _.
-    tried-more (finds-first _ (earlier (touch (boardOf job) (held list))) (λ i l.
-    touch-earlier-iff (boardOf job) (held list) i (λ j k. passed-differ job (passed .1 .1 .1) i j k l))) (λ _.
+    tried-more (finds-first 8 _ _ (badEntry (count job) list) (λ i l. bad-entry-iff (count job) list i)) (λ _.
+    tried-more (finds-pairs 9 (count job) (Touching (boardOf job) (held list)) (touch (boardOf job) (held list)) (λ i j l k.
+    touch-iff (boardOf job) (held list) i j (passed-differ job (passed .1 .1 .1) i j k l))) (λ _.
     tried-none)))
 
 draw-tried : (job : List ℕ) (i q room : ℕ) → Tried (drawFindings job i q room) (drawTrials job i q room)

@@ -78,7 +78,7 @@ module _ (job : List ℕ) (lw bw : ℕ) (before : List ℕ) where
     where
       judge : Passed (measureTrials job lw bw before) → Dec (Best (boardOf job) (weighted (boardOf job) lw bw) (held before)) → TriedByNext job lw bw before
       judge p (yes best) = inl (p, best)
-      judge p (no worse) = inr (refusal 10 0, not-best-refused job lw bw before p worse)
+      judge p (no worse) = inr (refusal 10 0 0, not-best-refused job lw bw before p worse)
 
       go : (v : Verdict) → Judged v (measureTrials job lw bw before) → TriedByNext job lw bw before
       go Sound p =

@@ -1,11 +1,11 @@
 -- C's number tells the answer: the numbers of refusals are apart from totals, from the end and from one another.
-use mathlib.Core.Path.{_≡_, refl, sym, ap, subst}
+use mathlib.Core.Path.{_≡_, refl, sym, ap, subst, _∙_}
 use mathlib.Core.Logic.{inl, inr}
 use mathlib.Core.List.{List, [], _∷_}
-use Prim.Native.Nat.{ℕ, _+_, _*_, _≤_, _<_}
+use Prim.Native.Nat.{ℕ, zero, suc, _+_, _*_, _/_, _%_, _≤_, _<_}
 use native.Mathlib.Omega.{arith}
 use lib.ListN.{length}
-use lib.IntN.{pos, negsuc, negℤ}
+use lib.IntN.{pos, negsuc, negℤ, natAbs}
 use lib.Signed.{_≤ℤ_}
 use lib.Ieee.{Float}
 use Rattle.numbers.specs.Whole.{whole, eq-num, neg-nums}
@@ -18,37 +18,56 @@ use Rattle.paper.specs.declared.Three.{Three}
 use Rattle.paper.specs.declared.Drawn.the-variants.{Straight, Bent, Refused as NotDrawn}
 use Rattle.paper.specs.Layouts.{boardOf, weighted}
 use Rattle.paper.specs.Refusals.{Trial, Clean, RefusedBy, firstTrials, measureTrials, nextTrials, drawTrials, bestTrial}
-use Rattle.paper.specs.Promises.{refusalNumber, number, FirstAnswers, NextAnswers, PageAnswers, MeasureAnswers, DrawAnswers}
+use Rattle.paper.specs.Promises.{refusalNumber, refusalIn, number, FirstAnswers, NextAnswers, PageAnswers, MeasureAnswers, DrawAnswers}
 use Rattle.paper.specs.Promises.{FirstPromise, NextPromise, PagePromise, MeasurePromise, DrawPromise}
 use Rattle.paper.specs.laws.Trials.{refused-left}
 use Rattle.paper.specs.laws.Accepted.{few-records}
 
 -- ---- a refusal's number
 
--- A refusal with a number of 1 or more and a record number of 16 bits. C's number of it is -65,536 or less, and tells both.
+abs-neg : (n : ℕ) → natAbs (negℤ (pos n)) ≡ n
+abs-neg zero = refl
+abs-neg (suc n) = refl
+
+-- A refusal with a number of 1 or more, and this and its record number of 16 bits. C's number of it is -65,536 or less,
 abbrev pub SmallRefusal : Refusal → Type 0
-SmallRefusal r = (1 ≤ r .reason) × (r .at < 65536)
+SmallRefusal r = (1 ≤ r .reason) × (r .reason < 65536) × (r .at < 65536)
+
+abbrev sizeOf : Refusal → ℕ
+sizeOf r = 4294967296 * r .earlier + 65536 * r .reason + r .at
 
 pub refusal-low : (r : Refusal) → SmallRefusal r → refusalNumber r ≤ℤ negℤ (pos 65536)
-refusal-low r s = omega (whole, neg-nums (pos (65536 * r .reason + r .at)), neg-nums (pos 65536))
+refusal-low r s = omega (whole, neg-nums (pos (sizeOf r)), neg-nums (pos 65536))
 
 refusal-apart : (r : Refusal) (t : ℕ) → SmallRefusal r → pos t ≡ refusalNumber r → ⊥
-refusal-apart r t s e = omega (arith, eq-num (pos t) (refusalNumber r) e, neg-nums (pos (65536 * r .reason + r .at)))
+refusal-apart r t s e = omega (arith, eq-num (pos t) (refusalNumber r) e, neg-nums (pos (sizeOf r)))
 
 refusal-not-end : (r : Refusal) → SmallRefusal r → negsuc 0 ≡ refusalNumber r → ⊥
-refusal-not-end r s e = omega (arith, eq-num (negsuc 0) (refusalNumber r) e, neg-nums (pos (65536 * r .reason + r .at)))
+refusal-not-end r s e = omega (arith, eq-num (negsuc 0) (refusalNumber r) e, neg-nums (pos (sizeOf r)))
 
+-- THEOREM: and from it the caller gets the refusal back: its number and both its records.
+pub refusal-back : (r : Refusal) → SmallRefusal r → refusalIn (refusalNumber r) ≡ r
+refusal-back r s = λ i. record { reason = reason i; at = at i; earlier = earlier i }
+  where
+    size : natAbs (refusalNumber r) ≡ sizeOf r
+    size = abs-neg (sizeOf r)
+
+    reason : natAbs (refusalNumber r) / 65536 % 65536 ≡ r .reason
+    reason = rw size (omega arith)
+
+    at : natAbs (refusalNumber r) % 65536 ≡ r .at
+    at = rw size (omega arith)
+
+    earlier : natAbs (refusalNumber r) / 4294967296 ≡ r .earlier
+    earlier = rw size (omega arith)
+
+-- So refusals with the same number are the same.
 refusal-told : (r s : Refusal) → SmallRefusal r → SmallRefusal s → refusalNumber r ≡ refusalNumber s → r ≡ s
-refusal-told r s a b e =
-    let n : 65536 * r .reason + r .at ≡ 65536 * s .reason + s .at =
-    omega (arith, eq-num (refusalNumber r) (refusalNumber s) e, neg-nums (pos (65536 * r .reason + r .at)), neg-nums (pos (65536 * s .reason + s .at))) in
-    let reason : r .reason ≡ s .reason = omega arith in
-    let at : r .at ≡ s .at = omega arith in
-    λ i. record { reason = reason i; at = at i }
+refusal-told r s a b e = sym (refusal-back r a) ∙ ap refusalIn e ∙ refusal-back s b
 
 -- ---- the calls' refusals are such
 
--- Each trial has a number from 1 to 12 and is tried at 64 records at most, if the trials before it are clean.
+-- Each trial has a number from 1 to 12, and is tried at 64 records at most if the trials before it are clean.
 abbrev Narrow : List Trial → Type 0
 Narrow [] = Unit {0}
 Narrow (t ∷ ts) = (1 ≤ t .reason) × (t .reason ≤ 12) × (t .among ≤ 64) × (Clean t → Narrow ts)

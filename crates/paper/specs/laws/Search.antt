@@ -1,6 +1,8 @@
--- The first number below n at which a test holds.
---     first p n     At i: i is below n, p holds at i and at no number below i. Nowhere: p holds at no number below n
---     some p n      p holds at some number below n
+-- The first number below n at which a test holds, and the first pair.
+--     first p n       At i 0: i is below n, p holds at i and at no number below i. Nowhere: p holds at no number below n
+--     some p n        p holds at some number below n
+--     earlier q i     q holds of i and a number below i
+--     firstPair q n   At i j: i is the first number below n with `earlier q i`, and j the first below i of which q holds with i
 use Prim.Native.Nat.{ℕ, zero, suc, _+_, _<_, _≤_}
 use mathlib.Core.Bool.{Bool, true, false, _||_, or-true, true≢false}
 use mathlib.Core.Path.{_≡_, refl, sym, ap, subst, _∙_}
@@ -13,8 +15,8 @@ use Rattle.paper.specs.declared.verdict.Found.the-variants.{At, Nowhere}
 
 -- the place found already, or else n where the test holds
 abbrev pub orAt : Found → Bool → ℕ → Found
-orAt (At i) t n = At i
-orAt Nowhere true n = At n
+orAt (At i j) t n = At i j
+orAt Nowhere true n = At n 0
 orAt Nowhere false n = Nowhere
 
 unfoldable pub first : (ℕ → Bool) → ℕ → Found
@@ -25,7 +27,24 @@ unfoldable pub some : (ℕ → Bool) → ℕ → Bool
 some p zero = false
 some p (suc n) = some p n || p n
 
-at≢nowhere : {i : ℕ} → At i ≡ Nowhere → ⊥
+abbrev pub earlier : (ℕ → ℕ → Bool) → ℕ → Bool
+earlier q i = some (q i) i
+
+-- the place found first, with the one found below it
+abbrev pub andAt : Found → Found → Found
+andAt (At i z) (At j y) = At i j
+andAt (At i z) Nowhere = Nowhere
+andAt Nowhere f = Nowhere
+
+-- the place found, and the first number below it of which q holds with it
+abbrev pub pairAt : (ℕ → ℕ → Bool) → Found → Found
+pairAt q (At i z) = andAt (At i z) (first (q i) i)
+pairAt q Nowhere = Nowhere
+
+unfoldable pub firstPair : (ℕ → ℕ → Bool) → ℕ → Found
+firstPair q n = pairAt q (first (earlier q) n)
+
+at≢nowhere : {i j : ℕ} → At i j ≡ Nowhere → ⊥
 at≢nowhere e = let z : _≡_ {A = ℕ} 0 1 = cc in omega arith
 
 -- both sides of an 'or' that is false
@@ -48,7 +67,7 @@ module _ (p : ℕ → Bool) where
   unfolding first
   none-more i before here = rw (add-one, before, here)
 
-  pub found-here : (i : ℕ) → first p i ≡ Nowhere → p i ≡ true → (n : ℕ) → i < n → first p n ≡ At i
+  pub found-here : (i : ℕ) → first p i ≡ Nowhere → p i ≡ true → (n : ℕ) → i < n → first p n ≡ At i 0
   unfolding first
   found-here i before here zero l = absurd (not-suc-le-zero l)
   found-here i before here (suc n) l =
@@ -75,21 +94,30 @@ module _ (p : ℕ → Bool) where
       ⊎-elim (λ e. rw (← e, here) (or-true (some p i))) (λ lt. rw (some-here i here n lt)) (eq-or-lt-of-le (le-of-suc-le-suc l))
 
   -- a place is found: it is below n, the test holds there, and at no number below it
-  pub at-is : (n i : ℕ) → first p n ≡ At i → (i < n) × (p i ≡ true) × (first p i ≡ Nowhere)
+  pub at-is : (n i j : ℕ) → first p n ≡ At i j → (i < n) × (j ≡ 0) × (p i ≡ true) × (first p i ≡ Nowhere)
   unfolding first
-  at-is zero i e = absurd (at≢nowhere (sym e))
-  at-is (suc n) i e = go (at-is n i) (first p n) (p n) refl refl e
+  at-is zero i j e = absurd (at≢nowhere (sym e))
+  at-is (suc n) i j e = go (at-is n i j) (first p n) (p n) refl refl e
     where
-      go : (first p n ≡ At i → (i < n) × (p i ≡ true) × (first p i ≡ Nowhere)) → (f : Found) (t : Bool) → first p n ≡ f → p n ≡ t → orAt f t n ≡ At i
-          → (i < suc n) × (p i ≡ true) × (first p i ≡ Nowhere)
-      go below (At k) t a b e =
-          let q : k ≡ i = cc in
-          let r = below (a ∙ ap At q) in
-          (omega (arith, r .0), r .1, r .2)
+      go : (first p n ≡ At i j → (i < n) × (j ≡ 0) × (p i ≡ true) × (first p i ≡ Nowhere)) → (f : Found) (t : Bool) → first p n ≡ f → p n ≡ t
+          → orAt f t n ≡ At i j → (i < suc n) × (j ≡ 0) × (p i ≡ true) × (first p i ≡ Nowhere)
+      go below (At k m) t a b e =
+          let r = below (a ∙ e) in
+          (omega (arith, r .0), r .1, r .2, r .3)
       go below Nowhere true a b e =
           let q : n ≡ i = cc in
-          (omega arith, subst (λ (k : ℕ). p k ≡ true) q b, subst (λ (k : ℕ). first p k ≡ Nowhere) q a)
+          let z : 0 ≡ j = cc in
+          (omega arith, sym z, subst (λ (k : ℕ). p k ≡ true) q b, subst (λ (k : ℕ). first p k ≡ Nowhere) q a)
       go below Nowhere false a b e = absurd (at≢nowhere (sym e))
+
+  -- nothing found below n + 1: nothing below n
+  none-fewer : (n : ℕ) → first p (suc n) ≡ Nowhere → first p n ≡ Nowhere
+  unfolding first
+  none-fewer n e = below (first p n) (p n) e
+    where
+      below : (f : Found) (t : Bool) → orAt f t n ≡ Nowhere → f ≡ Nowhere
+      below (At i j) t e = e
+      below Nowhere t e = refl
 
   -- nothing found below n: the test holds at no number below n
   pub none-at : (n : ℕ) → first p n ≡ Nowhere → (k : ℕ) → k < n → p k ≡ false
@@ -98,14 +126,31 @@ module _ (p : ℕ → Bool) where
   none-at (suc n) e k l =
       ⊎-elim
       (λ q. rw q (here (first p n) (p n) e))
-      (λ lt. none-at n (below (first p n) (p n) e) k lt)
+      (λ lt. none-at n (none-fewer n e) k lt)
       (eq-or-lt-of-le (le-of-suc-le-suc l))
     where
-      below : (f : Found) (t : Bool) → orAt f t n ≡ Nowhere → f ≡ Nowhere
-      below (At i) t e = e
-      below Nowhere t e = refl
-
       here : (f : Found) (t : Bool) → orAt f t n ≡ Nowhere → t ≡ false
-      here (At i) t e = absurd (at≢nowhere e)
+      here (At i j) t e = absurd (at≢nowhere e)
       here Nowhere true e = absurd (at≢nowhere e)
       here Nowhere false e = refl
+
+  -- so it holds at none of them
+  pub none-some : (n : ℕ) → first p n ≡ Nowhere → some p n ≡ false
+  unfolding some
+  none-some zero e = refl
+  none-some (suc n) e = rw (none-some n (none-fewer n e), none-at (suc n) e n (omega arith))
+
+-- nested loops: where nothing is found below i and q holds of i and no number below it, nothing is found below i + 1;
+-- where j is the first number below i of which q holds with i, what is found below any n past i is i with j
+module _ (q : ℕ → ℕ → Bool) where
+  pub pairs-more : (i : ℕ) → first (earlier q) i ≡ Nowhere → first (q i) i ≡ Nowhere → first (earlier q) (i + 1) ≡ Nowhere
+  pairs-more i before here = none-more (earlier q) i before (none-some (q i) i here)
+
+  pub pairs-end : (n : ℕ) → first (earlier q) n ≡ Nowhere → firstPair q n ≡ Nowhere
+  unfolding firstPair
+  pairs-end n e = rw e
+
+  pub pair-here : (i j : ℕ) → first (earlier q) i ≡ Nowhere → first (q i) j ≡ Nowhere → q i j ≡ true → j < i → (n : ℕ) → i < n → firstPair q n ≡ At i j
+  unfolding firstPair
+  pair-here i j before below here l n k =
+      rw (found-here (earlier q) i before (some-here (q i) j here i l) n k, found-here (q i) j below here i l)

@@ -9,7 +9,7 @@ use lib.Signed.{leZ, ltZ}
 use Rattle.paper.specs.Job.{nameOf, reservedOf, xOf, yOf, portOf}
 use Rattle.paper.specs.Leaders.{Leader}
 use Rattle.paper.specs.Layouts.{Board, held, leader}
-use Rattle.paper.specs.laws.Search.{some}
+use Rattle.paper.specs.laws.Search.{earlier}
 
 -- 1, 2
 abbrev pub badSize : List ℕ → Bool
@@ -43,10 +43,6 @@ sameX job i j = eqb (xOf job i) (xOf job j)
 
 abbrev pub sameEntry : List ℕ → ℕ → ℕ → Bool
 sameEntry list i j = eqb (held list i) (held list j)
-
--- q holds of record i and an earlier one
-abbrev pub earlier : (ℕ → ℕ → Bool) → ℕ → Bool
-earlier q i = some (q i) i
 
 abbrev pub badEntry : ℕ → List ℕ → ℕ → Bool
 badEntry n list i = leb n (held list i) || earlier (sameEntry list) i

@@ -13,16 +13,16 @@ use Rattle.paper.specs.declared.verdict.Verdict.the-variants.{Sound, Ref
 use Rattle.paper.specs.Refusals.{refusal}
 use Rattle.paper.specs.Job.{count}
 use Rattle.paper.specs.Layouts.{boardOf, held}
-use Rattle.paper.specs.laws.Search.{first}
-use Rattle.paper.specs.laws.Tests.{badSize, badWeight, badField, notAbove, tooClose, sameName, sameX, earlier, badEntry, touch, badNumber}
+use Rattle.paper.specs.laws.Search.{first, earlier, firstPair}
+use Rattle.paper.specs.laws.Tests.{badSize, badWeight, badField, notAbove, tooClose, sameName, sameX, badEntry, touch, badNumber}
 
--- a trial's number, and the first record at fault
+-- a trial's number, and the first records at fault
 abbrev pub Finding : Type 0
 Finding = ℕ × Found
 
 -- the first that finds a record gives the refusal, which stands
 abbrev pub outcome : ℕ → Found → Verdict
-outcome r (At i) = Refused (refusal r i)
+outcome r (At i j) = Refused (refusal r i j)
 outcome r Nowhere = Sound
 
 abbrev pub next : Verdict → Finding → Verdict
@@ -35,7 +35,7 @@ run v (t ∷ ts) = run (next v t) ts
 
 -- a test of the input as a whole
 abbrev pub atWhole : Bool → Found
-atWhole true = At 0
+atWhole true = At 0 0
 atWhole false = Nowhere
 
 unfoldable pub jobFindings : List ℕ → List Finding
@@ -49,7 +49,7 @@ jobFindings job =
 unfoldable pub layoutFindings : List ℕ → List ℕ → List Finding
 layoutFindings job list =
     (8, first (badEntry (count job) list) (count job)) ∷
-    (9, first (earlier (touch (boardOf job) (held list))) (count job)) ∷ []
+    (9, firstPair (touch (boardOf job) (held list)) (count job)) ∷ []
 
 unfoldable pub firstFindings : List ℕ → ℕ → ℕ → ℕ → List Finding
 firstFindings job lw bw room =

@@ -1,4 +1,4 @@
--- THE WORKED SHEETS, P1 to P12 and those for 12, by one theorem over one list, and Page's by another: a test that the checker computes for each sheet,
+-- THE WORKED SHEETS, P1 to P12 and those for 12 and 9, by one theorem over one list, and Page's by another: a test that the checker computes for each sheet,
 -- and a lemma that turns the test into the call's promise. Assumes nothing.
 use mathlib.Core.Path.{_≡_, refl, sym, ap, _∙_, subst}
 use mathlib.Core.Bool.{Bool, true, false, not, _&&_, _||_}
@@ -22,7 +22,7 @@ use Rattle.paper.specs.Refusals.{Trial, Passed, firstTrials, measureTria
 use Rattle.paper.specs.Promises.{Kept, inTurn, Following, FirstAnswers, NextAnswers, PageAnswers, MeasureAnswers}
 use Rattle.paper.specs.laws.Totals.{totalOf}
 use Rattle.paper.specs.Sheets.{sheets, Each, Call, First, Next, Measure, Sheet, AllowedBy, Allowed, pages, PageSheet, PageAllowed}
-use Rattle.paper.specs.laws.Search.{first, some}
+use Rattle.paper.specs.laws.Search.{first, some, firstPair}
 use Rattle.paper.specs.laws.Tests.{outside, between, touching}
 use Rattle.paper.specs.Leaders.{lengthOf, bendsOf}
 use Rattle.paper.specs.laws.Verdicts.{Finding, run, run-append, atWhole, firstFindings, measureFindings, jobFindings, layoutFindings}
@@ -38,7 +38,7 @@ use Rattle.paper.specs.laws.Trying.{heads, words, any, someWord, leastTe
 -- ---- the tests
 
 abbrev sameRefusal : Refusal → Refusal → Bool
-sameRefusal r s = eqb (r .reason) (s .reason) && eqb (r .at) (s .at)
+sameRefusal r s = eqb (r .reason) (s .reason) && (eqb (r .at) (s .at) && eqb (r .earlier) (s .earlier))
 
 abbrev sameVerdict : Verdict → Verdict → Bool
 sameVerdict Sound Sound = true
@@ -115,8 +115,13 @@ allHold test (s ∷ ss) = test s && allHold test ss
 
 same-refusal : (r s : Refusal) → T (sameRefusal r s) → r ≡ s
 same-refusal r s t =
-    let u = both (eqb (r .reason) (s .reason)) (eqb (r .at) (s .at)) .0 t in
-    λ i. record { reason = eqb→eq (r .reason) (s .reason) (u .0) i; at = eqb→eq (r .at) (s .at) (u .1) i }
+    let u = both (eqb (r .reason) (s .reason)) (eqb (r .at) (s .at) && eqb (r .earlier) (s .earlier)) .0 t in
+    let v = both (eqb (r .at) (s .at)) (eqb (r .earlier) (s .earlier)) .0 (u .1) in
+    λ i. record {
+      reason = eqb→eq (r .reason) (s .reason) (u .0) i;
+      at = eqb→eq (r .at) (s .at) (v .0) i;
+      earlier = eqb→eq (r .earlier) (s .earlier) (v .1) i;
+    }
 
 same-verdict : (v w : Verdict) → T (sameVerdict v w) → v ≡ w
 same-verdict Sound Sound t = refl
@@ -258,7 +263,7 @@ all-allowed test P says (s ∷ ss) h = let u = both (test s) (allHold test ss) .
 -- Each passes its test.
 all-hold : T (allHold holds sheets) × T (allHold pageSheetHolds pages)
 unfolding heads words any someWord leastTest misled untouchingTest differRight decidedAt beforeTest cheaper bestTest firstTest laterTest nextTest lastTest
-    first some outside between touching jobFindings layoutFindings firstFindings measureFindings nextFindings
+    first some firstPair outside between touching jobFindings layoutFindings firstFindings measureFindings nextFindings
     twos nameOf reservedOf xOf yOf portOf lengthOf bendsOf sum weighted
 all-hold = (tt, tt)
 

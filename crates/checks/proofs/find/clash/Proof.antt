@@ -34,15 +34,6 @@ same-entry-requires c κs =
 enum-told-6 : tie.Need-enum-told-6
 enum-told-6 c = search needs
 
-touches-requires : tie.Need-touches-requires
-touches-requires c κs =
-    let s = c .before .before .before .before in
-    let ready = rw (c .enum-told6 .given .1) at (s .pre .3) in
-    omega (arith, ready .1 (s .args .i) (search needs), ready .1 (s .args .j) (search needs))
-
-enum-told-7 : tie.Need-enum-told-7
-enum-told-7 c = search needs
-
 returns : tie.Need-returns
 unfolding pairOf
 returns c = rw (c .enum-told .given .1)
@@ -65,11 +56,7 @@ returns-5 c = rw (c .before .enum-told5 .given .1) (c .same-entry .ensures)
 
 returns-6 : tie.Need-returns-6
 unfolding pairOf
-returns-6 c = rw (c .before .enum-told6 .given .1) (c .touches .ensures)
-
-returns-7 : tie.Need-returns-7
-unfolding pairOf
-returns-7 c = rw (c .enum-told7 .given .1)
+returns-6 c = rw (c .enum-told6 .given .1)
 
 pub clash-spec : {M : Type 1} → statement M
 clash-spec =
@@ -84,12 +71,9 @@ clash-spec =
     enum-told-5
     same-entry-requires
     enum-told-6
-    touches-requires
-    enum-told-7
     returns
     returns-2
     returns-3
     returns-4
     returns-5
-    returns-6
-    returns-7)
+    returns-6)

@@ -46,12 +46,6 @@ clashes-requires-3 c κs = search needs
 enum-told-6 : tie.Need-enum-told-6
 enum-told-6 c = search needs
 
-clashes-requires-4 : tie.Need-clashes-requires-4
-clashes-requires-4 c κs = search needs
-
-enum-told-7 : tie.Need-enum-told-7
-enum-told-7 c = search needs
-
 too-close-requires : tie.Need-too-close-requires
 too-close-requires c κs = search needs
 
@@ -79,11 +73,7 @@ returns-5 c =
 
 returns-6 : tie.Need-returns-6
 unfolding testOf pairOf
-returns-6 c = rw (c .before .enum-told6 .given .1) (rw (c .before .enum-told6 .given .1) at (c .clashes4 .ensures))
-
-returns-7 : tie.Need-returns-7
-unfolding testOf pairOf
-returns-7 c = rw (c .before .enum-told7 .given .1) (c .too-close .ensures)
+returns-6 c = rw (c .before .enum-told6 .given .1) (c .too-close .ensures)
 
 pub fails-spec : {M : Type 1} → statement M
 fails-spec =
@@ -102,13 +92,10 @@ fails-spec =
     shared-slice-read-result
     clashes-requires-3
     enum-told-6
-    clashes-requires-4
-    enum-told-7
     too-close-requires
     returns
     returns-2
     returns-3
     returns-4
     returns-5
-    returns-6
-    returns-7)
+    returns-6)
