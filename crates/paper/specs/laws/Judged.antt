@@ -84,8 +84,8 @@ bad-entry-iff n list i =
     (earlier-iff (sameEntry list) (λ i j. held list i ≡ held list j) i (λ j l. eqb-iff (held list i) (held list j)))
 
 -- 9, for two pads whose x differ.
-pub touch-iff : (b : Board) (f : ℕ → ℕ) (i j : ℕ) → b .x i ≢ b .x j → T (touch b f i j) ↔ Touching b f i j
-touch-iff b f i j differ = touching-iff (leader b i (f i)) (leader b j (f j)) differ
+pub touch-tells : (b : Board) (f : ℕ → ℕ) (i j : ℕ) → b .x i ≢ b .x j → T (touch b f i j) ↔ Touching b f i j
+touch-tells b f i j differ = touching-iff (leader b i (f i)) (leader b j (f j)) differ
 
 -- 11
 pub bad-number-iff : (n i q : ℕ) → T (badNumber n i q) ↔ ((n ≤ i) ⊎ (n ≤ q))
@@ -120,7 +120,7 @@ measure-tried job lw bw list =
     tried-append (first-tried job lw bw (length list)) (λ passed.
     tried-more (finds-first 8 _ _ (badEntry (count job) list) (λ i l. bad-entry-iff (count job) list i)) (λ _.
     tried-more (finds-pairs 9 (count job) (Touching (boardOf job) (held list)) (touch (boardOf job) (held list)) (λ i j l k.
-    touch-iff (boardOf job) (held list) i j (passed-differ job (passed .1 .1 .1) i j k l))) (λ _.
+    touch-tells (boardOf job) (held list) i j (passed-differ job (passed .1 .1 .1) i j k l))) (λ _.
     tried-none)))
 
 draw-tried : (job : List ℕ) (i q room : ℕ) → Tried (drawFindings job i q room) (drawTrials job i q room)
