@@ -1,4 +1,4 @@
--- DEFINITIONS. 01, "Refusal numbers", and 12 of 02: what is at fault for each number, and each call's trials, in the order in which they run.
+-- DEFINITIONS. 01, "Refusal numbers", and of 02, 12 and both records of 9: what is at fault for each number, and each call's trials, in their order.
 use mathlib.Core.Path.{_≡_}
 use mathlib.Core.Logic.{_≢_, _⊎_}
 use mathlib.Core.List.{List, [], _∷_, _++_}
@@ -12,7 +12,7 @@ use Rattle.paper.specs.Layouts.{Board, boardOf, held, Touching, Untouchi
 
 -- ---- trials
 
--- A trial: its refusal number, how many records it is tried at, what puts record i at fault, and which j may be named with it.
+-- A trial: its refusal number, how many records it is tried at, what puts record i at fault, and which earlier record j may be named with it (0: none).
 pub record Trial : Type 1 where
   pub reason : ℕ
   pub among : ℕ
@@ -90,14 +90,14 @@ BadEntry n list i = (n ≤ held list i) ⊎ Earlier (λ i j. held list i ≡ hel
 
 -- ---- each call's trials
 
--- A trial of each of n records, and one of the input as a whole, whose record number is 0. These name no earlier record, which is 0.
+-- A trial of each of n records, and one of the input as a whole, whose record number is 0. Neither names an earlier record.
 abbrev pub ofEach : ℕ → ℕ → (ℕ → Type 0) → Trial
 ofEach r n fault = record { reason = r; among = n; fault = fault; beside = λ i j. j ≡ 0 }
 
 abbrev pub ofWhole : ℕ → Type 0 → Trial
 ofWhole r P = ofEach r 1 (λ i. P)
 
--- A trial of each of n records with those before it, which names an earlier one, too.
+-- A trial of each of n records with those before it. It names an earlier one as well.
 abbrev pub ofPairs : ℕ → ℕ → (ℕ → ℕ → Type 0) → Trial
 ofPairs r n R = record { reason = r; among = n; fault = Earlier R; beside = λ i j. (j < i) × R i j }
 

@@ -45,7 +45,7 @@ refusal-apart r t s e = omega (arith, eq-num (pos t) (refusalNumber r) e, neg-nu
 refusal-not-end : (r : Refusal) → SmallRefusal r → negsuc 0 ≡ refusalNumber r → ⊥
 refusal-not-end r s e = omega (arith, eq-num (negsuc 0) (refusalNumber r) e, neg-nums (pos (sizeOf r)))
 
--- THEOREM: and from it the caller gets the refusal back: its number and both its records.
+-- and from it the caller gets the refusal back: its number and both its records.
 pub refusal-back : (r : Refusal) → SmallRefusal r → refusalIn (refusalNumber r) ≡ r
 refusal-back r s = λ i. record { reason = reason i; at = at i; earlier = earlier i }
   where
@@ -100,6 +100,10 @@ pub draw-within : (job : List ℕ) (i q room : ℕ) (r : Refusal) → RefusedBy 
 draw-within job i q room r =
     refused-within (drawTrials job i q room) r
     (omega arith, omega arith, omega arith, λ c. let few = few-records job (c 0 (omega arith)) in omega arith)
+
+-- THEOREM: so from C's number the caller gets every refusal back.
+pub within-back : (r : Refusal) → Within r → refusalIn (refusalNumber r) ≡ r
+within-back r w = refusal-back r (omega (arith, w))
 
 -- ---- the number of an answer tells the answer
 
