@@ -1,8 +1,9 @@
 -- What the code's enum of checks stands for: the code has one loop for all of them.
-use Prim.Native.Nat.{ℕ, _≤_}
+use Prim.Native.Nat.{ℕ, _≤_, _<_}
 use mathlib.Core.List.{List}
 use mathlib.Core.Bool.{Bool, false}
 use lib.ListN.{length}
+use Rattle.paper.specs.Layouts.{held}
 use Rattle.paper.specs.laws.Search.{earlier}
 use Rattle.paper.specs.laws.Tests.{badField, notAbove, tooClose, sameName, sameX, sameEntry, badEntry}
 use Rattle.checks.specs.declared.Check.{Check}
@@ -34,3 +35,7 @@ Ready Name list n = Unit {0}
 Ready Place list n = Unit {0}
 Ready Entry list n = n ≤ length list
 Ready Space list n = Unit {0}
+
+-- what the search for a touching pair takes for granted of the layout: its length, and that its entries are port numbers
+abbrev pub Led : List ℕ → ℕ → Type 0
+Led list n = (n ≤ length list) × ((k : ℕ) → k < n → held list k < n)

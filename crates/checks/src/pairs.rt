@@ -2,15 +2,14 @@
 use crate::tests;
 use paper::verdict::Found;
 ghost use mathlib.Core.Path.{_≡_};
-ghost use Prim.Native.Nat.{ℕ, _<_, _≤_};
-ghost use lib.ListN.{length};
 ghost use Rattle.paper.specs.Job.{count};
 ghost use Rattle.paper.specs.Layouts.{boardOf, held};
 ghost use Rattle.paper.specs.laws.Search.{firstPair};
 ghost use Rattle.paper.specs.laws.Tests.{touch};
+ghost use Rattle.checks.specs.Dispatch.{Led};
 
 pub fn first_touching(job: &[u8], list: &[u16], n: u16) -> Found
-    requires { ⌜ (n ≡ count (now job)) × (n ≤ length (now list)) × ((k : ℕ) → k < n → held (now list) k < n) ⌝ }
+    requires { ⌜ (n ≡ count (now job)) × Led (now list) n ⌝ }
     ensures { λ r. ⌜ r ≡ firstPair (touch (boardOf (now (job .entry))) (held (now (list .entry)))) n ⌝ }
 {
     let mut found = Found::Nowhere;

@@ -7,14 +7,14 @@ use paper::Refusal;
 use paper::verdict::Found;
 use paper::verdict::Verdict;
 ghost use mathlib.Core.Path.{_≡_};
-ghost use Prim.Native.Nat.{ℕ, _≤_, _<_};
+ghost use Prim.Native.Nat.{_≤_};
 ghost use lib.ListN.{length};
 ghost use Rattle.paper.specs.Job.{count};
 ghost use Rattle.paper.specs.Layouts.{boardOf, held};
 ghost use Rattle.paper.specs.laws.Search.{first, firstPair};
 ghost use Rattle.paper.specs.laws.Tests.{touch};
 ghost use Rattle.paper.specs.laws.Verdicts.{outcome, next, run, atWhole, jobFindings, layoutFindings, firstFindings, measureFindings, drawFindings};
-ghost use Rattle.checks.specs.Dispatch.{testOf, Ready};
+ghost use Rattle.checks.specs.Dispatch.{testOf, Ready, Led};
 
 // What a check found, as a verdict.
 fn verdict(reason: u16, found: Found) -> Verdict
@@ -59,7 +59,7 @@ fn try_records(v: Verdict, reason: u16, c: Check, job: &[u8], list: &[u16]) -> V
 
 // One more check, of the records two at a time.
 fn try_touching(v: Verdict, job: &[u8], list: &[u16]) -> Verdict
-    requires { ⌜ (v ≡ Verdict.Sound → (length (now job) ≤ 1024) × (count (now job) ≤ length (now list)) × ((k : ℕ) → k < count (now job) → held (now list) k < count (now job))) ⌝ }
+    requires { ⌜ (v ≡ Verdict.Sound → (length (now job) ≤ 1024) × Led (now list) (count (now job))) ⌝ }
     ensures { λ r. ⌜ r ≡ next v (9, firstPair (touch (boardOf (now (job .entry))) (held (now (list .entry)))) (count (now (job .entry)))) ⌝ }
 {
     match v {

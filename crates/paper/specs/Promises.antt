@@ -3,9 +3,9 @@
 use mathlib.Core.Path.{_≡_}
 use mathlib.Core.Logic.{_⊎_}
 use mathlib.Core.List.{List, [], _∷_, _++_}
-use Prim.Native.Nat.{ℕ, zero, suc, _+_, _*_, _/_, _%_, _≤_, _<_}
+use Prim.Native.Nat.{ℕ, zero, suc, _+_, _*_, _≤_, _<_}
 use lib.ListN.{length, getD, drop}
-use lib.IntN.{ℤ, pos, negsuc, negℤ, natAbs}
+use lib.IntN.{ℤ, pos, negsuc, negℤ}
 use lib.Ieee.{Float}
 use Rattle.paper.specs.declared.Refusal.{Refusal}
 use Rattle.paper.specs.declared.Answer.{Answer}
@@ -15,7 +15,7 @@ use Rattle.paper.specs.declared.Paged.the-variants.{Wrote, Refused as No
 use Rattle.paper.specs.declared.Drawn.{Drawn}
 use Rattle.paper.specs.declared.Drawn.the-variants.{Straight, Bent, Refused as NotDrawn}
 use Rattle.paper.specs.Layouts.{Board, boardOf, held, leader, weighted, total, FirstBest, NextBest, LastBest}
-use Rattle.paper.specs.Refusals.{Trial, refusal, Passed, RefusedBy, firstTrials, measureTrials, nextTrials, drawTrials}
+use Rattle.paper.specs.Refusals.{Trial, Passed, RefusedBy, firstTrials, measureTrials, nextTrials, drawTrials}
 use Rattle.paper.specs.Canvas.{DrawnStraight, DrawnBent}
 
 -- ---- C's number for each answer
@@ -23,10 +23,6 @@ use Rattle.paper.specs.Canvas.{DrawnStraight, DrawnBent}
 -- refusal r with record i and the earlier record j as -(4,294,967,296 × j + 65,536 × r + i)
 abbrev pub refusalNumber : Refusal → ℤ
 refusalNumber r = negℤ (pos (4294967296 * r .earlier + 65536 * r .reason + r .at))
-
--- what a caller takes out of such a number again
-abbrev pub refusalIn : ℤ → Refusal
-refusalIn c = refusal (natAbs c / 65536 % 65536) (natAbs c % 65536) (natAbs c / 4294967296)
 
 -- the total as itself, end as -1
 abbrev pub number : Answer → ℤ

@@ -12,7 +12,7 @@ use Rattle.paper.specs.Layouts.{Board, boardOf, held, Touching, Untouchi
 
 -- ---- trials
 
--- A trial: its refusal number, how many records it is tried at, what puts record i at fault, and which earlier record j may be named with it (0: none).
+-- A trial: its refusal number, how many records it is tried at, what puts record i at fault, and which j may be named with it as the earlier record.
 pub record Trial : Type 1 where
   pub reason : ℕ
   pub among : ℕ
@@ -37,7 +37,7 @@ pub record FirstFault (t : Trial) (i j : ℕ) : Type 0 where
 abbrev pub refusal : ℕ → ℕ → ℕ → Refusal
 refusal r i j = record { reason = r; at = i; earlier = j }
 
--- Each trial is over the whole job before the next. All are passed; or the first that is not passed gives its number and its first records.
+-- Each trial is over the whole job before the next. All are passed; or the first that is not passed gives its number, its first record, and what is named with it.
 abbrev pub Passed : List Trial → Type 0
 Passed [] = Unit {0}
 Passed (t ∷ ts) = Clean t × Passed ts
@@ -90,7 +90,7 @@ BadEntry n list i = (n ≤ held list i) ⊎ Earlier (λ i j. held list i ≡ hel
 
 -- ---- each call's trials
 
--- A trial of each of n records, and one of the input as a whole, whose record number is 0. Neither names an earlier record.
+-- A trial of each of n records, and one of the input as a whole, whose record number is 0. Neither names an earlier record: j is 0.
 abbrev pub ofEach : ℕ → ℕ → (ℕ → Type 0) → Trial
 ofEach r n fault = record { reason = r; among = n; fault = fault; beside = λ i j. j ≡ 0 }
 

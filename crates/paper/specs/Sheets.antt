@@ -1,5 +1,5 @@
 -- DEFINITIONS. 01, "Sheets worked by hand": the jobs as bytes, and the sheets P1 to P12, each with its call, its input and its whole reply.
--- After P10 stands Measure's sheet for "its total is 85"; after P12, four for refusal 12 and three for both records of 9. Page has its own list.
+-- After P10 stands Measure's sheet for "its total is 85"; after P12, four for refusal 12 and four for both records of 9. Page has its own list.
 use mathlib.Core.Path.{_≡_}
 use mathlib.Core.List.{List, [], _∷_, _++_}
 use Prim.Native.Nat.{ℕ, _/_, _%_}
@@ -95,6 +95,7 @@ sheets =
     sheet Measure J5 1 0 (1 ∷ 0 ∷ 2 ∷ []) (touching 2 1) (1 ∷ 0 ∷ 2 ∷ []) ∷
     sheet Measure J5 1 0 (2 ∷ 0 ∷ 1 ∷ []) (touching 2 0) (2 ∷ 0 ∷ 1 ∷ []) ∷
     sheet Next twoPairs 1 0 (1 ∷ 3 ∷ 2 ∷ 0 ∷ []) (touching 2 1) (1 ∷ 3 ∷ 2 ∷ 0 ∷ []) ∷
+    sheet Measure (padAndPort 101 30 30 0 ++ padAndPort 102 20 20 10 ++ padAndPort 103 10 10 20) 1 0 (0 ∷ 1 ∷ 2 ∷ []) (touching 2 1) (0 ∷ 1 ∷ 2 ∷ []) ∷
     []
 
 -- ---- Page

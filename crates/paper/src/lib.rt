@@ -1,7 +1,7 @@
 // The types of the calls' answers. What they mean is in specs/: start at docs/READING.md.
 pub mod verdict;
 
-// Why a call refuses, by number, and the record at fault; in refusal 9 the earlier record that it touches as well, which is 0 in every other.
+// Why a call refuses, by number, and the record at fault. In refusal 9 `earlier` is the smallest earlier record that it touches; in every other it is 0.
 pub struct Refusal {
     pub reason: u16,
     pub at: u16,

@@ -53,8 +53,8 @@ returns-3 c =
     let d = c .before .before .before .before .before in
     let s = d .before .before .before .before in
     let a = s .args in
-    rw (c .not-best .ensures)
-    (not-best-answers (now (a .job)) (a .lw) (a .bw) (now (a .list)) (s .pre) (d .next-on .last .1 .1 .1 .0) (rw (c .before .enum-told2 .given .1) at (d .next-on .ensures)))
+    let told = rw (c .before .enum-told2 .given .1) at (d .next-on .ensures) in
+    rw (c .not-best .ensures) (not-best-answers (now (a .job)) (a .lw) (a .bw) (now (a .list)) (s .pre) (d .next-on .last .1 .1 .1 .0) told)
 
 pub step-spec : {M : Type 1} → statement M
 step-spec =

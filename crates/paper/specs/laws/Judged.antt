@@ -1,7 +1,7 @@
 -- Each test of laws/Tests says what its fault says, so that the findings of laws/Verdicts give the right verdict on every input.
 use mathlib.Core.Path.{_≡_}
 use mathlib.Core.Logic.{_≢_, _⊎_, inl, inr, _↔_, Iff·trans}
-use mathlib.Core.Bool.{Bool, not, _||_, or-assoc}
+use mathlib.Core.Bool.{not, _||_, or-assoc}
 use mathlib.Core.List.{List}
 use Prim.Native.Nat.{ℕ, _-_, _%_, _≤_, _<_}
 use lib.Dec.{T, eqb, leb, ltb}

@@ -47,10 +47,11 @@ pub record FirstPair (b : Board) (f : ℕ → ℕ) (i j : ℕ) : Type 0 where
   pub smallest : (k m : ℕ) → k < i → m < k → ¬ Touching b f k m
   pub smallest-earlier : (m : ℕ) → m < j → ¬ Touching b f i m
 
+-- One record, or by 9 the first touching pair.
 abbrev pub Named : Board → (ℕ → ℕ) → Refusal → Type 0
 Named b f r = Alone r ⊎ ((r .reason ≡ 9) × FirstPair b f (r .at) (r .earlier))
 
--- So does a refusal by a trial of each record, or of the whole input, whose number is not 9.
+-- A refusal by a trial of each record, or of the whole input, names one record.
 module _ (P : Refusal → Type 0) (says : (r : Refusal) → Alone r → P r) where
   one : (r n : ℕ) (fault : ℕ → Type 0) → r ≢ 9 → (i j : ℕ) → FirstFault (ofEach r n fault) i j → P (refusal r i j)
   one r n fault other i j a = says (refusal r i j) (other, a .named .here)
@@ -119,6 +120,10 @@ module _ (job : List ℕ) (lw bw : ℕ) (list : List ℕ) where
 
 -- ---- C's number
 
--- THEOREM. Where one record is named, C's number is that of its refusal number and this record.
+-- THEOREM. C's number of a refusal that names one record, and so of every one but 9, is that of its refusal number and this record.
 pub alone-number : (r : Refusal) → Alone r → refusalNumber r ≡ negℤ (pos (65536 * r .reason + r .at))
 alone-number r a = let n : 4294967296 * r .earlier + 65536 * r .reason + r .at ≡ 65536 * r .reason + r .at = omega (arith, a .1) in rw n
+
+pub other-number : (b : Board) (f : ℕ → ℕ) (r : Refusal) → Named b f r → r .reason ≢ 9 → refusalNumber r ≡ negℤ (pos (65536 * r .reason + r .at))
+other-number b f r (inl a) other = alone-number r a
+other-number b f r (inr (nine, _)) other = absurd (other nine)

@@ -5,7 +5,7 @@ use mathlib.Core.List.{List, [], _∷_}
 use Prim.Native.Nat.{ℕ, zero, suc, _+_, _*_, _/_, _%_, _≤_, _<_}
 use native.Mathlib.Omega.{arith}
 use lib.ListN.{length}
-use lib.IntN.{pos, negsuc, negℤ, natAbs}
+use lib.IntN.{ℤ, pos, negsuc, negℤ, natAbs}
 use lib.Signed.{_≤ℤ_}
 use lib.Ieee.{Float}
 use Rattle.numbers.specs.Whole.{whole, eq-num, neg-nums}
@@ -17,8 +17,8 @@ use Rattle.paper.specs.declared.Two.{Two}
 use Rattle.paper.specs.declared.Three.{Three}
 use Rattle.paper.specs.declared.Drawn.the-variants.{Straight, Bent, Refused as NotDrawn}
 use Rattle.paper.specs.Layouts.{boardOf, weighted}
-use Rattle.paper.specs.Refusals.{Trial, Clean, RefusedBy, firstTrials, measureTrials, nextTrials, drawTrials, bestTrial}
-use Rattle.paper.specs.Promises.{refusalNumber, refusalIn, number, FirstAnswers, NextAnswers, PageAnswers, MeasureAnswers, DrawAnswers}
+use Rattle.paper.specs.Refusals.{Trial, Clean, RefusedBy, refusal, firstTrials, measureTrials, nextTrials, drawTrials, bestTrial}
+use Rattle.paper.specs.Promises.{refusalNumber, number, FirstAnswers, NextAnswers, PageAnswers, MeasureAnswers, DrawAnswers}
 use Rattle.paper.specs.Promises.{FirstPromise, NextPromise, PagePromise, MeasurePromise, DrawPromise}
 use Rattle.paper.specs.laws.Trials.{refused-left}
 use Rattle.paper.specs.laws.Accepted.{few-records}
@@ -32,6 +32,10 @@ abs-neg (suc n) = refl
 -- A refusal with a number of 1 or more, and this and its record number of 16 bits. C's number of it is -65,536 or less,
 abbrev pub SmallRefusal : Refusal → Type 0
 SmallRefusal r = (1 ≤ r .reason) × (r .reason < 65536) × (r .at < 65536)
+
+-- what a caller takes out of a number again: the header's functions
+abbrev pub refusalIn : ℤ → Refusal
+refusalIn c = refusal (natAbs c / 65536 % 65536) (natAbs c % 65536) (natAbs c / 4294967296)
 
 abbrev sizeOf : Refusal → ℕ
 sizeOf r = 4294967296 * r .earlier + 65536 * r .reason + r .at
@@ -101,9 +105,13 @@ draw-within job i q room r =
     refused-within (drawTrials job i q room) r
     (omega arith, omega arith, omega arith, λ c. let few = few-records job (c 0 (omega arith)) in omega arith)
 
--- THEOREM: so from C's number the caller gets every refusal back.
-pub within-back : (r : Refusal) → Within r → refusalIn (refusalNumber r) ≡ r
-within-back r w = refusal-back r (omega (arith, w))
+-- A number that is such a refusal's gives it back.
+within-back : (r : Refusal) (c : ℤ) → Within r → c ≡ refusalNumber r → r ≡ refusalIn c
+within-back r c w e = sym (refusal-back r (omega (arith, w))) ∙ ap refusalIn (sym e)
+
+-- -65,536 or less is no number of 0 or more.
+low-apart : (t : ℕ) (c : ℤ) → c ≡ pos t → c ≤ℤ negℤ (pos 65536) → ⊥
+low-apart t c e l = omega (whole, eq-num c (pos t) e, neg-nums (pos 65536))
 
 -- ---- the number of an answer tells the answer
 
@@ -134,6 +142,11 @@ module _ (P : Answer → Type 0) (refused : (r : Refusal) → P (Refused r) → 
   told : (a : Answer) → Small a → ((b : Answer) × P b × (number a ≡ number b)) → P a
   told a s (b, p, e) = subst P (number-tells b a (small b p) s (sym e)) p
 
+  back : (c : ℤ) → ((a : Answer) × P a × (c ≡ number a)) → c ≤ℤ negℤ (pos 65536) → P (Refused (refusalIn c))
+  back c (Total t, p, e) l = absurd (low-apart t c e l)
+  back c (End, p, e) l = absurd (omega (whole, eq-num c (negsuc 0) e, neg-nums (pos 65536)))
+  back c (Refused r, p, e) l = subst (λ (r : Refusal). P (Refused r)) (within-back r c (refused r p) e) p
+
 -- THEOREM: a call that keeps its promise with the number of an answer gives that answer.
 pub first-told : (job : List ℕ) (lw bw : ℕ) (before : List ℕ) (a : Answer) (after : List ℕ) → Small a
     → FirstPromise job lw bw before (number a) after → FirstAnswers job lw bw before a after
@@ -147,6 +160,20 @@ next-told job lw bw before a after = told (λ a. NextAnswers job lw bw before a 
 pub measure-told : (job : List ℕ) (lw bw : ℕ) (list : List ℕ) (a : Answer) → Small a
     → MeasurePromise job lw bw list (number a) → MeasureAnswers job lw bw list a
 measure-told job lw bw list a = told (MeasureAnswers job lw bw list) (measure-within job lw bw list) a
+
+-- THEOREM: a number of -65,536 or less is a refusal, and the caller gets its number and both its records back from it.
+pub first-back : (job : List ℕ) (lw bw : ℕ) (before : List ℕ) (c : ℤ) (after : List ℕ) → FirstPromise job lw bw before c after
+    → c ≤ℤ negℤ (pos 65536) → FirstAnswers job lw bw before (Refused (refusalIn c)) after
+first-back job lw bw before c after =
+    back (λ a. FirstAnswers job lw bw before a after) (λ r p. first-within job lw bw (length before) r (p .0)) c
+
+pub next-back : (job : List ℕ) (lw bw : ℕ) (before : List ℕ) (c : ℤ) (after : List ℕ) → NextPromise job lw bw before c after
+    → c ≤ℤ negℤ (pos 65536) → NextAnswers job lw bw before (Refused (refusalIn c)) after
+next-back job lw bw before c after = back (λ a. NextAnswers job lw bw before a after) (λ r p. next-within job lw bw before r (p .0)) c
+
+pub measure-back : (job : List ℕ) (lw bw : ℕ) (list : List ℕ) (c : ℤ) → MeasurePromise job lw bw list c
+    → c ≤ℤ negℤ (pos 65536) → MeasureAnswers job lw bw list (Refused (refusalIn c))
+measure-back job lw bw list c = back (MeasureAnswers job lw bw list) (measure-within job lw bw list) c
 
 -- In particular a number of 0 or more is the total, and -1 is the end.
 pub total-told : (job : List ℕ) (lw bw : ℕ) (before : List ℕ) (t : ℕ) (after : List ℕ)
@@ -179,6 +206,12 @@ module _ (job : List ℕ) (lw bw : ℕ) (given before after : List ℕ) where
   not-paged-told r s (NotPaged w, p, e) =
       subst (λ (r : Refusal). PageAnswers job lw bw given before (NotPaged r) after) (refusal-told w r (paged-small w p) s (sym e)) p
 
+  pub page-back : (c : ℤ) → PagePromise job lw bw given before c after → c ≤ℤ negℤ (pos 65536)
+      → PageAnswers job lw bw given before (NotPaged (refusalIn c)) after
+  page-back c (Wrote k, p, e) l = absurd (low-apart k c e l)
+  page-back c (NotPaged r, p, e) l =
+      subst (λ (r : Refusal). PageAnswers job lw bw given before (NotPaged r) after) (within-back r c (next-within job lw bw given r (p .0)) e) p
+
 -- ---- Draw
 
 module _ (job : List ℕ) (i q : ℕ) (before after : List Float) where
@@ -203,3 +236,9 @@ module _ (job : List ℕ) (i q : ℕ) (before after : List Float) where
   not-drawn-told r s (Bent d, p, e) = absurd (refusal-apart r 3 s (sym e))
   not-drawn-told r s (NotDrawn w, p, e) =
       subst (λ (r : Refusal). DrawAnswers job i q before (NotDrawn r) after) (refusal-told w r (drawn-small w p) s (sym e)) p
+
+  pub draw-back : (c : ℤ) → DrawPromise job i q before c after → c ≤ℤ negℤ (pos 65536) → DrawAnswers job i q before (NotDrawn (refusalIn c)) after
+  draw-back c (Straight d, p, e) l = absurd (low-apart 2 c e l)
+  draw-back c (Bent d, p, e) l = absurd (low-apart 3 c e l)
+  draw-back c (NotDrawn r, p, e) l =
+      subst (λ (r : Refusal). DrawAnswers job i q before (NotDrawn r) after) (within-back r c (draw-within job i q (length before) r (p .0)) e) p

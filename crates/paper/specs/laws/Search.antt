@@ -5,7 +5,7 @@
 --     firstPair q n   At i j: i is the first number below n with `earlier q i`, and j the first below i of which q holds with i
 use Prim.Native.Nat.{ℕ, zero, suc, _+_, _<_, _≤_}
 use mathlib.Core.Bool.{Bool, true, false, _||_, or-true, true≢false}
-use mathlib.Core.Path.{_≡_, refl, sym, ap, subst, _∙_}
+use mathlib.Core.Path.{_≡_, refl, sym, subst, _∙_}
 use mathlib.Core.Logic.{⊎-elim}
 use native.Mathlib.Nat.{le-of-suc-le-suc, not-suc-le-zero, eq-or-lt-of-le, le-antisymm}
 use native.Mathlib.Numerals.{add-one}
@@ -30,15 +30,14 @@ some p (suc n) = some p n || p n
 abbrev pub earlier : (ℕ → ℕ → Bool) → ℕ → Bool
 earlier q i = some (q i) i
 
--- the place found first, with the one found below it
-abbrev pub andAt : Found → Found → Found
-andAt (At i z) (At j y) = At i j
-andAt (At i z) Nowhere = Nowhere
-andAt Nowhere f = Nowhere
+-- i, with the place found below it
+abbrev pub andAt : ℕ → Found → Found
+andAt i (At j y) = At i j
+andAt i Nowhere = Nowhere
 
 -- the place found, and the first number below it of which q holds with it
 abbrev pub pairAt : (ℕ → ℕ → Bool) → Found → Found
-pairAt q (At i z) = andAt (At i z) (first (q i) i)
+pairAt q (At i z) = andAt i (first (q i) i)
 pairAt q Nowhere = Nowhere
 
 unfoldable pub firstPair : (ℕ → ℕ → Bool) → ℕ → Found
@@ -93,7 +92,7 @@ module _ (p : ℕ → Bool) where
   some-here i here (suc n) l =
       ⊎-elim (λ e. rw (← e, here) (or-true (some p i))) (λ lt. rw (some-here i here n lt)) (eq-or-lt-of-le (le-of-suc-le-suc l))
 
-  -- a place is found: it is below n, the test holds there, and at no number below it
+  -- a place is found: it is below n, with 0, the test holds there, and at no number below it
   pub at-is : (n i j : ℕ) → first p n ≡ At i j → (i < n) × (j ≡ 0) × (p i ≡ true) × (first p i ≡ Nowhere)
   unfolding first
   at-is zero i j e = absurd (at≢nowhere (sym e))
@@ -135,7 +134,7 @@ module _ (p : ℕ → Bool) where
       here Nowhere false e = refl
 
   -- so it holds at none of them
-  pub none-some : (n : ℕ) → first p n ≡ Nowhere → some p n ≡ false
+  none-some : (n : ℕ) → first p n ≡ Nowhere → some p n ≡ false
   unfolding some
   none-some zero e = refl
   none-some (suc n) e = rw (none-some n (none-fewer n e), none-at (suc n) e n (omega arith))

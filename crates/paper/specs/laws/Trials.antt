@@ -152,7 +152,7 @@ module _ (r n : ℕ) (R : ℕ → ℕ → Type 0) (q : ℕ → ℕ → Bool) (sa
       tells : (i : ℕ) → i < n → T (earlier q i) ↔ Earlier R i
       tells i l = earlier-iff q R i (λ j k. says i j l k)
 
-      with : (i : ℕ) → i < n → Smallest (Earlier R) i → (f : Found) → first (q i) i ≡ f → Finds (ofPairs r n R) (andAt (At i 0) f)
+      with : (i : ℕ) → i < n → Smallest (Earlier R) i → (f : Found) → first (q i) i ≡ f → Finds (ofPairs r n R) (andAt i f)
       with i l s (At j y) e = faulty-pair i j y l s e
       with i l s Nowhere e = let (j, k, x) = s .here in absurd (first-none (R i) (q i) i (λ j k. says i j l k) e j k x)
 

@@ -159,7 +159,8 @@ module _ (b : Board) (differ : Differ b) where
 
       parts : T (not (some (misled b f) (b .pads))) ↔ (¬ ((i : ℕ) × (i < b .pads) × Misled i))
       parts = not-iff (some (misled b f) (b .pads)) (some-iff (misled b f) Misled (b .pads) (λ i l.
-          or-iff (leb (b .ports) (f i)) (earlier (touch b f) i) (leb-iff (b .ports) (f i)) (earlier-iff (touch b f) (Touching b f) i (λ j k. touch-tells b f i j (differ i j k l)))))
+          or-iff (leb (b .ports) (f i)) (earlier (touch b f) i) (leb-iff (b .ports) (f i))
+          (earlier-iff (touch b f) (Touching b f) i (λ j k. touch-tells b f i j (differ i j k l)))))
 
       there : ¬ ((i : ℕ) × (i < b .pads) × Misled i) → Untouching b f
       there n =

@@ -31,7 +31,7 @@ loop-holds c = (search needs, none-below _, refl)
 touches-requires : tie.Need-touches-requires Inv-loop μ-loop Inv-records μ-records
 touches-requires c κs =
     let outer = c .before .before .before in
-    let entries = outer .before .before .before .pre .2 in
+    let entries = outer .before .before .before .pre .1 .1 in
     omega (arith, entries (outer .records .i) (search needs), entries (c .before .loop .j) (omega arith))
 
 add-j : tie.Need-add-j Inv-loop μ-loop Inv-records μ-records
@@ -51,6 +51,13 @@ add-i c = search needs
 records-less : tie.Need-records-less Inv-loop μ-loop Inv-records μ-records
 records-less c = search needs
 
+returns-2 : tie.Need-returns-2 Inv-loop μ-loop Inv-records μ-records
+returns-2 c =
+    let loop = c .before .before .before in
+    let outer = loop .before .before in
+    sym (pair-here _ _ _ (outer .records .inv .1) (loop .loop .inv .1) (sym (c .before .touches .ensures) ∙ c .if1 .taken)
+    (c .before .before .loop-test .taken) _ (loop .before .records-test .taken))
+
 records-again : tie.Need-records-again Inv-loop μ-loop Inv-records μ-records
 records-again c =
     let inv = c .before .loop .inv in
@@ -61,13 +68,6 @@ returns : tie.Need-returns Inv-loop μ-loop Inv-records μ-records
 returns c =
     let outer = c .before .records .inv in
     outer .2 ∙ sym (pairs-end _ _ (none-end _ _ _ (outer .1) (outer .0) (c .records-test .left)))
-
-returns-2 : tie.Need-returns-2 Inv-loop μ-loop Inv-records μ-records
-returns-2 c =
-    let loop = c .before .before .before in
-    let outer = loop .before .before in
-    sym (pair-here _ _ _ (outer .records .inv .1) (loop .loop .inv .1) (sym (c .before .touches .ensures) ∙ c .if1 .taken)
-    (c .before .before .loop-test .taken) _ (loop .before .records-test .taken))
 
 pub first-touching-spec : {M : Type 1} → statement M
 first-touching-spec =

@@ -22,7 +22,7 @@ try-touching-requires c κs =
     let list = now (s .args .list) in
     let none = was-sound (s .args .v) _ (8, first (badEntry n list) n) (c .try-records .ensures) sound in
     let given = s .pre (none .0) in
-    (given .0, given .1, entries-below n list (none .1))
+    (given .0, (given .1, entries-below n list (none .1)))
 
 returns : tie.Need-returns
 unfolding layoutFindings testOf

@@ -14,7 +14,7 @@ first-touching-requires : tie.Need-first-touching-requires
 first-touching-requires c κs =
     let e = c .records .ensures in
     let given = c .before .before .before .before .before .pre (c .before .enum-told .given .1) in
-    (e, rw e (given .1), rw e (given .2))
+    (e, rw e (given .1))
 
 verdict-requires : tie.Need-verdict-requires
 verdict-requires c κs = search needs
