@@ -167,7 +167,7 @@ static long calls, steps, refused[CHEREMYSL_PORT_TOO_CLOSE + 1];
 static int64_t tried(int call, uint16_t *layout) {
     int64_t answer = both(call, layout);
     calls++;
-    if (answer <= -65536) refused[-answer / 65536]++;
+    refused[cheremysl_refusal_number(answer)]++;
     return answer;
 }
 

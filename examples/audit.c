@@ -1,6 +1,7 @@
 /*
  * audit JOB PORT..: is an old sheet sound? Sound: each pad has a port of its own and no two leaders
- * share a point. Prints the sheet's length and bends, or what is wrong and the record at fault.
+ * share a point. Prints the sheet's length and bends, or what is wrong and the record at fault, or
+ * both records if their leaders touch.
  * The status is 0 for a sound sheet, 1 for any other, 2 if there is nothing to audit.
  */
 #include <inttypes.h>
@@ -15,7 +16,7 @@ static const char *const faults[] = {
     [CHEREMYSL_NAME_TWICE] = "this record's name stood in an earlier record",
     [CHEREMYSL_X_TWICE] = "this record's x stood in an earlier record",
     [CHEREMYSL_BAD_ENTRY] = "this record's port is not there, or was taken by an earlier record",
-    [CHEREMYSL_TOUCHING] = "this record's leader touches that of an earlier record",
+    [CHEREMYSL_TOUCHING] = "their leaders touch",
     [CHEREMYSL_PORT_TOO_CLOSE] = "this record's port is less than 8 above the one before",
 };
 
@@ -24,16 +25,23 @@ static int64_t measure(const struct given_sheet *s, uint32_t length_weight, uint
                              s->entries);
 }
 
+static void print_refusal(const struct given_sheet *s, int64_t answer) {
+    int number = cheremysl_refusal_number(answer), record = cheremysl_refusal_record(answer);
+    int earlier = cheremysl_refusal_earlier(answer);
+    printf("refused %d record %d", number, record);
+    if (number >= CHEREMYSL_BAD_FIELD) printf(" (pad %d)", pad_name(s, (size_t)record));
+    if (number == CHEREMYSL_TOUCHING)
+        printf(" and record %d (pad %d)", earlier, pad_name(s, (size_t)earlier));
+    if (number < (int)(sizeof faults / sizeof *faults) && faults[number] != NULL)
+        printf(": %s", faults[number]);
+    printf("\n");
+}
+
 int main(int argc, char **argv) {
     struct given_sheet s = read_given_sheet(argc, argv);
     int64_t length = measure(&s, 1, 0), bends = measure(&s, 0, 1);
     if (cheremysl_is_refusal(length)) {
-        int number = cheremysl_refusal_number(length), record = cheremysl_refusal_record(length);
-        printf("refused %d record %d", number, record);
-        if (number >= CHEREMYSL_BAD_FIELD) printf(" (pad %d)", pad_name(&s, (size_t)record));
-        if (number < (int)(sizeof faults / sizeof *faults) && faults[number] != NULL)
-            printf(": %s", faults[number]);
-        printf("\n");
+        print_refusal(&s, length);
         return 1;
     }
     if (s.entries > s.job_bytes / CHEREMYSL_RECORD_BYTES) {

@@ -81,10 +81,12 @@
  *      0 or more           the total (First, Next, Measure; at most CHEREMYSL_MAX_TOTAL), the
  *                          number of layouts written (Page), or of points, 2 or 3 (Draw)
  *      -1                  the end (Next only): no best layout comes after the given one
- *      -(65536 * r + i)    refusal number r with record number i
+ *      -(4294967296 * j + 65536 * r + i)
+ *                          refusal number r with record number i and, in refusal 9 alone, the
+ *                          earlier record j; in every other refusal j is 0
  *
- * cheremysl_is_refusal, cheremysl_refusal_number, cheremysl_refusal_record and
- * cheremysl_is_end, at the foot of this file, take an answer apart.
+ * cheremysl_is_refusal, cheremysl_refusal_number, cheremysl_refusal_record,
+ * cheremysl_refusal_earlier and cheremysl_is_end, at the foot of this file, take an answer apart.
  *
  * REFUSALS
  *
@@ -99,7 +101,8 @@
  *       6   a name other than 0 stood in an earlier record                   first such record
  *       7   an x stood in an earlier record                                  first such record
  *       8   a given entry is n or more, or stood earlier                     first such record
- *       9   a leader touches that of an earlier record                       first such record
+ *       9   a leader touches that of an earlier record                       first such record,
+ *                                                                            and the earlier one
  *      10   the given layout has no touching pair but is not best            0
  *      11   Draw's record number or port number is n or more                 0
  *      12   a port height is less than 8 above the one before                first such record
@@ -115,6 +118,10 @@
  * An input that deserves several refusals gets the one that stands first, with the first record
  * at fault for it: a port that is not above the one before gets 5, not 12. No refusal is given in
  * any other case.
+ *
+ * Refusal 9 names both leaders, in Next, Page and Measure alike: record i is the smallest that
+ * touches an earlier one, and j the smallest earlier one that it touches. Record 0 is a record, so
+ * ask for the refusal's number first: it tells whether a j of 0 names record 0 or none.
  *
  * WHO OWNS WHAT, AND WHAT STAYS UNCHANGED
  *
@@ -248,7 +255,7 @@ int64_t cheremysl_next(const uint8_t *job, size_t job_bytes, uint32_t length_wei
  * nothing about the end.
  *
  * Or refuses with 1 to 5, 12 or 6 to 10, checked in this order, where Next would and with the same
- * record, and writes nothing. 3 speaks of the layout, never of the page.
+ * records, and writes nothing. 3 speaks of the layout, never of the page.
  *
  * The page must overlap neither the job nor the layout. From a full page to the next:
  *
@@ -268,7 +275,7 @@ int64_t cheremysl_page(const uint8_t *job, size_t job_bytes, uint32_t length_wei
  *      layout, entries  a list of at least n entries, whose first n are the layout; only read
  *
  * Answers the total, or refuses with 1 to 5, 12 or 6 to 9, checked in this order. Writes
- * nothing. Refusal 9 names the first record whose leader touches that of an earlier record.
+ * nothing. Refusal 9 names the first pair of records whose leaders touch.
  */
 int64_t cheremysl_measure(const uint8_t *job, size_t job_bytes, uint32_t length_weight,
                           uint32_t bend_weight, const uint16_t *layout, size_t entries);
@@ -302,12 +309,17 @@ static inline int cheremysl_is_end(int64_t answer) { return answer == CHEREMYSL_
 
 /* The refusal's number, 1 to 12; 0 if the answer is not a refusal. */
 static inline int cheremysl_refusal_number(int64_t answer) {
-    return cheremysl_is_refusal(answer) ? (int)(answer / -65536) : 0;
+    return cheremysl_is_refusal(answer) ? (int)(answer / -65536 % 65536) : 0;
 }
 
 /* The refusal's record number; 0 if the answer is not a refusal. */
 static inline int cheremysl_refusal_record(int64_t answer) {
     return cheremysl_is_refusal(answer) ? (int)-(answer % 65536) : 0;
+}
+
+/* The earlier record of refusal 9; 0 for every other answer. It may be record 0. */
+static inline int cheremysl_refusal_earlier(int64_t answer) {
+    return cheremysl_is_refusal(answer) ? (int)(answer / -4294967296) : 0;
 }
 
 #ifdef __cplusplus

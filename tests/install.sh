@@ -89,10 +89,11 @@ prints 0 '12340
 10234
 01234' ports_of "$room/five.job"
 
-touching="this record's leader touches that of an earlier record"
-prints 1 "refused 9 record 2 (pad 403): $touching" $run "$room/audit" "$share/crossing.job" $(cat "$share/crossing.layout")
+crossing='refused 9 record 2 (pad 403) and record 1 (pad 402): their leaders touch'
+prints 1 "$crossing" $run "$room/audit" "$share/crossing.job" $(cat "$share/crossing.layout")
+check "the README's crossing leaders" grep -qxF "    $crossing" README.md
 prints 0 'sound: length 546, bends 2' $run "$room/audit" "$share/crossing.job" 3 2 1 0
-prints 1 "refused 9 record 1 (pad 102): $touching" $run "$room/audit" "$share/J5.job" 0 1 2
+prints 1 'refused 9 record 1 (pad 102) and record 0 (pad 101): their leaders touch' $run "$room/audit" "$share/J5.job" 0 1 2
 printf '101 10 0 10\n102 20 30 17\n' | "$share/mkjob" >"$room/close.job"
 prints 1 "refused 12 record 1 (pad 102): this record's port is less than 8 above the one before" $run "$room/audit" "$room/close.job" 0 1
 
