@@ -22,15 +22,17 @@ static int passed, failed;
 
 static void check(int ok) { *(ok ? &passed : &failed) += 1; }
 
-static void is_refusal(int64_t answer, int number, int record) {
+static void is_refusal(int64_t answer, int number, int record, int earlier) {
     check(cheremysl_is_refusal(answer) == 1 && cheremysl_is_end(answer) == 0);
     check(cheremysl_refusal_number(answer) == number);
     check(cheremysl_refusal_record(answer) == record);
+    check(cheremysl_refusal_earlier(answer) == earlier);
 }
 
 static void is_no_refusal(int64_t answer, int end) {
     check(cheremysl_is_refusal(answer) == 0 && cheremysl_is_end(answer) == end);
     check(cheremysl_refusal_number(answer) == 0 && cheremysl_refusal_record(answer) == 0);
+    check(cheremysl_refusal_earlier(answer) == 0);
 }
 
 static void answers(void) {
@@ -40,16 +42,26 @@ static void answers(void) {
     is_no_refusal(CHEREMYSL_END, 1);
     for (int number = CHEREMYSL_BAD_SIZE; number <= CHEREMYSL_PORT_TOO_CLOSE; number++)
         for (int record = 0; record < CHEREMYSL_MAX_RECORDS; record++)
-            is_refusal(-(65536 * (int64_t)number + record), number, record);
+            is_refusal(-(65536 * (int64_t)number + record), number, record, 0);
+}
+
+/* Refusal 9 with any two records: all that went into the number comes out of it. */
+static void pairs(void) {
+    int64_t nine = 65536 * CHEREMYSL_TOUCHING;
+    for (int record = 0; record < CHEREMYSL_MAX_RECORDS; record++)
+        for (int64_t earlier = 0; earlier < CHEREMYSL_MAX_RECORDS; earlier++)
+            is_refusal(-(4294967296 * earlier + nine + record), 9, record, (int)earlier);
+    is_refusal(-4295557122, 9, 2, 1);
+    is_refusal(-589825, 9, 1, 0);
 }
 
 static void calls(void) {
-    is_refusal(measure_call(NULL, 0, 0, 0, NULL, 0), CHEREMYSL_BAD_SIZE, 0);
-    is_refusal(draw_call(NULL, 0, 0, 0, NULL, 0), CHEREMYSL_BAD_SIZE, 0);
+    is_refusal(measure_call(NULL, 0, 0, 0, NULL, 0), CHEREMYSL_BAD_SIZE, 0, 0);
+    is_refusal(draw_call(NULL, 0, 0, 0, NULL, 0), CHEREMYSL_BAD_SIZE, 0, 0);
 #ifndef NO_SEARCH
-    is_refusal(first_call(NULL, 0, 0, 0, NULL, 0), CHEREMYSL_BAD_SIZE, 0);
-    is_refusal(next_call(NULL, 0, 0, 0, NULL, 0), CHEREMYSL_BAD_SIZE, 0);
-    is_refusal(page_call(NULL, 0, 0, 0, NULL, 0, NULL, 0), CHEREMYSL_BAD_SIZE, 0);
+    is_refusal(first_call(NULL, 0, 0, 0, NULL, 0), CHEREMYSL_BAD_SIZE, 0, 0);
+    is_refusal(next_call(NULL, 0, 0, 0, NULL, 0), CHEREMYSL_BAD_SIZE, 0, 0);
+    is_refusal(page_call(NULL, 0, 0, 0, NULL, 0, NULL, 0), CHEREMYSL_BAD_SIZE, 0, 0);
 #endif
 }
 
@@ -64,6 +76,7 @@ static void limits(void) {
 
 int main(void) {
     answers();
+    pairs();
     calls();
     limits();
     printf("%d passed, %d failed\n", passed, failed);

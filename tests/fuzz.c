@@ -12,8 +12,6 @@
 #include "boards.h"
 #include "trial.h"
 
-#define ENDS PLAIN_REFUSALS /* an outcome beside the refusal numbers */
-
 /* ---- from bytes to a question ---- */
 
 struct bytes {
@@ -194,13 +192,13 @@ static bool large_sheet(const struct question *q) {
 
 /* ---- the trial ---- */
 
-/* The refusal's number, ENDS, or 0 for an accepted question; -1 if the library failed. */
+/* What the question came to; -1 if the library failed. */
 static int outcome(const uint8_t *data, size_t size, struct question *q) {
     question_of(data, size, q);
     struct reply r = plain_reply(q);
     if (r.answer == PLAIN_UNKNOWN) return large_sheet(q) ? 0 : -1;
     if (!expect(q, r)) return -1;
-    return r.answer == -1 ? ENDS : r.answer < 0 ? (int)(r.answer / -65536) : 0;
+    return outcome_of(r.answer);
 }
 
 #ifdef LIBFUZZER
@@ -222,10 +220,10 @@ int LLVMFuzzerTestOneInput(const uint8_t *data, size_t size) {
 
 #else
 
-#define SIZE 400     /* the longest input */
-#define SIZES (8 + JOB_ROOM / 128 + 1)   /* classes of numbers of records */
-#define KEPT (CALLS * (ENDS + 1) * SIZES) /* one input for each kind of outcome */
-#define ENOUGH (5000 * CALLS) /* inputs for every refusal to have come */
+#define SIZE 400                        /* the longest input */
+#define SIZES (8 + JOB_ROOM / 128 + 1)  /* classes of numbers of records */
+#define KEPT (CALLS * OUTCOMES * SIZES) /* one input for each kind of outcome */
+#define ENOUGH (5000 * CALLS)           /* inputs for every refusal to have come */
 
 struct input {
     uint8_t data[SIZE];
@@ -234,14 +232,14 @@ struct input {
 
 static struct input kept[KEPT];
 static size_t kept_count;
-static long came[CALLS][ENDS + 1]; /* how often each outcome came */
+static long came[CALLS][OUTCOMES]; /* how often each outcome came */
 
 /* Keeps an input if no other had its call, its outcome and about its number of records. */
-static void keep_if_new(const struct input *in, const struct question *q, int reason) {
-    static bool seen[CALLS][ENDS + 1][SIZES];
+static void keep_if_new(const struct input *in, const struct question *q, int what) {
+    static bool seen[CALLS][OUTCOMES][SIZES];
     size_t n = records_of(q);
-    bool *mark = &seen[q->call][reason][n < 8 ? n : 8 + n / 8];
-    came[q->call][reason]++;
+    bool *mark = &seen[q->call][what][n < 8 ? n : 8 + n / 8];
+    came[q->call][what]++;
     if (!*mark) kept[kept_count++] = *in;
     *mark = true;
 }
@@ -278,9 +276,13 @@ static void next_input(struct input *in, uint64_t seed) {
 
 static void report(long count) {
     for (int call = 0; call < CALLS; call++) {
-        printf("%-8s %ld accepted, %ld ends\n", call_names[call], came[call][0], came[call][ENDS]);
+        const long *of = came[call];
+        bool another = of[OTHER_PAIR] > 0 || !takes_layout(call);
+        printf("%-8s %ld accepted, %ld ends, 9 with record 0: %ld, with another: %ld\n",
+               call_names[call], of[0], of[ENDS], of[9], of[OTHER_PAIR]);
+        check(count < ENOUGH || another, NULL, "9 never named another earlier record than 0");
         for (const int *number = refusals_of[call]; *number != 0; number++)
-            check(count < ENOUGH || came[call][*number] > 0, NULL, "a refusal that never came");
+            check(count < ENOUGH || of[*number] > 0, NULL, "a refusal that never came");
     }
     printf("%ld inputs, %zu of them kept\n", count, kept_count);
 }
@@ -293,8 +295,8 @@ int main(int argc, char **argv) {
     begin();
     for (long k = 0; k < count; k++) {
         next_input(&in, (seed << 32) + (uint64_t)k);
-        int reason = outcome(in.data, in.size, &q);
-        if (reason >= 0) keep_if_new(&in, &q, reason);
+        int what = outcome(in.data, in.size, &q);
+        if (what >= 0) keep_if_new(&in, &q, what);
     }
     report(count);
     return done();

@@ -257,14 +257,14 @@ static void large_pages(void) {
 
 /* ---- damaged questions ---- */
 
-static long came[2][PLAIN_REFUSALS]; /* with room for none, for some; by refusal; 0: accepted */
+static long came[2][OUTCOMES]; /* with room for none, for some */
 
 static void damaged(void) {
     static struct question q;
     sound_question(&q, PAGE);
     for (uint32_t times = below(4); times > 0; times--) damage(&q);
     struct reply r = stepped(&q);
-    came[q.page_entries >= records_of(&q)][r.answer < 0 ? r.answer / -65536 : 0]++;
+    came[q.page_entries >= records_of(&q)][outcome_of(r.answer)]++;
     expect(&q, r);
 }
 

@@ -47,6 +47,9 @@ struct given {
 /* The first record at fault for one refusal number, whatever the others say; -1 if none is. */
 int plain_fault(const struct given *g, int number);
 
+/* The first record before record i whose leader touches that of record i; -1 if none does. */
+int plain_earlier(const struct given *g, size_t i);
+
 /* The total of any assignment, touching or not. */
 int64_t plain_total(const struct given *g, const uint16_t *layout);
 

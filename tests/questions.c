@@ -139,9 +139,14 @@ void damage(struct question *q) {
 /* ---- the report ---- */
 
 void report_refusals(const char *title, enum call call, const long *came) {
-    printf("%-8s %ld accepted, refused", title, came[0]);
+    printf("%-8s %ld accepted, refused", title, came[0] + came[ENDS]);
     for (const int *number = refusals_of[call]; *number != 0; number++) {
-        printf(" %d: %ld%s", *number, came[*number], number[1] ? "," : "\n");
+        printf(" %d: %ld", *number, came[*number]);
         check(came[*number] > 0, NULL, "a refusal that never came");
+        if (*number == 9) {
+            printf(" with record 0 and %ld with another", came[OTHER_PAIR]);
+            check(came[OTHER_PAIR] > 0, NULL, "9 never named another earlier record than 0");
+        }
+        printf(number[1] ? "," : "\n");
     }
 }

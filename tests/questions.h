@@ -13,7 +13,7 @@ void damage(struct question *q);
 /* How many entries a page has: room for none, or for some, exactly or with a remainder; n pads. */
 size_t any_room(size_t n);
 
-/* Prints how often each refusal of a call came; each must have. Counts by number; 0: accepted. */
+/* Prints how often each refusal of a call came; each must have, 9 in both forms. By outcome. */
 void report_refusals(const char *title, enum call call, const long *came);
 
 #endif

@@ -9,7 +9,7 @@
 #include "questions.h"
 #include "trial.h"
 
-static long came[CALLS][PLAIN_REFUSALS]; /* by refusal number; 0: accepted */
+static long came[CALLS][OUTCOMES];
 
 static void one_question(void) {
     static struct question q;
@@ -17,7 +17,7 @@ static void one_question(void) {
     sound_question(&q, below(CALLS));
     for (uint32_t times = below(4); times > 0; times--) damage(&q);
     while ((r = plain_reply(&q)).answer == PLAIN_UNKNOWN) damage(&q);
-    came[q.call][r.answer < -1 ? r.answer / -65536 : 0]++;
+    came[q.call][outcome_of(r.answer)]++;
     expect(&q, r);
 }
 

@@ -46,6 +46,9 @@ static void swap_entries(struct question *q, size_t i, size_t j) {
     q->list.layout[j] = kept;
 }
 
+/* The earlier record whose leader record i's will touch. */
+static size_t touched_by(size_t i, int way) { return way == 0 ? i - 1 : 0; }
+
 static void bad_field(struct question *q, size_t i, int way) {
     if (way == 0) put_reserved(q->job, i, 1);
     if (way == 1) put_x(q->job, i, 0);
@@ -77,7 +80,7 @@ static bool spoil(struct question *q, int number, size_t i, int way) {
         if (way < 2) q->list.layout[i] = way ? 65535 : N;
         if (way >= 2 && i > 0) q->list.layout[i] = q->list.layout[copied_from(i, way)];
         return way < (i > 0 ? 4 : 2);
-    case 9: swap_entries(q, i - 1, i); return i < 4 && way == 0;
+    case 9: swap_entries(q, touched_by(i, way), i); return i < 4 && way < (i == 2 ? 2 : 1);
     case 10: swap_entries(q, 4, 5); return way == 0;
     case 11: *(way % 2 ? &q->a : &q->b) = way < 2 ? N : UINT32_MAX; return way < 4;
     case 12: put_port(q->job, i, get_port(q->job, i - 1) + (way ? 1 : 7)); return way < 2;
@@ -85,11 +88,14 @@ static bool spoil(struct question *q, int number, size_t i, int way) {
     }
 }
 
+/* 9 names the first earlier record as well, every other refusal none. */
 static void is_refused(struct question q, int number, int record) {
-    expect(&q, keeps(&q, refused(number, record)));
+    int64_t answer = refused(number, record);
+    if (number == 9) answer = refused_pair(record, earlier_of(&q, record));
+    expect(&q, keeps(&q, answer));
     if (q.call != PAGE) return;
     q.page_entries = 0;
-    expect(&q, keeps(&q, refused(number, record)));
+    expect(&q, keeps(&q, answer));
 }
 
 /* Each refusal alone. */
@@ -99,6 +105,8 @@ static void alone(enum call call, int number) {
             struct question q = good(call);
             if (!spoil(&q, number, i, way)) continue;
             check(fault_of(&q, number) == (int)i, &q, "the plain account finds another record");
+            if (number == 9)
+                check(earlier_of(&q, (int)i) == (int)touched_by(i, way), &q, "or another pair");
             is_refused(q, number, (int)i);
         }
 }

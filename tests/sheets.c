@@ -34,6 +34,7 @@ static const struct record J5[] = {{10, 10, 0}, {20, 20, 10}, {30, 30, 20}};
 
 #define NONE {-1}
 #define REFUSED(r, i) (-65536 * (r) - (i))
+#define TOUCHING(i, j) (REFUSED(9, i) - 4294967296 * (j))
 #define END (-1)
 
 /* A job, a call, its weights, the layout given, the answer, the layout that was written, if any. */
@@ -43,12 +44,14 @@ static const struct {
     size_t n;
     enum call call;
     uint32_t length_weight, bend_weight;
-    int given[3], answer, written[3];
+    int given[3];
+    int64_t answer;
+    int written[3];
 } sheets[] = {
     {"P1", J1, 1, FIRST, 1, 0, NONE, 5, {0}},
     {"P2", J1, 1, FIRST, 0, 1, NONE, 0, {0}},
     {"P3", J2, 2, FIRST, 1, 0, NONE, 50, {0, 1}},
-    {"P4", J2, 2, NEXT, 1, 0, {1, 0}, REFUSED(9, 1), NONE},
+    {"P4", J2, 2, NEXT, 1, 0, {1, 0}, TOUCHING(1, 0), NONE},
     {"P5", J3, 2, FIRST, 1, 0, NONE, 40, {1, 0}},
     {"P6", J3, 2, NEXT, 1, 0, {1, 0}, 40, {0, 1}},
     {"P7", J3, 2, NEXT, 1, 0, {0, 1}, END, NONE},
@@ -56,14 +59,14 @@ static const struct {
     {"P9", J4, 2, FIRST, 1, 0, NONE, 75, {0, 1}},
     {"P10", J4, 2, NEXT, 1, 0, {1, 0}, REFUSED(10, 0), NONE},
     {"P11", J5, 3, FIRST, 2, 3, NONE, 183, {1, 2, 0}},
-    {"P12", J5, 3, MEASURE, 1, 0, {0, 1, 2}, REFUSED(9, 1), NONE},
+    {"P12", J5, 3, MEASURE, 1, 0, {0, 1, 2}, TOUCHING(1, 0), NONE},
     /* P10 names this total; with both weights 0 both layouts are best. */
     {"J4's other layout", J4, 2, MEASURE, 1, 0, {1, 0}, 85, NONE},
     {"J4, weights 0, 0", J4, 2, FIRST, 0, 0, NONE, 0, {1, 0}},
     {"J4, weights 0, 0", J4, 2, NEXT, 0, 0, {1, 0}, 0, {0, 1}},
     {"J4, weights 0, 0", J4, 2, NEXT, 0, 0, {0, 1}, END, NONE},
     /* Page from the same layouts: the one that follows, none, or Next's refusal. */
-    {"P4 as a page", J2, 2, PAGE, 1, 0, {1, 0}, REFUSED(9, 1), NONE},
+    {"P4 as a page", J2, 2, PAGE, 1, 0, {1, 0}, TOUCHING(1, 0), NONE},
     {"P6 as a page", J3, 2, PAGE, 1, 0, {1, 0}, 1, {0, 1}},
     {"P7 as a page", J3, 2, PAGE, 1, 0, {0, 1}, 0, NONE},
     {"P8 as a page", J3, 2, PAGE, 1, 0, {0, 0}, REFUSED(8, 1), NONE},
@@ -71,20 +74,24 @@ static const struct {
     {"J4, weights 0, 0", J4, 2, PAGE, 0, 0, {1, 0}, 1, {0, 1}},
     {"J4, weights 0, 0", J4, 2, PAGE, 0, 0, {0, 1}, 0, NONE},
     {"J5's end", J5, 3, PAGE, 2, 3, {1, 2, 0}, 0, NONE},
-    {"J5 by pad height", J5, 3, PAGE, 1, 0, {0, 1, 2}, REFUSED(9, 1), NONE},
+    {"J5 by pad height", J5, 3, PAGE, 1, 0, {0, 1, 2}, TOUCHING(1, 0), NONE},
     {"ports 7 apart", J2_7, 2, PAGE, 1, 0, {0, 1}, REFUSED(12, 1), NONE},
     /* What First and Next find, measured; their refusals, from Measure. */
     {"P1 measured", J1, 1, MEASURE, 1, 0, {0}, 5, NONE},
     {"P2 measured", J1, 1, MEASURE, 0, 1, {0}, 0, NONE},
     {"P3 measured", J2, 2, MEASURE, 1, 0, {0, 1}, 50, NONE},
-    {"P4 measured", J2, 2, MEASURE, 1, 0, {1, 0}, REFUSED(9, 1), NONE},
+    {"P4 measured", J2, 2, MEASURE, 1, 0, {1, 0}, TOUCHING(1, 0), NONE},
     {"P5 measured", J3, 2, MEASURE, 1, 0, {1, 0}, 40, NONE},
     {"P6 measured", J3, 2, MEASURE, 1, 0, {0, 1}, 40, NONE},
     {"P8 measured", J3, 2, MEASURE, 1, 0, {0, 0}, REFUSED(8, 1), NONE},
     {"P9 measured", J4, 2, MEASURE, 1, 0, {0, 1}, 75, NONE},
     {"P11 measured", J5, 3, MEASURE, 2, 3, {1, 2, 0}, 183, NONE},
     {"J5's end", J5, 3, NEXT, 2, 3, {1, 2, 0}, END, NONE},
-    {"J5 by pad height", J5, 3, NEXT, 1, 0, {0, 1, 2}, REFUSED(9, 1), NONE},
+    {"J5 by pad height", J5, 3, NEXT, 1, 0, {0, 1, 2}, TOUCHING(1, 0), NONE},
+    /* An earlier record other than 0. */
+    {"J5, 2 with 1", J5, 3, MEASURE, 1, 0, {1, 0, 2}, TOUCHING(2, 1), NONE},
+    {"J5, 2 with 1", J5, 3, NEXT, 1, 0, {1, 0, 2}, TOUCHING(2, 1), NONE},
+    {"J5, 2 with 1", J5, 3, PAGE, 1, 0, {1, 0, 2}, TOUCHING(2, 1), NONE},
     /* Ports 8 and 7 apart. */
     {"ports 8 apart", J2_8, 2, FIRST, 1, 0, NONE, 52, {0, 1}},
     {"ports 8 apart", J2_8, 2, NEXT, 1, 0, {0, 1}, END, NONE},

@@ -109,6 +109,12 @@ struct given given_of(const struct question *q) {
 /* ---- replies ---- */
 
 int64_t refused(int number, int record) { return -(65536 * (int64_t)number + record); }
+int64_t refused_pair(int record, int earlier) { return refused(9, record) - 4294967296 * earlier; }
+
+int outcome_of(int64_t answer) {
+    if (cheremysl_is_end(answer)) return ENDS;
+    return cheremysl_refusal_earlier(answer) > 0 ? OTHER_PAIR : cheremysl_refusal_number(answer);
+}
 
 struct reply keeps(const struct question *q, int64_t answer) {
     struct reply r;
@@ -166,6 +172,11 @@ int fault_of(const struct question *q, int number) {
     return plain_fault(&g, number);
 }
 
+int earlier_of(const struct question *q, int record) {
+    struct given g = given_of(q);
+    return plain_earlier(&g, (size_t)record);
+}
+
 static size_t bytes_of(const struct question *q) {
     return q->count * (q->call == DRAW ? sizeof(float) : sizeof(uint16_t));
 }
@@ -177,8 +188,7 @@ static size_t page_bytes_of(const struct question *q) {
 
 /* ---- asking the library ---- */
 
-/* Over a job and lists that stand anywhere. */
-static int64_t call_over(const struct question *q, const uint8_t *job, void *list,
+static int64_t bare_call(const struct question *q, const uint8_t *job, void *list,
                          uint16_t *page) {
     (void)page;
     switch (q->call) {
@@ -193,6 +203,25 @@ static int64_t call_over(const struct question *q, const uint8_t *job, void *lis
 #endif
     default: abort();
     }
+}
+
+/* Can the call answer so? A refusal is one of its own; 9, and no other, names an earlier record. */
+static bool can_answer(enum call call, int64_t answer) {
+    int number = cheremysl_refusal_number(answer), record = cheremysl_refusal_record(answer);
+    const int *own = refusals_of[call];
+    if (answer >= -1) return answer >= 0 || call == NEXT;
+    while (*own != 0 && *own != number) own++;
+    if (number != 9) return *own != 0 && answer == refused(number, record);
+    int earlier = cheremysl_refusal_earlier(answer);
+    return *own != 0 && earlier < record && answer == refused_pair(record, earlier);
+}
+
+/* Over a job and lists that stand anywhere. */
+static int64_t call_over(const struct question *q, const uint8_t *job, void *list,
+                         uint16_t *page) {
+    int64_t answer = bare_call(q, job, list, page);
+    if (!can_answer(q->call, answer)) check(false, q, "an answer that the call does not have");
+    return answer;
 }
 
 int64_t call_library(struct question *q) { return call_over(q, q->job, &q->list, q->page); }

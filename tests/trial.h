@@ -61,8 +61,16 @@ void lend_page(struct question *q, size_t entries);
 size_t records_of(const struct question *q);
 struct given given_of(const struct question *q);
 
-/* The answer of a refusal. */
+/* The answer of a refusal that names one record; of refusal 9, which names two. */
 int64_t refused(int number, int record);
+int64_t refused_pair(int record, int earlier);
+
+/*
+ * What a question came to: 0 if it was accepted, a refusal's number, ENDS, or OTHER_PAIR: refusal 9
+ * with another earlier record than 0.
+ */
+enum { OTHER_PAIR = PLAIN_REFUSALS, ENDS, OUTCOMES };
+int outcome_of(int64_t answer);
 
 /* The reply that leaves the lists as they are; the one that puts a layout into the list. */
 struct reply keeps(const struct question *q, int64_t answer);
@@ -74,11 +82,12 @@ struct reply fills(const struct question *q, const uint16_t *layouts, size_t apa
 /* The reply to Page that calls of the library's Next make: one a layout that fits, and one more. */
 struct reply stepped(const struct question *q);
 
-/* The plain account's reply, and its word on one refusal number (plain_fault). */
+/* The plain account's reply; its word on one refusal number, and on a record's first touch. */
 struct reply plain_reply(const struct question *q);
 int fault_of(const struct question *q, int number);
+int earlier_of(const struct question *q, int record);
 
-/* The library's answer, over the question's own job and lists. */
+/* The library's answer, over the question's own job and lists. It fails if no call answers so. */
 int64_t call_library(struct question *q);
 
 /* The library's reply. It fails if anything but the list that it may write was changed. */
