@@ -12,35 +12,6 @@
 
 static long sheets_listed, most_sheets;
 
-/* ---- the plain account's touching, tried point by point on small boards ---- */
-
-static bool between(int64_t m, int64_t a, int64_t b) {
-    return (a <= m && m <= b) || (b <= m && m <= a);
-}
-
-static bool on_leader(const uint8_t *job, size_t i, size_t q, int64_t x, int64_t y) {
-    int64_t height = get_port(job, q);
-    bool on_hand = x == get_x(job, i) && between(y, get_y(job, i), height);
-    bool on_arm = y == height && between(x, 0, get_x(job, i));
-    return on_hand || on_arm;
-}
-
-static bool share_a_point(const uint8_t *job, size_t i, size_t p, size_t j, size_t q) {
-    for (int64_t x = 0; x <= 99; x++)
-        for (int64_t y = -40; y <= 40; y++)
-            if (on_leader(job, i, p, x, y) && on_leader(job, j, q, x, y)) return true;
-    return false;
-}
-
-static void touching(void) {
-    uint8_t job[16 * 3];
-    for (int k = 0; k < 300; k++) {
-        size_t p = below(3), q = (p + 1 + below(2)) % 3;
-        make_board(job, 3, below(2) ? CLOSE : LEVEL);
-        check(plain_touch(job, 0, p, 1, q) == share_a_point(job, 0, p, 1, q), NULL, "touching");
-    }
-}
-
 /* ---- a complete run ---- */
 
 static bool run(struct question *q, const struct sheets *all) {
@@ -111,7 +82,6 @@ int main(int argc, char **argv) {
     long count = argc > 1 ? atol(argv[1]) : 20000;
     seed_random(argc > 2 ? strtoull(argv[2], NULL, 10) : 1);
     begin();
-    touching();
     for (long k = 0; k < count; k++) one_job();
     printf("%ld jobs, %ld sheets listed, at most %ld of one job\n", count, sheets_listed,
            most_sheets);

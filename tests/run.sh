@@ -87,6 +87,7 @@ done
 
 both sheets
 both refusals
+both touching 100 10
 both random 250000 25000
 both fuzz 250000 25000
 if [ $search ]; then
