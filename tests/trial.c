@@ -188,7 +188,8 @@ static size_t page_bytes_of(const struct question *q) {
 
 /* ---- asking the library ---- */
 
-static int64_t bare_call(const struct question *q, const uint8_t *job, void *list,
+/* Over a job and lists that stand anywhere. */
+static int64_t call_over(const struct question *q, const uint8_t *job, void *list,
                          uint16_t *page) {
     (void)page;
     switch (q->call) {
@@ -205,6 +206,8 @@ static int64_t bare_call(const struct question *q, const uint8_t *job, void *lis
     }
 }
 
+int64_t call_library(struct question *q) { return call_over(q, q->job, &q->list, q->page); }
+
 /* Can the call answer so? A refusal is one of its own; 9, and no other, names an earlier record. */
 static bool can_answer(enum call call, int64_t answer) {
     int number = cheremysl_refusal_number(answer), record = cheremysl_refusal_record(answer);
@@ -215,16 +218,6 @@ static bool can_answer(enum call call, int64_t answer) {
     int earlier = cheremysl_refusal_earlier(answer);
     return *own != 0 && earlier < record && answer == refused_pair(record, earlier);
 }
-
-/* Over a job and lists that stand anywhere. */
-static int64_t call_over(const struct question *q, const uint8_t *job, void *list,
-                         uint16_t *page) {
-    int64_t answer = bare_call(q, job, list, page);
-    if (!can_answer(q->call, answer)) check(false, q, "an answer that the call does not have");
-    return answer;
-}
-
-int64_t call_library(struct question *q) { return call_over(q, q->job, &q->list, q->page); }
 
 struct reply ask(const struct question *q, enum side side) {
     static struct guarded jobs, read_only, writable, pages;
@@ -248,6 +241,7 @@ struct reply ask(const struct question *q, enum side side) {
         check(false, q, "written beside the list");
     if (!guard_get(&jobs, side, job, q->job_bytes) || memcmp(job, q->job, q->job_bytes) != 0)
         check(false, q, "the job was changed");
+    if (!can_answer(q->call, r.answer)) check(false, q, "an answer that the call does not have");
     return r;
 }
 

@@ -87,10 +87,13 @@ struct reply plain_reply(const struct question *q);
 int fault_of(const struct question *q, int number);
 int earlier_of(const struct question *q, int record);
 
-/* The library's answer, over the question's own job and lists. It fails if no call answers so. */
+/* The library's answer, over the question's own job and lists. */
 int64_t call_library(struct question *q);
 
-/* The library's reply. It fails if anything but the list that it may write was changed. */
+/*
+ * The library's reply. It fails if anything but the list that it may write was changed, or if the
+ * answer is none that the call can give.
+ */
 struct reply ask(const struct question *q, enum side side);
 
 /* Asks the library, the lists at every side, and compares with the expected reply, to the bit. */
