@@ -1,6 +1,6 @@
 -- Each test of laws/Tests says what its fault says, so that the findings of laws/Verdicts give the right verdict on every input.
 use mathlib.Core.Path.{_≡_}
-use mathlib.Core.Logic.{_≢_, _⊎_, inl, inr, _↔_, Iff·trans}
+use mathlib.Core.Logic.{_⊎_, inl, inr, _↔_, Iff·trans}
 use mathlib.Core.Bool.{not, _||_, or-assoc}
 use mathlib.Core.List.{List}
 use Prim.Native.Nat.{ℕ, _-_, _%_, _≤_, _<_}
@@ -11,7 +11,7 @@ use lib.Signed.{leZ, ltZ, _<ℤ_}
 use Rattle.numbers.specs.Whole.{whole}
 use Rattle.numbers.specs.Tests.{and-iff, or-iff, not-iff, leb-iff, ltb-iff, le-iff, eqb-iff, lt-iff}
 use Rattle.paper.specs.Job.{count, nameOf, reservedOf, xOf, yOf, portOf}
-use Rattle.paper.specs.Layouts.{Board, boardOf, held, leader, Touching}
+use Rattle.paper.specs.Layouts.{boardOf, held, leader, Touching}
 use Rattle.paper.specs.Refusals.{Passed, jobTrials, firstTrials, measureTrials, drawTrials}
 use Rattle.paper.specs.Refusals.{BadSize, BadWeight, Outside, BadField, NotAbove, TooClose, SameName, SameX, BadEntry}
 use Rattle.paper.specs.declared.verdict.Verdict.the-variants.{Sound}
@@ -83,10 +83,6 @@ bad-entry-iff n list i =
     or-iff (leb n (held list i)) (earlier (sameEntry list) i) (leb-iff n (held list i))
     (earlier-iff (sameEntry list) (λ i j. held list i ≡ held list j) i (λ j l. eqb-iff (held list i) (held list j)))
 
--- 9, for two pads whose x differ.
-pub touch-tells : (b : Board) (f : ℕ → ℕ) (i j : ℕ) → b .x i ≢ b .x j → T (touch b f i j) ↔ Touching b f i j
-touch-tells b f i j differ = touching-iff (leader b i (f i)) (leader b j (f j)) differ
-
 -- 11
 pub bad-number-iff : (n i q : ℕ) → T (badNumber n i q) ↔ ((n ≤ i) ⊎ (n ≤ q))
 bad-number-iff n i q = or-iff (leb n i) (leb n q) (leb-iff n i) (leb-iff n q)
@@ -120,7 +116,7 @@ measure-tried job lw bw list =
     tried-append (first-tried job lw bw (length list)) (λ passed.
     tried-more (finds-first 8 _ _ (badEntry (count job) list) (λ i l. bad-entry-iff (count job) list i)) (λ _.
     tried-more (finds-pairs 9 (count job) (Touching (boardOf job) (held list)) (touch (boardOf job) (held list)) (λ i j l k.
-    touch-tells (boardOf job) (held list) i j (passed-differ job (passed .1 .1 .1) i j k l))) (λ _.
+    touching-iff (leader (boardOf job) i (held list i)) (leader (boardOf job) j (held list j)) (passed-differ job (passed .1 .1 .1) i j k l))) (λ _.
     tried-none)))
 
 draw-tried : (job : List ℕ) (i q room : ℕ) → Tried (drawFindings job i q room) (drawTrials job i q room)

@@ -199,13 +199,7 @@ module _ (job : List ℕ) (lw bw : ℕ) (given before after : List ℕ) where
   wrote-told k (Wrote m, p, e) = let n : m ≡ k = cc in rw n at p
   wrote-told k (NotPaged r, p, e) = absurd (refusal-apart r k (paged-small r p) e)
 
-  -- and a refusal's number that refusal.
-  pub not-paged-told : (r : Refusal) → SmallRefusal r → PagePromise job lw bw given before (refusalNumber r) after
-      → PageAnswers job lw bw given before (NotPaged r) after
-  not-paged-told r s (Wrote k, p, e) = absurd (refusal-apart r k s (sym e))
-  not-paged-told r s (NotPaged w, p, e) =
-      subst (λ (r : Refusal). PageAnswers job lw bw given before (NotPaged r) after) (refusal-told w r (paged-small w p) s (sym e)) p
-
+  -- and one of -65,536 or less is a refusal, which the caller gets back.
   pub page-back : (c : ℤ) → PagePromise job lw bw given before c after → c ≤ℤ negℤ (pos 65536)
       → PageAnswers job lw bw given before (NotPaged (refusalIn c)) after
   page-back c (Wrote k, p, e) l = absurd (low-apart k c e l)
@@ -230,13 +224,7 @@ module _ (job : List ℕ) (i q : ℕ) (before after : List Float) where
   bent-told (Bent d, p, e) = (d, p)
   bent-told (NotDrawn r, p, e) = absurd (refusal-apart r 3 (drawn-small r p) e)
 
-  -- and a refusal's number that refusal.
-  pub not-drawn-told : (r : Refusal) → SmallRefusal r → DrawPromise job i q before (refusalNumber r) after → DrawAnswers job i q before (NotDrawn r) after
-  not-drawn-told r s (Straight d, p, e) = absurd (refusal-apart r 2 s (sym e))
-  not-drawn-told r s (Bent d, p, e) = absurd (refusal-apart r 3 s (sym e))
-  not-drawn-told r s (NotDrawn w, p, e) =
-      subst (λ (r : Refusal). DrawAnswers job i q before (NotDrawn r) after) (refusal-told w r (drawn-small w p) s (sym e)) p
-
+  -- and -65,536 or less is a refusal, which the caller gets back.
   pub draw-back : (c : ℤ) → DrawPromise job i q before c after → c ≤ℤ negℤ (pos 65536) → DrawAnswers job i q before (NotDrawn (refusalIn c)) after
   draw-back c (Straight d, p, e) l = absurd (low-apart 2 c e l)
   draw-back c (Bent d, p, e) l = absurd (low-apart 3 c e l)

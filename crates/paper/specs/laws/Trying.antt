@@ -11,14 +11,14 @@ use native.Mathlib.Omega.{arith}
 use lib.Dec.{T, leb, ltb, eqb}
 use lib.ListN.{length}
 use Rattle.numbers.specs.Tests.{either, dec-iff, and-iff, or-iff, not-iff, leb-iff, ltb-iff, eqb-iff}
-use Rattle.paper.specs.Layouts.{Board, held, Touching, Untouching, total, Best, Before, FirstBest, NextBest, LastBest}
+use Rattle.paper.specs.Layouts.{Board, held, leader, Touching, Untouching, total, Best, Before, FirstBest, NextBest, LastBest}
 use Rattle.paper.specs.Refusals.{Earlier}
 use Rattle.paper.specs.laws.Proper.{Differ, Same}
 use Rattle.paper.specs.laws.Search.{some, earlier}
 use Rattle.paper.specs.laws.Tests.{touch}
 use Rattle.paper.specs.laws.Boards.{untouching-of, untouching-same, total-same, best-same}
 use Rattle.paper.specs.laws.Trials.{some-iff, earlier-iff}
-use Rattle.paper.specs.laws.Judged.{touch-tells}
+use Rattle.paper.specs.laws.Touching.{touching-iff}
 use Rattle.paper.specs.laws.Order.{before-same}
 
 -- ---- all assignments
@@ -160,7 +160,7 @@ module _ (b : Board) (differ : Differ b) where
       parts : T (not (some (misled b f) (b .pads))) ↔ (¬ ((i : ℕ) × (i < b .pads) × Misled i))
       parts = not-iff (some (misled b f) (b .pads)) (some-iff (misled b f) Misled (b .pads) (λ i l.
           or-iff (leb (b .ports) (f i)) (earlier (touch b f) i) (leb-iff (b .ports) (f i))
-          (earlier-iff (touch b f) (Touching b f) i (λ j k. touch-tells b f i j (differ i j k l)))))
+          (earlier-iff (touch b f) (Touching b f) i (λ j k. touching-iff (leader b i (f i)) (leader b j (f j)) (differ i j k l)))))
 
       there : ¬ ((i : ℕ) × (i < b .pads) × Misled i) → Untouching b f
       there n =
