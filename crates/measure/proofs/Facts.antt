@@ -15,7 +15,8 @@ module _ (job : List ℕ) (lw bw : ℕ) (list : List ℕ) (p : Passed (measureTr
       let facts = measure-facts job lw bw list p in
       sum-at-most m 3000001000 (λ i. weighted (boardOf job) lw bw i (held list i)) (λ i l.
       let k : i < count job = omega arith in
-      weighted-bound (boardOf job) lw bw (facts .1) (facts .2) (facts .0 .width) (facts .0 .pad) (facts .0 .port) i (held list i) k (measure-entries job lw bw list p i k))
+      let a = facts .0 in
+      weighted-bound (boardOf job) lw bw (facts .1) (facts .2) (a .width) (a .pad) (a .port) i (held list i) k (measure-entries job lw bw list p i k))
 
   pub total-most : total (boardOf job) (weighted (boardOf job) lw bw) (held list) ≤ 192000064000
   total-most =

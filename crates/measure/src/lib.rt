@@ -33,11 +33,11 @@ pub fn bends(job: &[u8], i: u16, q: u16) -> u64
 }
 
 // What it costs with these weights.
-fn cost(job: &[u8], lw: u32, bw: u32, i: u16, q: u16) -> u64
+pub fn cost(job: &[u8], lw: u32, bw: u32, i: u16, q: u16) -> u32
     requires { ⌜ Accepted (now job) × (lw ≤ 1000) × (bw ≤ 1000) × (i < count (now job)) × (q < count (now job)) ⌝ }
     ensures { λ r. ⌜ (r ≡ weighted (boardOf (now (job .entry))) lw bw i q) × (r ≤ 3000001000) ⌝ }
 {
-    (lw as u64) * length(job, i, q) + (bw as u64) * bends(job, i, q)
+    lw * (length(job, i, q) as u32) + bw * (bends(job, i, q) as u32)
 }
 
 // The total of the layout that a list holds, once Measure's trials are passed.
@@ -50,7 +50,7 @@ pub fn total(job: &[u8], lw: u32, bw: u32, list: &[u16]) -> u64
     let mut i: u16 = 0;
     while i < n {
         let q = list[i as usize];
-        sum += cost(job, lw, bw, i, q);
+        sum += cost(job, lw, bw, i, q) as u64;
         i += 1;
     }
     sum

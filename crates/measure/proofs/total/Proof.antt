@@ -41,13 +41,17 @@ shared-slice-read-q c =
     let s = c .before .before .before .before .before .before in
     omega (arith, measure-facts (now (s .args .job)) (s .args .lw) (s .args .bw) (now (s .args .list)) (s .pre) .3)
 
+-- omega finds the bound of either weight, so that one passed for the other fails where the costs are summed
 cost-requires : tie.Need-cost-requires Inv-loop μ-loop
 cost-requires c κs =
     let s = c .before .before .before .before .before .before in
     let i = c .before .before .loop .i in
     let h : i < count (now (s .args .job)) = omega arith in
     let f = measure-facts (now (s .args .job)) (s .args .lw) (s .args .bw) (now (s .args .list)) (s .pre) in
-    (f .0, f .1, f .2, h, measure-entries (now (s .args .job)) (s .args .lw) (s .args .bw) (now (s .args .list)) (s .pre) i h)
+    (f .0, omega (arith, f), omega (arith, f), h, measure-entries (now (s .args .job)) (s .args .lw) (s .args .bw) (now (s .args .list)) (s .pre) i h)
+
+cast-sum : tie.Need-cast-sum Inv-loop μ-loop
+cast-sum c = search needs
 
 add-sum : tie.Need-add-sum Inv-loop μ-loop
 add-sum c =
@@ -84,6 +88,7 @@ total-spec =
     mul-q
     shared-slice-read-q
     cost-requires
+    cast-sum
     add-sum
     add-i
     loop-less
