@@ -6,51 +6,21 @@ use Prim.Native.Nat.{ℕ, zero, suc, _+_, _≤_, _<_, zero-le}
 use native.Mathlib.Omega.{arith}
 use native.Mathlib.Decide.{decLt, ℕ-discrete}
 use lib.ListN.{length, getD, List·getD-eq-default}
-use Rattle.order.specs.Arrangement.{Arrangement}
 use Rattle.strips.specs.Board.{Sol, Clear}
 use Rattle.strips.specs.Board as strips
 use Rattle.strips.specs.Order.{Same, Earlier, Earliest, earlier-not-same, earlier-asym}
 use Rattle.strips.specs.Places.{Optimal, Later}
 use Rattle.strips.specs.ByPlace.{mem-at, place-mem, free-places, places-free, earlier-differ, differ-earlier, sumTo, sum-order}
 use Rattle.table.specs.Cell.{boardOf}
-use Rattle.order.specs.Falling.{Sorted}
 use Rattle.steps.specs.Steps.{figureOf}
 use Rattle.steps.specs.Steps as steps
 use Rattle.steps.specs.Lists.{listed}
 use Rattle.paper.specs.Leaders.{Between}
 use Rattle.paper.specs.Layouts.{Board, Untouching, sum, total, Best, Before, FirstBest, NextBest, LastBest}
-use Rattle.paper.specs.laws.Proper.{Proper}
 use Rattle.paper.specs.laws.Totals.{sum-same}
-use Rattle.paper.specs.laws.Boards.{own-number, untouched-iff, untouching-of}
-use Rattle.board.specs.Lists.{FieldsOf, OrderOf, WorkOf}
+use Rattle.paper.specs.laws.Boards.{untouched-iff, untouching-of}
+use Rattle.board.specs.Lists.{WorkOf}
 use Rattle.board.specs.Sides.{low-high, high-low, clear-iff}
-
--- ---- the order of the pads
-
--- Sorted by falling x, the pads stand from right to left.
-pub order-of : {b : Board} {xs ys hs order : List ℕ} → Proper b → FieldsOf b xs ys hs → Sorted xs order (length xs) → OrderOf b order
-order-of {b} {xs} {ys} {hs} {order} P X S = record { arranged = A; falls = strict }
-  where
-    A : Arrangement (b .pads) order
-    A = subst (λ (n : ℕ). Arrangement n order) (X .widths .long) (S .arranged)
-
-    at : (p : ℕ) → p < b .pads → getD order p 0 < b .pads
-    at p h = A .inside p (omega (arith, A .long))
-
-    strict : (p q : ℕ) → p < q → q < b .pads → b .x (getD order q 0) < b .x (getD order p 0)
-    strict p q h l =
-        let k : p < b .pads = omega arith in
-        let s = S .falls p q h (omega (arith, X .widths .long)) in
-        let e = X .widths .at (getD order p 0) (at p k) in
-        let d = X .widths .at (getD order q 0) (at q l) in
-        go s e d (decLt (b .x (getD order q 0)) (b .x (getD order p 0)))
-      where
-        go : getD xs (getD order q 0) 0 ≤ getD xs (getD order p 0) 0 → getD xs (getD order p 0) 0 ≡ b .x (getD order p 0)
-            → getD xs (getD order q 0) 0 ≡ b .x (getD order q 0) → Dec (b .x (getD order q 0) < b .x (getD order p 0)) → b .x (getD order q 0) < b .x (getD order p 0)
-        go s e d (yes c) = c
-        go s e d (no c) =
-            let same = own-number (b .pads) (b .x) (P .differ) (getD order q 0) (getD order p 0) (at q l) (at p (omega arith)) (omega arith) in
-            absurd (omega (arith, A .apart q p l (omega arith) same))
 
 -- ---- sums
 

@@ -1,7 +1,8 @@
 -- Lists: the work lists of a board. Bridge: the paper's best layouts are those that the search finds in these lists. Sides: a pad among the ports.
--- Plain: the work lists as the code fills them, over plain numbers. Work: what is filled are the work lists of the job's board.
+-- Order: record numbers by falling x are the pads from right to left. Counts: the ports below a height, as they are counted. Costs: the costs, as they are written.
 pub mod Lists
 pub mod Sides
 pub mod Bridge
-pub mod Plain
-pub mod Work
+pub mod Order
+pub mod Counts
+pub mod Costs

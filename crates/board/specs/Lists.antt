@@ -4,22 +4,12 @@ use mathlib.Core.Logic.{_↔_}
 use mathlib.Core.List.{List}
 use Prim.Native.Nat.{ℕ, _+_, _*_, _≤_, _<_}
 use lib.ListN.{length, getD}
-use lib.IntN.{ℤ, pos, _+ℤ_}
+use lib.IntN.{ℤ}
 use lib.Signed.{_≤ℤ_, _<ℤ_}
 use Rattle.numbers.specs.Filled.{Filled}
-use Rattle.order.specs.Arrangement.{Arrangement}
+use Rattle.numbers.specs.Arrangement.{Arrangement}
 use Rattle.paper.specs.Layouts.{Board, boardOf, weighted}
 use Rattle.paper.specs.laws.Proper.{Proper}
-
--- Heights are held as naturals: r stands for the height z.
-abbrev pub Raised : ℤ → ℕ → Type 0
-Raised z r = pos r ≡ (z +ℤ pos 1000000)
-
--- xs and ys have the numbers of the pads, hs those of the ports.
-pub record FieldsOf (b : Board) (xs ys hs : List ℕ) : Type 0 where
-  pub widths : Filled (b .pads) (λ j v. v ≡ b .x j) xs (b .pads)
-  pub pads : Filled (b .pads) (λ j v. Raised (b .y j) v) ys (b .pads)
-  pub ports : Filled (b .ports) (λ q v. Raised (b .port q) v) hs (b .ports)
 
 -- order has the pads from right to left.
 pub record OrderOf (b : Board) (order : List ℕ) : Type 0 where
@@ -31,10 +21,24 @@ pub record FirstOnes (n : ℕ) (P : ℕ → Type 0) (c : ℕ) : Type 0 where
   pub top : c ≤ n
   pub which : (q : ℕ) → q < n → (q < c) ↔ P q
 
--- lo has for each pad how many ports lie strictly below it, hi how many lie at its height or below. (Ports rise: these are the first ones.)
+-- c ports lie strictly below the height h; c lie at it or below. (Ports rise: these are the first ones.)
+abbrev pub Under : Board → ℤ → ℕ → Type 0
+Under b h c = FirstOnes (b .ports) (λ q. b .port q <ℤ h) c
+
+abbrev pub Upto : Board → ℤ → ℕ → Type 0
+Upto b h c = FirstOnes (b .ports) (λ q. b .port q ≤ℤ h) c
+
+-- The first k entries of lo have the ports below each pad, those of hi the ports at its height or below.
+abbrev pub Lows : Board → List ℕ → ℕ → Type 0
+Lows b lo k = Filled (b .pads) (λ j v. Under b (b .y j) v) lo k
+
+abbrev pub Highs : Board → List ℕ → ℕ → Type 0
+Highs b hi k = Filled (b .pads) (λ j v. Upto b (b .y j) v) hi k
+
+-- All entries have.
 pub record SidesOf (b : Board) (lo hi : List ℕ) : Type 0 where
-  pub low : Filled (b .pads) (λ j v. FirstOnes (b .ports) (λ q. b .port q <ℤ b .y j) v) lo (b .pads)
-  pub high : Filled (b .pads) (λ j v. FirstOnes (b .ports) (λ q. b .port q ≤ℤ b .y j) v) hi (b .pads)
+  pub low : Lows b lo (b .pads)
+  pub high : Highs b hi (b .pads)
 
 -- cs has what it costs to lead each pad to each port, pad by pad.
 pub record CostsOf (b : Board) (cost : ℕ → ℕ → ℕ) (cs : List ℕ) : Type 0 where

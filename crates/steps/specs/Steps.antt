@@ -8,7 +8,7 @@ use lib.ListN.{length, getD, take}
 use Rattle.strips.specs.Board.{Sol, sum}
 use Rattle.strips.specs.Order.{Same, Earliest}
 use Rattle.strips.specs.Places.{Optimal, Later, Extends, FilledFrom, At}
-use Rattle.order.specs.Arrangement.{Arrangement}
+use Rattle.numbers.specs.Arrangement.{Arrangement}
 use Rattle.table.specs.Cell.{boardOf, Pads, Table}
 
 -- The ports of a layout, by record number.

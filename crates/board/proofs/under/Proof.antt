@@ -1,40 +1,66 @@
--- `board::under` meets its contract: all ports before q are below y. Assumes nothing.
-use Prim.Native.Nat.{_-_}
+-- `board::under` meets its contract: the ports before a are below h, those from b on are not. Assumes nothing.
+use Prim.Native.Nat.{_+_, _-_, _/_}
+use mathlib.Core.Path.{_≡_, _∙_}
 use native.Mathlib.Omega.{arith}
-use lib.ListN.{length}
-use Rattle.board.specs.Plain.{Counted, counted-more, counted-here, counted-all}
+use mir.Syntax.{w64}
+use mir.Val.{toZ, ofZ}
+use lib.IntN.{ℤ}
+use lib.Signed.{ltZ-yes, ltZ-no}
+use Rattle.numbers.specs.Bits.{read-back}
+use Rattle.paper.specs.Job.{portOf}
+use Rattle.paper.specs.Layouts.{boardOf}
+use Rattle.board.specs.Counts.{Halved, halved-none, halved-up, halved-down, halved-done}
 use Rattle.board.proofs.under.Statement.{statement}
 use Rattle.board.proofs.under.Tie as tie
 
 abbrev Inv-loop : tie.InvT-loop
-Inv-loop port from y q₀ q = Counted port y q
+Inv-loop job h a₀ b₀ a b = Halved (boardOf job) (toZ w64 h) a b
 
 abbrev μ-loop : tie.MeasureT-loop
-μ-loop port from y q₀ q = length port - q
+μ-loop job h a₀ b₀ a b = b - a
+
+abbrev begin : tie.At-loop Inv-loop μ-loop → tie.Start Inv-loop μ-loop
+begin c = c .before .before .before
+
+records-requires : tie.Need-records-requires Inv-loop μ-loop
+records-requires c κs = omega (arith, c .before .pre .size)
 
 loop-holds : tie.Need-loop-holds Inv-loop μ-loop
-loop-holds c = c .pre .1
-
-mul-if1 : tie.Need-mul-if1 Inv-loop μ-loop
-mul-if1 c = omega arith
-
-shared-slice-read-if1 : tie.Need-shared-slice-read-if1 Inv-loop μ-loop
-shared-slice-read-if1 c = omega arith
-
-returns : tie.Need-returns Inv-loop μ-loop
-returns c = let s = c .before .before .before .before in counted-here (s .pre .0) (c .before .before .before .loop .inv) (c .if1 .taken)
+loop-holds c = rw (c .records .ensures) halved-none
 
 add-q : tie.Need-add-q Inv-loop μ-loop
-add-q c = omega arith
+add-q c = omega (arith, c .before .loop .inv .high, begin (c .before) .pre .few)
+
+port-requires : tie.Need-port-requires Inv-loop μ-loop
+port-requires c κs = omega (arith, c .before .loop .inv .high)
+
+-- the port in the middle, as the test reads it
+abbrev middle : tie.At-loop Inv-loop μ-loop → ℤ
+middle c = portOf (begin c .args .job .now) ((c .loop .a + c .loop .b) / 2)
+
+read : (c : tie.After-port Inv-loop μ-loop) → toZ w64 (ofZ w64 (c .port .result)) ≡ middle (c .before .before)
+read c = read-back (c .port .result) (c .port .ok) ∙ c .port .ensures .0
+
+add-a : tie.Need-add-a Inv-loop μ-loop
+add-a c = omega (arith, c .before .before .before .loop .inv .high, begin (c .before .before .before) .pre .few)
 
 loop-less : tie.Need-loop-less Inv-loop μ-loop
 loop-less c = omega arith
 
 loop-again : tie.Need-loop-again Inv-loop μ-loop
-loop-again c = counted-more (c .before .before .before .loop .inv) (c .before .before .loop-test .taken) (c .if1 .left)
+loop-again c = let l = c .before .before .before in
+    halved-up _ (begin l .pre .proper .rising) (l .loop .inv) (omega arith) (ltZ-yes (rw (← read (c .before), c .if1 .taken) tt))
 
-returns-2 : tie.Need-returns-2 Inv-loop μ-loop
-returns-2 c = counted-all (c .before .loop .inv) (c .loop-test .left)
+loop-less-2 : tie.Need-loop-less-2 Inv-loop μ-loop
+loop-less-2 c = omega arith
+
+loop-again-2 : tie.Need-loop-again-2 Inv-loop μ-loop
+loop-again-2 c = let l = c .before .before .before in
+    halved-down _ (begin l .pre .proper .rising) (l .loop .inv) (omega arith) (omega arith) (ltZ-no (rw (← read (c .before), c .if1 .left) tt))
+
+returns : tie.Need-returns Inv-loop μ-loop
+returns c = let s = begin (c .before) in
+    rw (read-back (s .args .h) (s .fits .h .sfits)) at (halved-done (c .before .loop .inv) (c .loop-test .left))
 
 pub under-spec : {M : Type 1} → statement M
 under-spec =
@@ -42,11 +68,13 @@ under-spec =
     (tie.spec
     Inv-loop
     μ-loop
+    records-requires
     loop-holds
-    mul-if1
-    shared-slice-read-if1
-    returns
     add-q
+    port-requires
+    add-a
     loop-less
     loop-again
-    returns-2)
+    loop-less-2
+    loop-again-2
+    returns)

@@ -2,25 +2,32 @@
 use mathlib.Core.Path.{_≡_, _∙_, sym, ap}
 use Prim.Native.Nat.{ℕ, _-_, _*_, _≤_}
 use native.Mathlib.Omega.{arith}
-use lib.ListN.{length}
 use Rattle.numbers.specs.Filled.{filled-none, filled-to}
-use Rattle.board.specs.Plain.{Weighed}
+use Rattle.paper.specs.Job.{count}
+use Rattle.paper.specs.Layouts.{boardOf, weighted}
+use Rattle.board.specs.Costs.{Weighed, costs-of}
 use Rattle.board.proofs.weigh.Statement.{statement}
 use Rattle.board.proofs.weigh.Tie as tie
 
 abbrev Inv-loop : tie.InvT-loop
-Inv-loop x y port lw bw cost₀ j₀ cost j = (j ≤ length x) × Weighed x y port lw bw cost (j * length port)
+Inv-loop job lw bw cost₀ n j₀ cost j = (j ≤ count job) × Weighed (boardOf job) (weighted (boardOf job) lw bw) cost (j * count job)
 
 abbrev μ-loop : tie.MeasureT-loop
-μ-loop x y port lw bw cost₀ j₀ cost j = length x - j
+μ-loop job lw bw cost₀ n j₀ cost j = n - j
+
+abbrev begin : tie.At-loop Inv-loop μ-loop → tie.Start Inv-loop μ-loop
+begin c = c .before .before .before .before
+
+records-requires : tie.Need-records-requires Inv-loop μ-loop
+records-requires c κs = omega (arith, c .before .before .pre .0 .size)
 
 loop-holds : tie.Need-loop-holds Inv-loop μ-loop
-loop-holds c = let s = c .before .before .before .before in (omega arith, filled-to (omega arith) (filled-none (s .pre .1 .1)))
+loop-holds c = (omega arith, filled-to (omega arith) (filled-none (c .before .before .before .pre .3)))
 
 weigh-row-requires : tie.Need-weigh-row-requires Inv-loop μ-loop
 weigh-row-requires c κs =
-    let s = c .before .before .before .before .before .before .before in
-    (s .pre .0, ((s .pre .1 .0 .0, s .pre .1 .0 .1, c .before .loop-test .taken), c .before .before .loop .inv .1))
+    let s = begin (c .before .before) .pre in
+    ((s .0, s .1, s .2, omega arith), c .before .before .loop .inv .1)
 
 add-j : tie.Need-add-j Inv-loop μ-loop
 add-j c = omega arith
@@ -32,14 +39,14 @@ loop-again : tie.Need-loop-again Inv-loop μ-loop
 loop-again c = (omega arith, c .before .before .weigh-row .ensures)
 
 same-length : tie.Need-same-length Inv-loop μ-loop
-same-length c = c .before .loop .inv .1 .long ∙ sym (c .before .before .before .before .before .before .pre .1 .1)
+same-length c = c .before .loop .inv .1 .long ∙ sym (begin (c .before) .pre .3)
 
 returns : tie.Need-returns Inv-loop μ-loop
 returns c =
     let l = c .before .loop in
-    let s = c .before .before .before .before .before .before .args in
-    let e : l .j ≡ length (s .x .now) = omega arith in
-    filled-to (ap (λ (k : ℕ). k * length (s .port .now)) e) (l .inv .1)
+    let n = count (begin (c .before) .args .job .now) in
+    let e : l .j ≡ n = omega arith in
+    costs-of (filled-to (ap (λ (k : ℕ). k * n) e) (l .inv .1))
 
 pub weigh-spec : {M : Type 1} → statement M
 weigh-spec =
@@ -47,6 +54,7 @@ weigh-spec =
     (tie.spec
     Inv-loop
     μ-loop
+    records-requires
     loop-holds
     weigh-row-requires
     add-j

@@ -1,71 +1,66 @@
 -- `board::weigh_row` meets its contract: the first q places of row j are written. Assumes nothing.
-use Prim.Native.Nat.{_+_, _-_, _*_, _≤_}
-use mathlib.Core.Path.{_∙_, sym}
+use Prim.Native.Nat.{_+_, _-_, _*_, _≤_, _<_}
+use mathlib.Core.Path.{_≡_, _∙_, sym, ap}
 use native.Mathlib.Nat.{mul-le-mul}
 use native.Mathlib.Omega.{arith}
-use lib.ListN.{length}
 use Rattle.numbers.specs.Filled.{filled-to, place-in}
-use Rattle.board.specs.Plain.{Weighed, weighed-more, row-end}
+use Rattle.paper.specs.Job.{count}
+use Rattle.paper.specs.Layouts.{boardOf, weighted}
+use Rattle.board.specs.Costs.{Weighed, weighed-more, row-end}
 use Rattle.board.proofs.weigh_row.Statement.{statement}
 use Rattle.board.proofs.weigh_row.Tie as tie
 
 abbrev Inv-loop : tie.InvT-loop
-Inv-loop x y port lw bw cost₀ j p q₀ cost q = (q ≤ length port) × Weighed x y port lw bw cost (j * length port + q)
+Inv-loop job lw bw cost₀ j n row q₀ cost q =
+    (q ≤ count job) × (row ≡ j * count job) × Weighed (boardOf job) (weighted (boardOf job) lw bw) cost (j * count job + q)
 
 abbrev μ-loop : tie.MeasureT-loop
-μ-loop x y port lw bw cost₀ j p q₀ cost q = length port - q
+μ-loop job lw bw cost₀ j n row q₀ cost q = n - q
+
+records-requires : tie.Need-records-requires Inv-loop μ-loop
+records-requires c κs = omega (arith, c .before .before .pre .0 .0 .size)
+
+abbrev begin : tie.After-records Inv-loop μ-loop → tie.Start Inv-loop μ-loop
+begin c = c .before .before .before
+
+-- a row starts within 64 × 64 places
+low : (c : tie.After-records Inv-loop μ-loop) → begin c .args .j * c .records .result ≤ 4096
+low c =
+    let s = begin c in
+    let h : s .args .j ≤ 64 = omega (arith, s .pre .0 .0 .few, s .pre .0 .3) in
+    let k : c .records .result ≤ 64 = omega (arith, s .pre .0 .0 .few, c .records .ensures) in
+    omega (arith, mul-le-mul h k)
+
+cast-row : tie.Need-cast-row Inv-loop μ-loop
+cast-row c = omega arith
+
+mul-row : tie.Need-mul-row Inv-loop μ-loop
+mul-row c = omega (arith, low c)
 
 loop-holds : tie.Need-loop-holds Inv-loop μ-loop
-loop-holds c = let s = c .before .before .before .before in (omega arith, filled-to (omega arith) (s .pre .1 .1))
+loop-holds c = let s = begin c in (omega arith, ap (λ n. s .args .j * n) (c .records .ensures), filled-to (omega arith) (s .pre .1))
 
-mul-figure : tie.Need-mul-figure Inv-loop μ-loop
-mul-figure c = let s = c .before .before .before .before .before .before in omega (arith, s .pre .1 .0 .2)
+inside : (c : tie.In-loop Inv-loop μ-loop) → c .before .loop .q < count (begin (c .before .before) .args .job .now)
+inside c = omega arith
 
-shared-slice-read-figure : tie.Need-shared-slice-read-figure Inv-loop μ-loop
-shared-slice-read-figure c = c .before .before .before .before .before .before .before .pre .1 .0 .2
+cost-requires : tie.Need-cost-requires Inv-loop μ-loop
+cost-requires c κs = let s = begin (c .before .before) .pre .0 in (s .0, s .1, s .2, s .3, inside c)
 
-mul-figure-2 : tie.Need-mul-figure-2 Inv-loop μ-loop
-mul-figure-2 c = let s = c .before .before .before .before .before .before .before in omega (arith, s .pre .1 .0 .2)
-
-shared-slice-read-figure-2 : tie.Need-shared-slice-read-figure-2 Inv-loop μ-loop
-shared-slice-read-figure-2 c = let s = c .before .before .before .before .before .before .before .before in omega (arith, s .pre .1 .0 .2, s .pre .0 .heights)
-
-mul-figure-3 : tie.Need-mul-figure-3 Inv-loop μ-loop
-mul-figure-3 c = omega arith
-
-shared-slice-read-figure-3 : tie.Need-shared-slice-read-figure-3 Inv-loop μ-loop
-shared-slice-read-figure-3 c = c .before .before .before .loop-test .taken
-
-figure-requires : tie.Need-figure-requires Inv-loop μ-loop
-figure-requires c κs =
-    let s = c .before .before .before .before .before .before .before .before .before in
-    (s .pre .0 .right (s .args .j), s .pre .0 .high (s .args .j), s .pre .0 .top (c .before .before .before .before .loop .q), s .pre .1 .0 .0, s .pre .1 .0 .1)
-
-abbrev begin : tie.After-figure Inv-loop μ-loop → tie.Start Inv-loop μ-loop
-begin c = c .before .before .before .before .before .before .before .before .before .before
-
-place : (c : tie.After-figure Inv-loop μ-loop) → begin c .args .j * length (begin c .args .port .now) + c .before .before .before .before .before .loop .q ≤ 4160
-place c =
-    let s = begin c in
-    let l = s .pre .0 in
-    let h : s .args .j ≤ 64 = omega (arith, s .pre .1 .0 .2, l .few) in
-    omega (arith, mul-le-mul h (l .ports), l .ports, c .before .before .before .before .before .loop .inv .0)
-
-mul-cost : tie.Need-mul-cost Inv-loop μ-loop
-mul-cost c = omega (arith, place c)
+cast-cost : tie.Need-cast-cost Inv-loop μ-loop
+cast-cost c = omega arith
 
 add-cost : tie.Need-add-cost Inv-loop μ-loop
-add-cost c = omega (arith, place c)
+add-cost c = omega (arith, low (c .before .before .before))
 
-mul-cost-2 : tie.Need-mul-cost-2 Inv-loop μ-loop
-mul-cost-2 c = omega (arith, place c)
+mul-cost : tie.Need-mul-cost Inv-loop μ-loop
+mul-cost c = omega (arith, low (c .before .before .before))
 
 slice-write-cost : tie.Need-slice-write-cost Inv-loop μ-loop
 slice-write-cost c =
-    let l = c .before .before .before .before .before .loop in
-    let s = begin c in
-    let t = c .before .before .before .before .loop-test .taken in
-    omega (arith, place-in (length (s .args .x .now)) (length (s .args .port .now)) (s .args .j) (l .q) (s .pre .1 .0 .2) t, l .inv .1 .long)
+    let l = c .before .before .loop in
+    let s = begin (c .before .before .before) in
+    let n = count (s .args .job .now) in
+    omega (arith, place-in n n (s .args .j) (l .q) (s .pre .0 .3) (inside (c .before)), l .inv .1, l .inv .2 .long)
 
 add-q : tie.Need-add-q Inv-loop μ-loop
 add-q c = omega arith
@@ -75,21 +70,21 @@ loop-less c = omega arith
 
 loop-again : tie.Need-loop-again Inv-loop μ-loop
 loop-again c =
-    let l = c .before .before .before .before .before .loop in
-    let s = begin c in (
-      omega arith,
-      weighed-more (s .args .x .now) (s .args .y .now) (s .args .port .now) (s .args .lw) (s .args .bw) (l .cost) (s .args .j) (l .q) (c .figure .result)
-          (s .pre .1 .0 .2) (c .before .before .before .before .loop-test .taken) (l .inv .1) (c .figure .ensures),
-    )
+    let l = c .before .before .loop in
+    let s = begin (c .before .before .before) in
+    let b = boardOf (s .args .job .now) in
+    let more = weighed-more b (weighted b (s .args .lw) (s .args .bw)) (l .cost) (s .args .j) (l .q) (c .cost .result)
+    (s .pre .0 .3) (inside (c .before)) (l .inv .2) (c .cost .ensures .0) in
+    (omega (arith, inside (c .before)), l .inv .1, rw (l .inv .1) more)
 
 same-length : tie.Need-same-length Inv-loop μ-loop
-same-length c = c .before .loop .inv .1 .long ∙ sym (c .before .before .before .before .before .before .pre .1 .1 .long)
+same-length c = c .before .loop .inv .2 .long ∙ sym (begin (c .before .before) .pre .1 .long)
 
 returns : tie.Need-returns Inv-loop μ-loop
 returns c =
     let l = c .before .loop in
-    let s = c .before .before .before .before .before .before .args in
-    filled-to (row-end (s .j) (length (s .port .now)) (l .q) (omega arith)) (l .inv .1)
+    let s = begin (c .before .before) .args in
+    filled-to (row-end (s .j) (count (s .job .now)) (l .q) (omega arith)) (l .inv .2)
 
 pub weigh-row-spec : {M : Type 1} → statement M
 weigh-row-spec =
@@ -97,17 +92,14 @@ weigh-row-spec =
     (tie.spec
     Inv-loop
     μ-loop
+    records-requires
+    cast-row
+    mul-row
     loop-holds
-    mul-figure
-    shared-slice-read-figure
-    mul-figure-2
-    shared-slice-read-figure-2
-    mul-figure-3
-    shared-slice-read-figure-3
-    figure-requires
-    mul-cost
+    cost-requires
+    cast-cost
     add-cost
-    mul-cost-2
+    mul-cost
     slice-write-cost
     add-q
     loop-less

@@ -1,0 +1,53 @@
+-- `board::upto` meets its contract. Assumes nothing.
+use mathlib.Core.Path.{_≡_, _∙_, sym, ap}
+use native.Mathlib.Omega.{arith}
+use borrow.Author.Needs.{needs}
+use mir.Syntax.{w64}
+use mir.Val.{toZ, ofZ}
+use Rattle.numbers.specs.Bits.{read-back}
+use Rattle.paper.specs.Job.{portOf}
+use Rattle.paper.specs.Layouts.{boardOf}
+use Rattle.board.specs.Counts.{upto-same, upto-more}
+use Rattle.board.proofs.upto.Statement.{statement}
+use Rattle.board.proofs.upto.Tie as tie
+
+records-requires : tie.Need-records-requires
+records-requires c κs = search needs
+
+port-requires : tie.Need-port-requires
+port-requires c κs = search needs
+
+add-result : tie.Need-add-result
+add-result c = search needs
+
+abbrev begin : tie.After-records → tie.Start
+begin c = c .before .before
+
+-- the height, and the next port's, as the test reads them
+height : (c : tie.Start) → toZ w64 (ofZ w64 (c .args .h)) ≡ c .args .h
+height c = read-back (c .args .h) (c .fits .h .sfits)
+
+port : (c : tie.After-port) → toZ w64 (ofZ w64 (c .port .result)) ≡ portOf (begin (c .before .before) .args .job .now) (begin (c .before .before) .args .c)
+port c = read-back (c .port .result) (c .port .ok) ∙ c .port .ensures .0
+
+returns : tie.Need-returns
+returns c =
+    let p = c .before in
+    let s = begin (p .before .before) in
+    upto-more (boardOf (s .args .job .now)) (s .args .h) (s .args .c) (s .pre .0 .proper .rising) (s .pre .1) (omega arith)
+    (sym (port p) ∙ ap (toZ w64) (c .if2 .taken) ∙ height s)
+
+returns-2 : tie.Need-returns-2
+returns-2 c =
+    let p = c .before in
+    let s = begin (p .before .before) in
+    upto-same (boardOf (s .args .job .now)) (s .args .h) (s .args .c) (s .pre .0 .proper .rising) (s .pre .1)
+    (λ l e. c .if2 .left (ap (ofZ w64) (p .port .ensures .0 ∙ e)))
+
+returns-3 : tie.Need-returns-3
+returns-3 c =
+    let s = begin (c .before) in
+    upto-same (boardOf (s .args .job .now)) (s .args .h) (s .args .c) (s .pre .0 .proper .rising) (s .pre .1) (λ l e. absurd (omega arith))
+
+pub upto-spec : {M : Type 1} → statement M
+upto-spec = tie.close (tie.spec records-requires port-requires add-result returns returns-2 returns-3)

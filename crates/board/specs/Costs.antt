@@ -1,0 +1,44 @@
+-- The costs of a board, as they are written row by row.
+use mathlib.Core.Path.{_≡_, refl, ap}
+use mathlib.Core.List.{List}
+use Prim.Native.Nat.{ℕ, _+_, _*_, _<_}
+use native.Mathlib.Nat.{mul-le-mul-right, suc-mul}
+use native.Mathlib.Numerals.{add-one}
+use native.Mathlib.Decide.{decLt}
+use native.Mathlib.Omega.{arith}
+use lib.ListN.{length, set}
+use Rattle.numbers.specs.Filled.{Filled, filled-more, filled-to, place-in}
+use Rattle.paper.specs.Layouts.{Board}
+use Rattle.board.specs.Lists.{CostsOf}
+
+-- Pad j and port q have place j * ports + q. The first k places are written.
+abbrev pub Weighed : Board → (ℕ → ℕ → ℕ) → List ℕ → ℕ → Type 0
+Weighed b cost cs k = Filled (b .pads * b .ports) (λ m v. (j q : ℕ) → q < b .ports → m ≡ j * b .ports + q → v ≡ cost j q) cs k
+
+-- The end of row j is the start of the next.
+pub row-end : (j p q : ℕ) → q ≡ p → j * p + q ≡ (j + 1) * p
+row-end j p q e = rw (add-one j, suc-mul j p) (omega arith)
+
+-- A place is that of one pad only.
+pub place-pad : (p i r j q : ℕ) → r < p → q < p → i * p + r ≡ j * p + q → i ≡ j
+place-pad p i r j q h l e = go (decLt i j) (decLt j i)
+  where
+    go : Dec (i < j) → Dec (j < i) → i ≡ j
+    go (yes d) f = absurd (omega (arith, mul-le-mul-right p d, suc-mul i p))
+    go (no d) (yes f) = absurd (omega (arith, mul-le-mul-right p f, suc-mul j p))
+    go (no d) (no f) = omega arith
+
+-- A store writes the cost of pad j with port q.
+pub weighed-more : (b : Board) (cost : ℕ → ℕ → ℕ) (cs : List ℕ) (j q v : ℕ) → j < b .pads → q < b .ports → Weighed b cost cs (j * b .ports + q)
+    → v ≡ cost j q → Weighed b cost (set cs (j * b .ports + q) v) (j * b .ports + (q + 1))
+weighed-more b cost cs j q v h l W e = filled-to (omega arith) (filled-more (place-in (b .pads) (b .ports) j q h l) W v here)
+  where
+    here : (i r : ℕ) → r < b .ports → j * b .ports + q ≡ i * b .ports + r → v ≡ cost i r
+    here i r k d =
+        let t : j ≡ i = place-pad (b .ports) j q i r l k d in
+        let u : q ≡ r = omega (arith, ap (λ (m : ℕ). m * b .ports) t) in
+        rw (← t, ← u) e
+
+-- When all are written, these are the costs.
+pub costs-of : {b : Board} {cost : ℕ → ℕ → ℕ} {cs : List ℕ} → Weighed b cost cs (b .pads * b .ports) → CostsOf b cost cs
+costs-of {b} W = record { square = W .long; at = λ j q h l. W .at (j * b .ports + q) (place-in (b .pads) (b .ports) j q h l) j q l refl }
