@@ -4,8 +4,9 @@ use mathlib.Core.Path.{_≡_, _∙_}
 use native.Mathlib.Omega.{arith}
 use mir.Syntax.{w64}
 use mir.Val.{toZ, ofZ}
+use mathlib.Core.Bool.{true, false}
 use lib.IntN.{ℤ}
-use lib.Signed.{ltZ-yes, ltZ-no}
+use lib.Signed.{ltZ, ltZ-yes, ltZ-no}
 use Rattle.numbers.specs.Bits.{read-back}
 use Rattle.paper.specs.Job.{portOf}
 use Rattle.paper.specs.Layouts.{boardOf}
@@ -34,11 +35,15 @@ add-q c = omega (arith, c .before .loop .inv .high, begin (c .before) .pre .few)
 port-requires : tie.Need-port-requires Inv-loop μ-loop
 port-requires c κs = omega (arith, c .before .loop .inv .high)
 
--- the port in the middle, as the test reads it
-abbrev middle : tie.At-loop Inv-loop μ-loop → ℤ
-middle c = portOf (begin c .args .job .now) ((c .loop .a + c .loop .b) / 2)
+-- the port in the middle and the height, as the test reads them
+abbrev middle : tie.After-port Inv-loop μ-loop → ℤ
+middle c = toZ w64 (ofZ w64 (c .port .result))
 
-read : (c : tie.After-port Inv-loop μ-loop) → toZ w64 (ofZ w64 (c .port .result)) ≡ middle (c .before .before)
+abbrev height : tie.After-port Inv-loop μ-loop → ℤ
+height c = toZ w64 (ofZ w64 (begin (c .before .before) .args .h))
+
+read : (c : tie.After-port Inv-loop μ-loop)
+    → middle c ≡ portOf (begin (c .before .before) .args .job .now) ((c .before .before .loop .a + c .before .before .loop .b) / 2)
 read c = read-back (c .port .result) (c .port .ok) ∙ c .port .ensures .0
 
 add-a : tie.Need-add-a Inv-loop μ-loop
@@ -48,15 +53,21 @@ loop-less : tie.Need-loop-less Inv-loop μ-loop
 loop-less c = omega arith
 
 loop-again : tie.Need-loop-again Inv-loop μ-loop
-loop-again c = let l = c .before .before .before in
-    halved-up _ (begin l .pre .proper .rising) (l .loop .inv) (omega arith) (ltZ-yes (rw (← read (c .before), c .if1 .taken) tt))
+loop-again c =
+    let p = c .before in
+    let l = p .before .before in
+    let t : ltZ (middle p) (height p) ≡ true = c .if1 .taken in
+    halved-up _ (begin l .pre .proper .rising) (l .loop .inv) (omega arith) (ltZ-yes (rw (← read p, t) tt))
 
 loop-less-2 : tie.Need-loop-less-2 Inv-loop μ-loop
 loop-less-2 c = omega arith
 
 loop-again-2 : tie.Need-loop-again-2 Inv-loop μ-loop
-loop-again-2 c = let l = c .before .before .before in
-    halved-down _ (begin l .pre .proper .rising) (l .loop .inv) (omega arith) (omega arith) (ltZ-no (rw (← read (c .before), c .if1 .left) tt))
+loop-again-2 c =
+    let p = c .before in
+    let l = p .before .before in
+    let t : ltZ (middle p) (height p) ≡ false = c .if1 .left in
+    halved-down _ (begin l .pre .proper .rising) (l .loop .inv) (omega arith) (omega arith) (ltZ-no (rw (← read p, t) tt))
 
 returns : tie.Need-returns Inv-loop μ-loop
 returns c = let s = begin (c .before) in

@@ -43,8 +43,9 @@ loop-holds c = let s = begin c in (omega arith, ap (λ n. s .args .j * n) (c .re
 inside : (c : tie.In-loop Inv-loop μ-loop) → c .before .loop .q < count (begin (c .before .before) .args .job .now)
 inside c = omega arith
 
+-- either weight is in range: which one is which is left to the cost
 cost-requires : tie.Need-cost-requires Inv-loop μ-loop
-cost-requires c κs = let s = begin (c .before .before) .pre .0 in (s .0, s .1, s .2, s .3, inside c)
+cost-requires c κs = let s = begin (c .before .before) .pre .0 in (s .0, omega (arith, s .1, s .2), omega (arith, s .1, s .2), s .3, inside c)
 
 cast-cost : tie.Need-cast-cost Inv-loop μ-loop
 cast-cost c = omega arith
