@@ -1,6 +1,11 @@
 /*
- * Runs each call on a stack of 64 KiB with unreadable memory below it, and measures by paint how
- * deep each one went. The figures count the few frames that lead to the call.
+ * Measures by paint how much stack each call takes, and holds each to a bound of its own. The stack
+ * has 64 KiB, with unreadable memory below it.
+ *
+ * A figure counts from the caller's stack pointer before the call: the return address, and on down
+ * to the lowest byte written. The library is entered from no C function, so the C compiler has no
+ * part in it. Paint misses only what the deepest frame reserves below that byte and never writes:
+ * a few words, since the work lists are set to zero and lie in frames above it.
  */
 #define _GNU_SOURCE
 #include <signal.h>
@@ -13,15 +18,37 @@
 
 #include "boards.h"
 #include "cheremysl.h"
+#include "questions.h"
 #include "trial.h"
 
 #define STACK CHEREMYSL_STACK_BYTES
 #define BELOW_IT 1048576 /* so much that no frame steps over it */
+#define PADS CHEREMYSL_MAX_RECORDS
+#define DAMAGED 40 /* questions a board */
+
+typedef void (*function)(void);
+
+/* The calls, and the most bytes of stack that each may take, as the header and the README say. */
+static const struct {
+    function enter;
+    size_t bound;
+} calls[CALLS] = {
+    [MEASURE] = {(function)cheremysl_measure, 440},
+    [DRAW] = {(function)cheremysl_draw, 312},
+#ifndef NO_SEARCH
+    [FIRST] = {(function)cheremysl_first, 37696},
+    [NEXT] = {(function)cheremysl_next, 37856},
+    [PAGE] = {(function)cheremysl_page, 37872},
+#endif
+};
 
 static unsigned char *stack; /* STACK bytes */
 static ucontext_t home, away;
 static struct question question;
 static int64_t answer;
+
+static size_t deepest[CALLS];
+static long came[CALLS][OUTCOMES]; /* how often each outcome came */
 
 static void overflowed(int number) {
     printf("FAILED: signal %d in %s on a stack of %d bytes\n", number, call_names[question.call],
@@ -50,70 +77,118 @@ static void prepare(void) {
     sigaction(SIGBUS, &action, NULL);
 }
 
-static void away_from_home(void) { answer = call_library(&question); }
-
-static unsigned char paint(size_t k, size_t coat) {
-    return (unsigned char)(167 * k + 91 * coat + 13);
-}
-
-/* Asks on the small stack, and returns how many of its bytes were used, from the top on. */
-static size_t depth(size_t coat) {
-    size_t k = 0;
-    for (size_t j = 0; j < STACK; j++) stack[j] = paint(j, coat);
+/*
+ * Runs a function as if called from the top of the small stack, with what the question gives, and
+ * returns where its return address stood. Every call has its first six arguments in the same
+ * registers; the other two, which only Page reads, lie above the return address. glibc hands on 64
+ * bits of each.
+ */
+static const unsigned char *run(function enter) {
+    struct question *q = &question;
     getcontext(&away);
     away.uc_stack.ss_sp = stack;
     away.uc_stack.ss_size = STACK;
     away.uc_link = &home;
-    makecontext(&away, away_from_home, 0);
+    makecontext(&away, enter, 8, q->job, q->job_bytes, (size_t)q->a, (size_t)q->b, &q->list,
+                q->count, q->page, q->page_entries);
     swapcontext(&home, &away);
-    while (k < STACK && stack[k] == paint(k, coat)) k++;
-    return STACK - k;
+    return (unsigned char *)away.uc_mcontext.gregs[REG_RSP];
 }
 
-static size_t deepest[CALLS];
+/* Asks on the small stack, and returns how many of its bytes the call used. */
+static size_t depth(int paint) {
+    const unsigned char *lowest = stack;
+    memset(stack, paint, STACK);
+    const unsigned char *return_address = run(calls[question.call].enter);
+    while (lowest < return_address && *lowest == paint) lowest++;
+    return (size_t)(return_address + sizeof(function) - lowest);
+}
 
-/* Twice with another paint: a byte of paint may be written by chance. */
+static void call_from_c(void) { answer = call_library(&question); }
+
+/*
+ * Asks on the small stack, twice with another paint: a byte of paint may be written by chance. An
+ * answer does not get home from there, so C asks as well; refusals are the plain account's.
+ */
 static void ask_on_small_stack(void) {
-    struct question kept = question;
-    for (size_t coat = 0; coat < 2; coat++) {
-        question = kept;
-        size_t used = depth(coat);
-        if (used > deepest[question.call]) deepest[question.call] = used;
-        check(used <= STACK, &kept, "the stack is too small");
+    static struct question given, entered;
+    enum call call = question.call;
+    memcpy(&given, &question, sizeof given);
+    for (int paint = 90; paint < 92; paint++) {
+        memcpy(&question, &given, sizeof question);
+        size_t used = depth(paint);
+        if (used > deepest[call]) deepest[call] = used;
     }
+    memcpy(&entered, &question, sizeof entered);
+    memcpy(&question, &given, sizeof question);
+    run(call_from_c);
+    check(memcmp(&question, &entered, sizeof question) == 0, &given, "two replies");
+    int64_t plain = plain_reply(&given).answer;
+    check(answer == plain || plain == PLAIN_UNKNOWN, &given, "another answer");
+    came[call][outcome_of(answer)]++;
 }
 
-/* A job of 64 pads, accepted; then with a layout that touches or a record that is refused. */
-static void on_board(enum call call, enum board board) {
+/* 64 pads and a layout that does not touch; Draw gets a leader that is straight. */
+static void make_question(enum call call, enum board board) {
     memset(&question, 0, sizeof question);
     question.call = call;
     question.job_bytes = CHEREMYSL_MAX_JOB_BYTES;
-    question.count = CHEREMYSL_MAX_RECORDS;
-    make_board(question.job, CHEREMYSL_MAX_RECORDS, board);
-    question.a = call == DRAW ? 63 : 1;
-    question.b = call == DRAW ? 0 : 1;
-#ifndef NO_SEARCH
-    if (takes_best(call))
-        cheremysl_first(question.job, question.job_bytes, question.a, question.b,
-                        question.list.layout, question.count);
-#endif
-    if (call == MEASURE) any_untouching(question.job, 64, question.list.layout);
+    question.count = call == DRAW ? CHEREMYSL_DRAW_FLOATS : PADS;
+    make_board(question.job, PADS, board);
+    any_weights(&question.a, &question.b);
+    any_untouching(question.job, PADS, question.list.layout);
     lend_page(&question, PAGE_ROOM);
+    if (call != DRAW) return;
+    question.a = PADS - 1;
+    question.b = 0;
+    put_y(question.job, PADS - 1, get_port(question.job, 0));
+}
+
+/* A best layout for the calls that want one; Draw's leader gets a bend. */
+static void make_accepted(void) {
+    enum call call = question.call;
+    question.call = FIRST;
+    if (takes_best(call)) call_library(&question);
+    question.call = call;
+    if (call == DRAW) put_y(question.job, PADS - 1, get_port(question.job, 1));
+}
+
+/* Accepted or refused with 10; accepted, with Next some steps on or up to the end; damaged. */
+static void on_board(enum call call, enum board board) {
+    static struct question sound;
+    make_question(call, board);
     ask_on_small_stack();
-    check(answer >= -1, &question, "refused");
-    for (int step = 0; step < 3 && call == NEXT; step++) ask_on_small_stack();
-    memset(&question.list, 0, sizeof question.list);
-    ask_on_small_stack();
-    put_x(question.job, 63, get_x(question.job, 0));
-    ask_on_small_stack();
-    check(answer == refused(7, 63), &question, "another refusal");
+    check(answer >= -1 || answer == refused(10, 0), &question, "another refusal");
+    make_accepted();
+    for (int steps = call == NEXT ? 4 : 1; steps > 0; steps--) {
+        ask_on_small_stack();
+        check(answer >= -1, &question, "refused");
+    }
+    sound = question;
+    for (int k = 0; k < DAMAGED; k++) {
+        question = sound;
+        lend_page(&question, any_room(PADS));
+        damage(&question);
+        ask_on_small_stack();
+    }
+}
+
+static void hold_to_bound(enum call call) {
+    size_t used = deepest[call], bound = calls[call].bound;
+    char what[80];
+    printf("%-8s %zu bytes of stack, of at most %zu\n", call_names[call], used, bound);
+    snprintf(what, sizeof what, "%s takes %zu bytes of stack, more than %zu", call_names[call],
+             used, bound);
+    check(used <= bound, NULL, what);
 }
 
 int main(void) {
     prepare();
     for (enum call call = 0; call < CALLS; call++) {
         for (enum board board = 0; board < BOARDS; board++) on_board(call, board);
-        printf("%-8s %zu bytes of stack\n", call_names[call], deepest[call]);
+        report_refusals(call_names[call], call, came[call]);
+        check(call != NEXT || came[call][ENDS] > 0, NULL, "the end never came");
     }
+    for (enum call call = 0; call < CALLS; call++) hold_to_bound(call);
     return done();
 }
