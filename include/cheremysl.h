@@ -151,9 +151,9 @@
  * Working memory is on the stack: at most 64 KiB in any call (CHEREMYSL_STACK_BYTES). As built, a
  * call takes at most so many bytes, whatever it is given, from its return address on:
  *
- *      First 37,696   Next 37,856   Page 37,872   Measure 440   Draw 312
+ *      First 37,440   Next 37,568   Page 37,632   Measure 512   Draw 384
  *
- * tests/stack.c measures this and fails if a call takes more.
+ * tests/stack.c measures it at 64 records and fails if a call takes more.
  *
  * First and Next take time that grows with n cubed, Measure with n squared. What grows with n
  * cubed is the making of a table of least totals. Page does as Next does, and one table serves

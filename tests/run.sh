@@ -101,7 +101,7 @@ build stack stack -std=c99 -O2 -Wl,-z,now && try stack $out/stack
 # The header and the README state the bounds.
 for figure in $(sed -En 's/^([A-Z][a-z]+) .* of at most ([0-9]+)$/\1:\2/p' $out/log | sed -E 's/[0-9]{3}$/,&/; s/:,/:/'); do
     call=${figure%:*} bytes=${figure#*:}
-    if grep -qw "$call $bytes" include/cheremysl.h && grep -qx "| $call | $bytes |" README.md
+    if grep -qw "$call $bytes" include/cheremysl.h && grep -qx "| $call | [0-9,]* | $bytes |" README.md
     then passed=$((passed + 1))
     else fail "the header or the README does not say that $call takes $bytes bytes of stack"
     fi

@@ -28,17 +28,20 @@
 
 typedef void (*function)(void);
 
-/* The calls, and the most bytes of stack that each may take, as the header and the README say. */
+/*
+ * The calls, and the most bytes of stack that each may take, as the header and the README say: what
+ * was measured and 64 to 127 bytes, so that another release of the compiler may keep more registers.
+ */
 static const struct {
     function enter;
     size_t bound;
 } calls[CALLS] = {
-    [MEASURE] = {(function)cheremysl_measure, 440},
-    [DRAW] = {(function)cheremysl_draw, 312},
+    [MEASURE] = {(function)cheremysl_measure, 512},
+    [DRAW] = {(function)cheremysl_draw, 384},
 #ifndef NO_SEARCH
-    [FIRST] = {(function)cheremysl_first, 37696},
-    [NEXT] = {(function)cheremysl_next, 37856},
-    [PAGE] = {(function)cheremysl_page, 37872},
+    [FIRST] = {(function)cheremysl_first, 37440},
+    [NEXT] = {(function)cheremysl_next, 37568},
+    [PAGE] = {(function)cheremysl_page, 37632},
 #endif
 };
 
