@@ -6,7 +6,7 @@ use native.Mathlib.Nat.{mul-le-mul-right, suc-mul}
 use native.Mathlib.Numerals.{add-one}
 use native.Mathlib.Decide.{decLt}
 use native.Mathlib.Omega.{arith}
-use lib.ListN.{length, set}
+use lib.ListN.{set}
 use Rattle.numbers.specs.Filled.{Filled, filled-more, filled-to, place-in}
 use Rattle.paper.specs.Layouts.{Board}
 use Rattle.board.specs.Lists.{CostsOf}
@@ -20,7 +20,7 @@ pub row-end : (j p q : ℕ) → q ≡ p → j * p + q ≡ (j + 1) * p
 row-end j p q e = rw (add-one j, suc-mul j p) (omega arith)
 
 -- A place is that of one pad only.
-pub place-pad : (p i r j q : ℕ) → r < p → q < p → i * p + r ≡ j * p + q → i ≡ j
+place-pad : (p i r j q : ℕ) → r < p → q < p → i * p + r ≡ j * p + q → i ≡ j
 place-pad p i r j q h l e = go (decLt i j) (decLt j i)
   where
     go : Dec (i < j) → Dec (j < i) → i ≡ j

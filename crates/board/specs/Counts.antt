@@ -30,7 +30,7 @@ halved-up {b} {h} m rising H l below = record { low = omega arith; high = H .hig
     go q k (yes d) = omega (whole, rising q m d (omega (arith, H .high)))
     go q k (no d) = let e : q ≡ m = omega arith in rw e below
 
--- with a port that is not none after it is,
+-- with a port that is not below h none after it is,
 pub halved-down : {b : Board} {h : ℤ} {s t : ℕ} (m : ℕ) → Rising b → Halved b h s t → s ≤ m → m < t → h ≤ℤ b .port m → Halved b h s m
 halved-down {b} {h} m rising H k l above =
     record { low = k; high = omega (arith, H .high); under = H .under; over = λ q i n. go q i n (decLt m q) }

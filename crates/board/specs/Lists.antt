@@ -28,14 +28,14 @@ Under b h c = FirstOnes (b .ports) (λ q. b .port q <ℤ h) c
 abbrev pub Upto : Board → ℤ → ℕ → Type 0
 Upto b h c = FirstOnes (b .ports) (λ q. b .port q ≤ℤ h) c
 
--- The first k entries of lo have the ports below each pad, those of hi the ports at its height or below.
+-- The first k entries of lo say how many ports are below their pads, those of hi how many are at their heights or below.
 abbrev pub Lows : Board → List ℕ → ℕ → Type 0
 Lows b lo k = Filled (b .pads) (λ j v. Under b (b .y j) v) lo k
 
 abbrev pub Highs : Board → List ℕ → ℕ → Type 0
 Highs b hi k = Filled (b .pads) (λ j v. Upto b (b .y j) v) hi k
 
--- All entries have.
+-- Both lists, for every pad.
 pub record SidesOf (b : Board) (lo hi : List ℕ) : Type 0 where
   pub low : Lows b lo (b .pads)
   pub high : Highs b hi (b .pads)

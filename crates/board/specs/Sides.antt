@@ -11,11 +11,11 @@ use Rattle.paper.specs.Leaders.{Between}
 use Rattle.paper.specs.Layouts.{Board}
 use Rattle.paper.specs.laws.Proper.{Rising}
 use Rattle.paper.specs.laws.Touching.{between-end}
-use Rattle.board.specs.Lists.{FirstOnes}
+use Rattle.board.specs.Lists.{Under, Upto}
 
 -- A pad of the height y with l ports strictly below it and u at its height or below.
 module _ (b : Board) (rising : Rising b) {y : ℤ} {l u : ℕ}
-    (L : FirstOnes (b .ports) (λ q. b .port q <ℤ y) l) (U : FirstOnes (b .ports) (λ q. b .port q ≤ℤ y) u) where
+    (L : Under b y l) (U : Upto b y u) where
   -- No port is both below it and above it,
   pub low-high : l ≤ u
   low-high = go (decLe l u)

@@ -73,12 +73,13 @@ pub fn of_job(v: Verdict, job: &[u8]) -> Verdict
     requires { ⌜ (v ≡ Verdict.Sound → length (now job) ≤ 1024) ⌝ }
     ensures { λ r. ⌜ r ≡ run v (jobFindings (now (job .entry))) ⌝ }
 {
-    let none = [0u16; 1];
-    let v4 = try_records(v, 4, Check::Field, job, &none);
-    let v5 = try_records(v4, 5, Check::Rise, job, &none);
-    let v12 = try_records(v5, 12, Check::Space, job, &none);
-    let v6 = try_records(v12, 6, Check::Name, job, &none);
-    try_records(v6, 7, Check::Place, job, &none)
+    let entries = [0u16; 1];
+    let none: &[u16] = &entries;
+    let v4 = try_records(v, 4, Check::Field, job, none);
+    let v5 = try_records(v4, 5, Check::Rise, job, none);
+    let v12 = try_records(v5, 12, Check::Space, job, none);
+    let v6 = try_records(v12, 6, Check::Name, job, none);
+    try_records(v6, 7, Check::Place, job, none)
 }
 
 // 8 and 9: the layout.

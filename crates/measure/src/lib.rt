@@ -32,7 +32,7 @@ pub fn bends(job: &[u8], i: u16, q: u16) -> u64
     if hand(job, i, q) == 0 { 0 } else { 1 }
 }
 
-// What it costs with these weights.
+// What it costs with these weights: 32 bits hold it in every accepted job, and so narrow, the compiler works out four at a time.
 pub fn cost(job: &[u8], lw: u32, bw: u32, i: u16, q: u16) -> u32
     requires { ⌜ Accepted (now job) × (lw ≤ 1000) × (bw ≤ 1000) × (i < count (now job)) × (q < count (now job)) ⌝ }
     ensures { λ r. ⌜ (r ≡ weighted (boardOf (now (job .entry))) lw bw i q) × (r ≤ 3000001000) ⌝ }

@@ -8,71 +8,56 @@ use borrow.Author.Needs.{needs}
 use Rattle.checks.proofs.verdicts.of_job.Statement.{statement}
 use Rattle.checks.proofs.verdicts.of_job.Tie as tie
 
+abbrev begin : tie.After-entries → tie.Start
+begin c = c .before .before
+
 -- a verdict that is sound after a check was so at the start
-after-4 : (c : tie.After-try-records) → c .try-records .result ≡ Sound → c .before .before .before .args .v ≡ Sound
+after-4 : (c : tie.After-try-records) → c .try-records .result ≡ Sound → begin (c .before) .args .v ≡ Sound
 after-4 c sound = was-sound _ _ _ (c .try-records .ensures) sound .0
 
-after-5 : (c : tie.After-try-records2) → c .try-records2 .result ≡ Sound → c .before .before .before .before .before .args .v ≡ Sound
-after-5 c sound = after-4 (c .before .before) (was-sound _ _ _ (c .try-records2 .ensures) sound .0)
+after-5 : (c : tie.After-try-records2) → c .try-records2 .result ≡ Sound → begin (c .before .before) .args .v ≡ Sound
+after-5 c sound = after-4 (c .before) (was-sound _ _ _ (c .try-records2 .ensures) sound .0)
 
-after-12 : (c : tie.After-try-records3) → c .try-records3 .result ≡ Sound → c .before .before .before .before .before .before .before .args .v ≡ Sound
-after-12 c sound = after-5 (c .before .before) (was-sound _ _ _ (c .try-records3 .ensures) sound .0)
+after-12 : (c : tie.After-try-records3) → c .try-records3 .result ≡ Sound → begin (c .before .before .before) .args .v ≡ Sound
+after-12 c sound = after-5 (c .before) (was-sound _ _ _ (c .try-records3 .ensures) sound .0)
 
-after-6 : (c : tie.After-try-records4) → c .try-records4 .result ≡ Sound
-    → c .before .before .before .before .before .before .before .before .before .args .v ≡ Sound
-after-6 c sound = after-12 (c .before .before) (was-sound _ _ _ (c .try-records4 .ensures) sound .0)
+after-6 : (c : tie.After-try-records4) → c .try-records4 .result ≡ Sound → begin (c .before .before .before .before) .args .v ≡ Sound
+after-6 c sound = after-12 (c .before) (was-sound _ _ _ (c .try-records4 .ensures) sound .0)
 
-slice-aggregate-try-records : tie.Need-slice-aggregate-try-records
-slice-aggregate-try-records c = search needs
+slice-aggregate-none : tie.Need-slice-aggregate-none
+slice-aggregate-none c = search needs
 
 try-records-requires : tie.Need-try-records-requires
-try-records-requires c κs = λ sound. (c .before .before .pre sound, tt)
-
-slice-aggregate-try-records-2 : tie.Need-slice-aggregate-try-records-2
-slice-aggregate-try-records-2 c = search needs
+try-records-requires c κs = λ sound. (begin c .pre sound, tt)
 
 try-records-requires-2 : tie.Need-try-records-requires-2
-try-records-requires-2 c κs = λ sound. (c .before .before .before .before .pre (after-4 (c .before) sound), tt)
-
-slice-aggregate-try-records-3 : tie.Need-slice-aggregate-try-records-3
-slice-aggregate-try-records-3 c = search needs
+try-records-requires-2 c κs = λ sound. (begin (c .before) .pre (after-4 c sound), tt)
 
 try-records-requires-3 : tie.Need-try-records-requires-3
-try-records-requires-3 c κs = λ sound. (c .before .before .before .before .before .before .pre (after-5 (c .before) sound), tt)
-
-slice-aggregate-try-records-4 : tie.Need-slice-aggregate-try-records-4
-slice-aggregate-try-records-4 c = search needs
+try-records-requires-3 c κs = λ sound. (begin (c .before .before) .pre (after-5 c sound), tt)
 
 try-records-requires-4 : tie.Need-try-records-requires-4
-try-records-requires-4 c κs = λ sound. (c .before .before .before .before .before .before .before .before .pre (after-12 (c .before) sound), tt)
-
-slice-aggregate-try-records-5 : tie.Need-slice-aggregate-try-records-5
-slice-aggregate-try-records-5 c = search needs
+try-records-requires-4 c κs = λ sound. (begin (c .before .before .before) .pre (after-12 c sound), tt)
 
 try-records-requires-5 : tie.Need-try-records-requires-5
-try-records-requires-5 c κs =
-    λ sound. (c .before .before .before .before .before .before .before .before .before .before .pre (after-6 (c .before) sound), tt)
+try-records-requires-5 c κs = λ sound. (begin (c .before .before .before .before) .pre (after-6 c sound), tt)
 
 returns : tie.Need-returns
 unfolding jobFindings testOf
 returns c =
-    let c6 = c .before .before in
-    let c12 = c6 .before .before in
-    let c5 = c12 .before .before in
-    rw (c .try-records5 .ensures, c6 .try-records4 .ensures, c12 .try-records3 .ensures, c5 .try-records2 .ensures, c5 .before .before .try-records .ensures)
+    let c6 = c .before in
+    let c12 = c6 .before in
+    let c5 = c12 .before in
+    rw (c .try-records5 .ensures, c6 .try-records4 .ensures, c12 .try-records3 .ensures, c5 .try-records2 .ensures, c5 .before .try-records .ensures)
 
 pub of-job-spec : {M : Type 1} → statement M
 of-job-spec =
     tie.close
     (tie.spec
-    slice-aggregate-try-records
+    slice-aggregate-none
     try-records-requires
-    slice-aggregate-try-records-2
     try-records-requires-2
-    slice-aggregate-try-records-3
     try-records-requires-3
-    slice-aggregate-try-records-4
     try-records-requires-4
-    slice-aggregate-try-records-5
     try-records-requires-5
     returns)
