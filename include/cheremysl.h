@@ -149,11 +149,11 @@
  * writes is used by another meanwhile.
  *
  * Working memory is on the stack: at most 64 KiB in any call (CHEREMYSL_STACK_BYTES). As built, a
- * call takes at most so many bytes, whatever it is given, from its return address on:
+ * call takes so many bytes at most, whatever it is given, from its return address on:
  *
- *      First 37,440   Next 37,568   Page 37,632   Measure 512   Draw 384
+ *      First 37,376   Next 37,504   Page 37,520   Measure 224   Draw 40
  *
- * tests/stack.c measures it at 64 records and fails if a call takes more.
+ * tests/stack.c measures it at 64 records, and fails if a call takes 48 bytes more.
  *
  * First and Next take time that grows with n cubed, Measure with n squared. What grows with n
  * cubed is the making of a table of least totals. Page does as Next does, and one table serves

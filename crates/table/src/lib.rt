@@ -11,8 +11,8 @@ ghost use lib.Dec.{leb, eqb};
 ghost use lib.ListN.{length, getD, drop};
 ghost use Rattle.strips.specs.Least.{least};
 ghost use Rattle.table.specs.Strip.{spans, fits, bit, count};
-ghost use Rattle.table.specs.Cell.{noTotal, sides, figures, boardOf, choice, coded, Pads, Sizes, Strip, Ready, Leads, NextPort, Head, RowsOf, PartsOf, Table, leastOf};
-ghost use Rattle.table.specs.Cell.{cornerOf, Port, opens, sumAt, portTotal, Tallies, EnteringAll, Rooms, Top, Valued, Copied};
+ghost use Rattle.table.specs.Cell.{noTotal, sides, figures, boardOf, choice, coded, Pads, Sizes, Strip, Ready, Leads, NextPort, Head};
+ghost use Rattle.table.specs.Cell.{RowsOf, PartsOf, Table, leastOf, cornerOf, Port, opens, sumAt, portTotal, Tallies, EnteringAll, Rooms, Top, Valued, Copied};
 
 const NONE: u64 = 18446744073709551615;
 
