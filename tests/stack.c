@@ -28,7 +28,7 @@
 
 typedef void (*function)(void);
 
-/* A call may take less than this more: a register or two kept, and no list of one byte a pad. */
+/* So many bytes more than stated fail: less than a list of one byte a pad. */
 #define SLACK 48
 
 /* The calls, and how many bytes of stack each takes, as the header and the README say. */

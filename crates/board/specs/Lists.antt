@@ -7,14 +7,9 @@ use lib.ListN.{length, getD}
 use lib.IntN.{ℤ}
 use lib.Signed.{_≤ℤ_, _<ℤ_}
 use Rattle.numbers.specs.Filled.{Filled}
-use Rattle.numbers.specs.Arrangement.{Arrangement}
+use Rattle.order.specs.Falling.{OrderOf}
 use Rattle.paper.specs.Layouts.{Board, boardOf, weighted}
 use Rattle.paper.specs.laws.Proper.{Proper}
-
--- order has the pads from right to left.
-pub record OrderOf (b : Board) (order : List ℕ) : Type 0 where
-  pub arranged : Arrangement (b .pads) order
-  pub falls : (p q : ℕ) → p < q → q < b .pads → b .x (getD order q 0) < b .x (getD order p 0)
 
 -- Of n ports P holds of the first c, and of no other.
 pub record FirstOnes (n : ℕ) (P : ℕ → Type 0) (c : ℕ) : Type 0 where
@@ -39,6 +34,10 @@ Highs b hi k = Filled (b .pads) (λ j v. Upto b (b .y j) v) hi k
 pub record SidesOf (b : Board) (lo hi : List ℕ) : Type 0 where
   pub low : Lows b lo (b .pads)
   pub high : Highs b hi (b .pads)
+
+-- The first k places of cs have the cost of their pad with their port: pad j and port q have place j * ports + q.
+abbrev pub Weighed : Board → (ℕ → ℕ → ℕ) → List ℕ → ℕ → Type 0
+Weighed b cost cs k = Filled (b .pads * b .ports) (λ m v. (j q : ℕ) → q < b .ports → m ≡ j * b .ports + q → v ≡ cost j q) cs k
 
 -- cs has what it costs to lead each pad to each port, pad by pad.
 pub record CostsOf (b : Board) (cost : ℕ → ℕ → ℕ) (cs : List ℕ) : Type 0 where

@@ -6,8 +6,7 @@ ghost use lib.ListN.{length};
 ghost use Rattle.paper.specs.Job.{count};
 ghost use Rattle.paper.specs.Layouts.{boardOf, weighted};
 ghost use Rattle.paper.specs.laws.Accepted.{Accepted};
-ghost use Rattle.board.specs.Lists.{Under, Upto, SidesOf, CostsOf, Lent, WorkOn};
-ghost use Rattle.board.specs.Costs.{Weighed};
+ghost use Rattle.board.specs.Lists.{Under, Upto, SidesOf, Weighed, CostsOf, Lent, WorkOn};
 
 // How many ports are below the height h. Ports rise: the last one below it is found by halving.
 fn under(job: &[u8], h: i64) -> u16

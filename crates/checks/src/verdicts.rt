@@ -73,6 +73,7 @@ pub fn of_job(v: Verdict, job: &[u8]) -> Verdict
     requires { ⌜ (v ≡ Verdict.Sound → length (now job) ≤ 1024) ⌝ }
     ensures { λ r. ⌜ r ≡ run v (jobFindings (now (job .entry))) ⌝ }
 {
+    // none of these checks reads a list; one slice serves them all
     let entries = [0u16; 1];
     let none: &[u16] = &entries;
     let v4 = try_records(v, 4, Check::Field, job, none);

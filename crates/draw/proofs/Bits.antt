@@ -1,5 +1,5 @@
 -- Numbers of the sheet in the machine: signed, 64 bits, and small. Assumes nothing.
-use mathlib.Core.Path.{_≡_, sym, ap, _∙_}
+use mathlib.Core.Path.{_≡_}
 use Prim.Native.Nat.{ℕ, _^_, _≤_}
 use native.Mathlib.Nat.{le-trans, lt-of-le-of-lt}
 use lib.Dec.{T, lit<, lit≤, le→leb, lt→ltb}
@@ -16,10 +16,6 @@ height-back z h = back z (lt-of-le-of-lt h (lit< tt))
 -- An unsigned number cast to `i64` is itself.
 pub cast-back : (n : ℕ) → n ≤ 1000000 → toZ w64 n ≡ pos n
 cast-back n h = toZ-pos w64 (lt-of-le-of-lt h (lit< tt))
-
--- `==` compares the bits.
-pub same-bits : (a b : ℤ) → natAbs a ≤ 1000000 → natAbs b ≤ 1000000 → ofZ w64 a ≡ ofZ w64 b → a ≡ b
-same-bits a b h k e = sym (height-back a h) ∙ ap (toZ w64) e ∙ height-back b k
 
 -- `f32` counts whole numbers up to 2 ^ 24 without a gap.
 counted : (z : ℤ) → natAbs z ≤ 2 ^ 24 → T (inFloat binary32 z)

@@ -29,6 +29,10 @@ read-back z h = toZ-ofZ {w = w64} (record { sfits = h })
 pub back : (z : ℤ) → natAbs z < 2 ^ 63 → toZ w64 (ofZ w64 z) ≡ z
 back z h = toZ-ofZ (fits z h)
 
+-- `==` compares the bits.
+pub same-bits : (a b : ℤ) → mag a < 2 ^ 63 → mag b < 2 ^ 63 → ofZ w64 a ≡ ofZ w64 b → a ≡ b
+same-bits a b h k e = sym (read-back a h) ∙ ap (toZ w64) e ∙ read-back b k
+
 mag-num : (z : ℤ) → (up z ≤ mag z) × (dn z ≤ suc (mag z))
 mag-num (pos n) = (omega arith, omega arith)
 mag-num (negsuc n) = (omega arith, omega arith)

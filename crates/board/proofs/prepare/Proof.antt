@@ -1,7 +1,6 @@
 -- `board::prepare` meets its contract: the order, the sides, the costs. Assumes nothing.
 use mathlib.Core.Path.{refl}
 use borrow.Author.Needs.{needs}
-use Rattle.board.specs.Order.{order-of}
 use Rattle.board.proofs.prepare.Statement.{statement}
 use Rattle.board.proofs.prepare.Tie as tie
 
@@ -43,7 +42,7 @@ returns c =
       proper = job .proper;
       even = refl;
       few = job .few;
-      listed = order-of (job .proper) (o .by-falling-x .ensures);
+      listed = o .by-falling-x .ensures;
       sides = s .sides .ensures;
       costs = w .weigh .ensures;
     }

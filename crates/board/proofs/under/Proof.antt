@@ -10,7 +10,7 @@ use lib.Signed.{ltZ, ltZ-yes, ltZ-no}
 use Rattle.numbers.specs.Bits.{read-back}
 use Rattle.paper.specs.Job.{portOf}
 use Rattle.paper.specs.Layouts.{boardOf}
-use Rattle.board.specs.Counts.{Halved, halved-none, halved-up, halved-down, halved-done}
+use Rattle.board.proofs.Counts.{Halved, halved-none, halved-up, halved-down, halved-done}
 use Rattle.board.proofs.under.Statement.{statement}
 use Rattle.board.proofs.under.Tie as tie
 

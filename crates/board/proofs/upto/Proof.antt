@@ -1,13 +1,12 @@
 -- `board::upto` meets its contract. Assumes nothing.
-use mathlib.Core.Path.{_≡_, _∙_, sym, ap}
+use mathlib.Core.Path.{_∙_, sym, ap}
 use native.Mathlib.Omega.{arith}
 use borrow.Author.Needs.{needs}
 use mir.Syntax.{w64}
-use mir.Val.{toZ, ofZ}
-use Rattle.numbers.specs.Bits.{read-back}
-use Rattle.paper.specs.Job.{portOf}
+use mir.Val.{ofZ}
+use Rattle.numbers.specs.Bits.{same-bits}
 use Rattle.paper.specs.Layouts.{boardOf}
-use Rattle.board.specs.Counts.{upto-same, upto-more}
+use Rattle.board.proofs.Counts.{upto-same, upto-more}
 use Rattle.board.proofs.upto.Statement.{statement}
 use Rattle.board.proofs.upto.Tie as tie
 
@@ -23,19 +22,12 @@ add-result c = search needs
 abbrev begin : tie.After-records → tie.Start
 begin c = c .before .before
 
--- the height, and the next port's, as the test reads them
-height : (c : tie.Start) → toZ w64 (ofZ w64 (c .args .h)) ≡ c .args .h
-height c = read-back (c .args .h) (c .fits .h .sfits)
-
-port : (c : tie.After-port) → toZ w64 (ofZ w64 (c .port .result)) ≡ portOf (begin (c .before .before) .args .job .now) (begin (c .before .before) .args .c)
-port c = read-back (c .port .result) (c .port .ok) ∙ c .port .ensures .0
-
 returns : tie.Need-returns
 returns c =
     let p = c .before in
     let s = begin (p .before .before) in
     upto-more (boardOf (s .args .job .now)) (s .args .h) (s .args .c) (s .pre .0 .proper .rising) (s .pre .1) (omega arith)
-    (sym (port p) ∙ ap (toZ w64) (c .if2 .taken) ∙ height s)
+    (sym (p .port .ensures .0) ∙ same-bits (p .port .result) (s .args .h) (p .port .ok) (s .fits .h .sfits) (c .if2 .taken))
 
 returns-2 : tie.Need-returns-2
 returns-2 c =

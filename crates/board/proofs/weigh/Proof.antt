@@ -5,7 +5,8 @@ use native.Mathlib.Omega.{arith}
 use Rattle.numbers.specs.Filled.{filled-none, filled-to}
 use Rattle.paper.specs.Job.{count}
 use Rattle.paper.specs.Layouts.{boardOf, weighted}
-use Rattle.board.specs.Costs.{Weighed, costs-of}
+use Rattle.board.specs.Lists.{Weighed}
+use Rattle.board.proofs.Costs.{costs-of}
 use Rattle.board.proofs.weigh.Statement.{statement}
 use Rattle.board.proofs.weigh.Tie as tie
 

@@ -6,7 +6,8 @@ use native.Mathlib.Omega.{arith}
 use Rattle.numbers.specs.Filled.{filled-to, place-in}
 use Rattle.paper.specs.Job.{count}
 use Rattle.paper.specs.Layouts.{boardOf, weighted}
-use Rattle.board.specs.Costs.{Weighed, weighed-more, row-end}
+use Rattle.board.specs.Lists.{Weighed}
+use Rattle.board.proofs.Costs.{weighed-more, row-end}
 use Rattle.board.proofs.weigh_row.Statement.{statement}
 use Rattle.board.proofs.weigh_row.Tie as tie
 

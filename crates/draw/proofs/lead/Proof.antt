@@ -5,7 +5,8 @@ use mir.Syntax.{w64}
 use mir.Val.{ofZ}
 use Rattle.paper.specs.declared.Drawn.the-variants.{Straight, Bent}
 use Rattle.paper.specs.laws.Drawn.{canvas, level-drawn, bend-drawn}
-use Rattle.draw.proofs.Bits.{height-back, same-bits}
+use Rattle.numbers.specs.Bits.{same-bits}
+use Rattle.draw.proofs.Bits.{height-back}
 use Rattle.draw.proofs.lead.Statement.{statement}
 use Rattle.draw.proofs.lead.Tie as tie
 
@@ -31,7 +32,7 @@ returns c =
     let pad = pad-is (c .before .before) in
     let port = port-is (c .before) in
     (λ i. Straight (record { pad = pad i; port = port i }))
-    ∙ sym (level-drawn _ (same-bits (s .args .y) (s .args .q) (s .pre .pad) (s .pre .port) (c .if1 .taken)))
+    ∙ sym (level-drawn _ (same-bits (s .args .y) (s .args .q) (s .fits .y .sfits) (s .fits .q .sfits) (c .if1 .taken)))
 
 returns-2 : tie.Need-returns-2
 returns-2 c =

@@ -1,4 +1,4 @@
--- The costs of a board, as they are written row by row.
+-- The laws of the costs of a board, as they are written row by row.
 use mathlib.Core.Path.{_≡_, refl, ap}
 use mathlib.Core.List.{List}
 use Prim.Native.Nat.{ℕ, _+_, _*_, _<_}
@@ -7,13 +7,9 @@ use native.Mathlib.Numerals.{add-one}
 use native.Mathlib.Decide.{decLt}
 use native.Mathlib.Omega.{arith}
 use lib.ListN.{set}
-use Rattle.numbers.specs.Filled.{Filled, filled-more, filled-to, place-in}
+use Rattle.numbers.specs.Filled.{filled-more, filled-to, place-in}
 use Rattle.paper.specs.Layouts.{Board}
-use Rattle.board.specs.Lists.{CostsOf}
-
--- Pad j and port q have place j * ports + q. The first k places are written.
-abbrev pub Weighed : Board → (ℕ → ℕ → ℕ) → List ℕ → ℕ → Type 0
-Weighed b cost cs k = Filled (b .pads * b .ports) (λ m v. (j q : ℕ) → q < b .ports → m ≡ j * b .ports + q → v ≡ cost j q) cs k
+use Rattle.board.specs.Lists.{Weighed, CostsOf}
 
 -- The end of row j is the start of the next.
 pub row-end : (j p q : ℕ) → q ≡ p → j * p + q ≡ (j + 1) * p

@@ -1,4 +1,4 @@
--- The ports below a height, counted by halving.
+-- The laws of the ports below a height, as they are counted by halving.
 use mathlib.Core.Path.{_≡_, ap}
 use mathlib.Core.Logic.{_≢_}
 use Prim.Native.Nat.{ℕ, _+_, _≤_, _<_}

@@ -1,0 +1,2 @@
+-- The laws that the proofs of `order` cite.
+pub mod Sorting
