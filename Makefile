@@ -37,6 +37,8 @@ build/%: %.c examples/given-sheet.h include/cheremysl.h $(archive)
 pictures: build/draw-svg
 	build/draw-svg examples/J5.job 1 2 0 >docs/j5.svg
 	build/draw-svg examples/crossing.job $$(cat examples/crossing.layout) >docs/crossing.svg
+	build/draw-svg examples/level.job 0 1 >docs/level-crossed.svg
+	build/draw-svg examples/level.job 1 0 >docs/level.svg
 
 install: all
 	install -d $(to)/bin $(to)/lib/pkgconfig $(to)/include $(to)/share/man/man1 $(to)/share/man/man3 $(to)/share/cheremysl

@@ -70,6 +70,8 @@
  * The total of a layout is length_weight times the sum of the lengths plus bend_weight times
  * the sum of the bends. A best layout has no touching pair, and no layout without a touching
  * pair has a smaller total. With both weights 0 every layout without a touching pair is best.
+ * With bend_weight 0 no layout at all, touching or not, has a smaller total than a best one; with
+ * a larger bend_weight one with a touching pair may have.
  *
  * Order: to compare two layouts take the pad with the largest x; the layout with the smaller
  * port number there comes earlier. If these are equal, go on with the next pad to the left.

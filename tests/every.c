@@ -1,7 +1,8 @@
 /*
  * every [COUNT [SEED]]: First, Next, .., end on jobs of up to seven pads, and a page from each
  * sheet, against the list of every best layout among all assignments. Random and degenerate boards;
- * now and then with a port too close to the one before, for which every call refuses the job.
+ * now and then with a port too close to the one before, for which every call refuses the job. For
+ * bend weight 0, First's total on each board against the least of all assignments, touching or not.
  */
 #include <stdio.h>
 #include <stdlib.h>
@@ -10,7 +11,7 @@
 #include "questions.h"
 #include "trial.h"
 
-static long sheets_listed, most_sheets;
+static long sheets_listed, most_sheets, crossed, dearer;
 
 /* ---- a complete run ---- */
 
@@ -58,6 +59,19 @@ static void too_close(struct question q) {
     for (q.call = 0; q.call < CALLS; q.call++) expect(&q, keeps(&q, refused(12, (int)i)));
 }
 
+/* For bend weight 0 First's total is the least of all assignments, touching or not. */
+static void least_of_all(struct question q) {
+    static struct sheets all;
+    q.call = FIRST;
+    q.a = below(4) ? 1 + below(1000) : below(2);
+    q.b = 0;
+    struct given g = given_of(&q);
+    plain_sheets(&g, &all);
+    check(ask(&q, AT_END).answer == all.least, &q, "not the least of all assignments");
+    check(all.least == q.a * least_length(q.job, records_of(&q)), &q, "another least length");
+    crossed += all.crossed;
+}
+
 static void one_job(void) {
     static struct question q;
     static struct sheets all;
@@ -70,9 +84,12 @@ static void one_job(void) {
     for (size_t k = 0; k < LIST_ROOM; k++) q.list.layout[k] = (uint16_t)below(noise);
     lend_page(&q, any_room(n));
     if (n > 1 && below(8) == 0) too_close(q);
+    least_of_all(q);
     struct given g = given_of(&q);
     plain_sheets(&g, &all);
     check(all.found > 0, &q, "no best layout");
+    check(q.b != 0 || all.total == all.least, &q, "not the least of all assignments");
+    dearer += all.total > all.least;
     sheets_listed += (long)all.found;
     if ((long)all.found > most_sheets) most_sheets = (long)all.found;
     if (run(&q, &all) && n <= 4 && below(4) == 0) from_each(&q, 0);
@@ -85,5 +102,7 @@ int main(int argc, char **argv) {
     for (long k = 0; k < count; k++) one_job();
     printf("%ld jobs, %ld sheets listed, at most %ld of one job\n", count, sheets_listed,
            most_sheets);
+    printf("bend weight 0: the least of all; in %ld jobs touching leaders have it too\n", crossed);
+    printf("with a bend weight: in %ld jobs touching leaders have a smaller total\n", dearer);
     return done();
 }

@@ -94,6 +94,9 @@ prints 1 "$crossing" $run "$room/audit" "$share/crossing.job" $(cat "$share/cros
 check "the README's crossing leaders" grep -qxF "    $crossing" README.md
 prints 0 'sound: length 546, bends 2' $run "$room/audit" "$share/crossing.job" 3 2 1 0
 prints 1 'refused 9 record 1 (pad 102) and record 0 (pad 101): their leaders touch' $run "$room/audit" "$share/J5.job" 0 1 2
+apart='sound: length 50, bends 2'
+prints 0 "$apart" $run "$room/audit" "$share/level.job" 1 0
+check "the README's level pad" grep -qxF "    $apart" README.md
 printf '101 10 0 10\n102 20 30 17\n' | "$share/mkjob" >"$room/close.job"
 prints 1 "refused 12 record 1 (pad 102): this record's port is less than 8 above the one before" $run "$room/audit" "$room/close.job" 0 1
 
@@ -108,6 +111,8 @@ picture() {
 }
 check "picture" picture j5.svg examples/J5.job 1 2 0
 check "picture" picture crossing.svg examples/crossing.job $(cat examples/crossing.layout)
+check "picture" picture level-crossed.svg examples/level.job 0 1
+check "picture" picture level.svg examples/level.job 1 0
 
 # ---- the sample jobs: each is what its list says, can be listed and made again, and is accepted
 

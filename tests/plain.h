@@ -67,6 +67,9 @@ struct sheets {
     size_t found;
     int64_t total;
     struct sheet sheet[PLAIN_SHEETS];
+    size_t tried;  /* assignments, touching or not, .. */
+    int64_t least; /* .. the least total of all these .. */
+    bool crossed;  /* .. and whether touching leaders have it */
 };
 void plain_sheets(const struct given *g, struct sheets *all);
 

@@ -31,6 +31,8 @@ static const struct record J2_7[] = {{10, 0, 10}, {20, 30, 17}};
 static const struct record J3[] = {{10, 15, 10}, {20, 15, 20}};
 static const struct record J4[] = {{10, 15, 10}, {20, 60, 20}};
 static const struct record J5[] = {{10, 10, 0}, {20, 20, 10}, {30, 30, 20}};
+/* Record 1 is as high as port 1, which it reaches without a bend only across record 0's hand. */
+static const struct record level_pad[] = {{10, 20, 0}, {20, 10, 10}};
 
 #define NONE {-1}
 #define REFUSED(r, i) (-65536 * (r) - (i))
@@ -99,6 +101,11 @@ static const struct {
     {"ports 7 apart", J2_7, 2, FIRST, 1, 0, NONE, REFUSED(12, 1), NONE},
     {"ports 7 apart", J2_7, 2, NEXT, 1, 0, {0, 1}, REFUSED(12, 1), NONE},
     {"ports 7 apart", J2_7, 2, MEASURE, 1, 0, {0, 1}, REFUSED(12, 1), NONE},
+    /* Straightening costs no length, but it can cost a bend. */
+    {"level pad", level_pad, 2, FIRST, 1, 0, NONE, 50, {1, 0}},
+    {"level pad", level_pad, 2, FIRST, 1, 1, NONE, 52, {1, 0}},
+    {"level pad", level_pad, 2, NEXT, 1, 1, {1, 0}, END, NONE},
+    {"level pad", level_pad, 2, MEASURE, 1, 1, {0, 1}, TOUCHING(1, 0), NONE},
 };
 
 static void put_layout(uint16_t *list, const int *layout, size_t n) {
@@ -117,6 +124,20 @@ static void worked_sheets(void) {
         put_layout(q.call == PAGE ? r.page : r.list.layout, sheets[k].written, sheets[k].n);
         if (!expect(&q, r)) printf("  this was %s\n", sheets[k].mark);
         if (plain_reply(&q).answer != r.answer) check(false, &q, "the plain account differs");
+    }
+}
+
+/* The level pad with other weights: its touching leaders have a bend less and the same lengths. */
+static void bends_can_cost(void) {
+    static const uint32_t weights[] = {0, 1, 2, 7, 999, 1000};
+    static const uint16_t crossed[] = {0, 1}, apart[] = {1, 0};
+    struct question q = about(FIRST, 2, level_pad);
+    for (int k = 0; k < 36 && FIRST < CALLS; k++) {
+        q.a = weights[k / 6];
+        q.b = weights[k % 6];
+        struct given g = given_of(&q);
+        expect(&q, gives(&q, 50 * (int64_t)q.a + 2 * q.b, apart));
+        check(plain_total(&g, crossed) == 50 * (int64_t)q.a + q.b, &q, "the crossed total");
     }
 }
 
@@ -433,6 +454,7 @@ static void given_numbers(enum call call) {
 int main(void) {
     begin();
     worked_sheets();
+    bends_can_cost();
     drawn_sheets();
     drawn_range();
     for (enum call call = 0; call < CALLS; call++) {

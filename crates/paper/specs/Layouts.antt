@@ -33,10 +33,14 @@ leader b i q = record { x = b .x i; y = b .y i; port = b .port q }
 abbrev pub Touching : Board → (ℕ → ℕ) → ℕ → ℕ → Type 0
 Touching b f i j = Touch (leader b i (f i)) (leader b j (f j))
 
--- A layout: each pad has a port of its own. (Where there are as many ports as pads, each port number stands once: `each-port-once`.)
+-- A layout: each pad has a port of its own.
 pub record Layout (b : Board) (f : ℕ → ℕ) : Type 0 where
   pub inside : (i : ℕ) → i < b .pads → f i < b .ports
   pub own : (i j : ℕ) → j < i → i < b .pads → f i ≢ f j
+
+-- Each port number stands exactly once. (Where there are as many ports as pads, that is a layout: `layout-iff`.)
+abbrev pub EachOnce : Board → (ℕ → ℕ) → Type 0
+EachOnce b f = (q : ℕ) → q < b .ports → (i : ℕ) × (i < b .pads) × (f i ≡ q) × ((j : ℕ) → j < b .pads → f j ≡ q → j ≡ i)
 
 -- A layout with no touching pair.
 pub record Untouching (b : Board) (f : ℕ → ℕ) : Type 0 where

@@ -7,4 +7,5 @@ pub mod Canvas
 pub mod Promises
 pub mod Runs
 pub mod Sheets
+pub mod Straightening
 pub mod laws

@@ -29,9 +29,10 @@ pub mod Rank
 pub mod Earliest
 pub mod Kept
 pub mod Pages
--- THE THEOREMS: determinacy, each promise can be met, demand 3, a page is what calls of Next give, the worked sheets.
+-- THE THEOREMS: determinacy, each promise can be met, demand 3, a page is what calls of Next give, straightening costs no length, the worked sheets.
 pub mod Determined
 pub mod Met
 pub mod Demand
 pub mod ByNext
+pub mod Shortest
 pub mod Worked

@@ -5,7 +5,7 @@ use Prim.Native.Nat.{ℕ, zero, suc, _<_}
 use native.Mathlib.Decide.{decLt, ℕ-discrete}
 use native.Mathlib.Omega.{arith}
 use Rattle.paper.specs.Leaders.{Between}
-use Rattle.paper.specs.Layouts.{Board, leader, Touching, Layout, Untouching, weighted, total, Best}
+use Rattle.paper.specs.Layouts.{Board, leader, Touching, Layout, EachOnce, Untouching, weighted, total, Best}
 use Rattle.paper.specs.laws.Proper.{Differ, Same}
 use Rattle.paper.specs.laws.Touching.{touch-sym, touch-iff}
 use Rattle.paper.specs.laws.Totals.{sum-same, total-is}
@@ -146,24 +146,44 @@ fills (suc n) f below own q h = go (fills n (without n f) below-n own-n) (ℕ-di
         let (i, l, s) = rest q (omega arith) in
         (i, omega arith, ⊎-elim (λ c. omega arith) (λ c. omega arith) (without-is n f i))
 
--- THEOREM: with as many ports as pads, each port number stands exactly once in a layout.
-pub each-port-once : (b : Board) (f : ℕ → ℕ) → b .ports ≡ b .pads → Layout b f
-    → (q : ℕ) → q < b .ports → (i : ℕ) × (i < b .pads) × (f i ≡ q) × ((j : ℕ) → j < b .pads → f j ≡ q → j ≡ i)
-each-port-once b f e s q h = go (fills (b .pads) f (λ i l. omega (arith, s .inside i l)) (s .own) q (omega arith))
-  where
-    go : (i : ℕ) × (i < b .pads) × (f i ≡ q) → (i : ℕ) × (i < b .pads) × (f i ≡ q) × ((j : ℕ) → j < b .pads → f j ≡ q → j ≡ i)
-    go (i, l, d) = (i, l, d, λ j k c. own-pad b f s j i k l (omega arith))
+-- THEOREM: with as many ports as pads, each port number stands exactly once in a layout, and where each does it is one.
+module _ (b : Board) (f : ℕ → ℕ) (same : b .ports ≡ b .pads) where
+  each-once : Layout b f → EachOnce b f
+  each-once s q h = go (fills (b .pads) f (λ i l. omega (arith, s .inside i l)) (s .own) q (omega arith))
+    where
+      go : (i : ℕ) × (i < b .pads) × (f i ≡ q) → (i : ℕ) × (i < b .pads) × (f i ≡ q) × ((j : ℕ) → j < b .pads → f j ≡ q → j ≡ i)
+      go (i, l, d) = (i, l, d, λ j k c. own-pad b f s j i k l (omega arith))
 
--- THEOREM: with as many ports as pads, a layout is port numbers of which each stands exactly once.
-pub layout-iff : (b : Board) (f : ℕ → ℕ) → b .ports ≡ b .pads → Layout b f
-    ↔ (((i : ℕ) → i < b .pads → f i < b .ports)
-    × ((q : ℕ) → q < b .ports → (i : ℕ) × (i < b .pads) × (f i ≡ q) × ((j : ℕ) → j < b .pads → f j ≡ q → j ≡ i)))
-layout-iff b f e =
-    ((λ l. (l .inside, each-port-once b f e l)), λ (inside, once). record { inside = inside; own = λ i j l k d. own (once (f i) (inside i k)) i j l k refl d })
-  where
-    own : {q : ℕ} → (m : ℕ) × (m < b .pads) × (f m ≡ q) × ((j : ℕ) → j < b .pads → f j ≡ q → j ≡ m)
-        → (i j : ℕ) → j < i → i < b .pads → f i ≡ q → f i ≡ f j → ⊥
-    own (m, h, s, u) i j l k c d = omega (arith, u i k c, u j (omega arith) (omega arith))
+  -- The place of port q; n places of n ports are all the places, so that every entry is a port number.
+  once-layout : EachOnce b f → Layout b f
+  once-layout once = record { inside = inside; own = λ i j l k e. own (once (f i) (inside i k)) i j l k refl e }
+    where
+      at : (q : ℕ) → Dec (q < b .ports) → ℕ
+      at q (yes h) = once q h .0
+      at q (no h) = 0
+
+      stands : (q : ℕ) → q < b .pads → (d : Dec (q < b .ports)) → (at q d < b .pads) × (f (at q d) ≡ q)
+      stands q h (yes l) = (once q l .1, once q l .2)
+      stands q h (no l) = absurd (omega arith)
+
+      place : ℕ → ℕ
+      place q = at q (decLt q (b .ports))
+
+      found : (q : ℕ) → q < b .pads → (place q < b .pads) × (f (place q) ≡ q)
+      found q h = stands q h (decLt q (b .ports))
+
+      inside : (i : ℕ) → i < b .pads → f i < b .ports
+      inside i h =
+          let (q, l, e) = fills (b .pads) place (λ q l. found q l .0)
+          (λ q r k l e. omega (arith, found q l .1, found r (omega arith) .1, ap f e)) i h in
+          omega (arith, found q l .1, ap f e)
+
+      own : {q : ℕ} → (m : ℕ) × (m < b .pads) × (f m ≡ q) × ((j : ℕ) → j < b .pads → f j ≡ q → j ≡ m)
+          → (i j : ℕ) → j < i → i < b .pads → f i ≡ q → f i ≡ f j → ⊥
+      own (m, h, s, u) i j l k c d = omega (arith, u i k c, u j (omega arith) (omega arith))
+
+  pub layout-iff : Layout b f ↔ EachOnce b f
+  layout-iff = (each-once, once-layout)
 
 -- THEOREM: with both weights 0 every untouching layout is best.
 pub zero-weights : (b : Board) (f : ℕ → ℕ) → Untouching b f → Best b (weighted b 0 0) f

@@ -1,0 +1,110 @@
+-- STRAIGHTENING COSTS NO LENGTH. For bend weight 0 a best layout is the least of all layouts, touching or not; with a bend weight it need not be.
+-- Assumes nothing.
+use mathlib.Core.Path.{_≡_, refl, ap, _∙_}
+use mathlib.Core.Logic.{_≢_, inl, inr, ⊎-elim}
+use mathlib.Core.List.{List, [], _∷_}
+use Prim.Native.Nat.{ℕ, zero, suc, _+_, _*_, _≤_, _<_}
+use native.Mathlib.Decide.{ℕ-discrete}
+use native.Mathlib.Nat.{mul-le-mul-left}
+use native.Mathlib.Omega.{arith}
+use lib.ListN.{length}
+use lib.IntN.{pos}
+use Rattle.numbers.specs.Whole.{whole}
+use Rattle.paper.specs.declared.Answer.the-variants.{Total}
+use Rattle.paper.specs.Job.{twos, nameOf, reservedOf, xOf, yOf, portOf}
+use Rattle.paper.specs.Leaders.{lengthOf, bendsOf}
+use Rattle.paper.specs.Layouts.{Board, boardOf, held, leader, Touching, EachOnce, Untouching, sum, weighted, total, Best}
+use Rattle.paper.specs.Refusals.{Passed, firstTrials}
+use Rattle.paper.specs.Straightening.{LeastOfAll, CostsNothing, levelPad, BendsCanCost}
+use Rattle.paper.specs.laws.Search.{first, some, firstPair}
+use Rattle.paper.specs.laws.Tests.{outside, between}
+use Rattle.paper.specs.laws.Verdicts.{firstFindings, jobFindings}
+use Rattle.paper.specs.laws.Proper.{Proper, Same}
+use Rattle.paper.specs.laws.Totals.{total-is}
+use Rattle.paper.specs.laws.Boards.{layout-iff, layout-same, untouching-same, total-same}
+use Rattle.paper.specs.laws.Judged.{first-judged}
+use Rattle.paper.specs.laws.Existence.{straight-total}
+use Rattle.paper.specs.laws.Accepted.{first-accepted}
+use Rattle.paper.specs.laws.Numbers.{total-told}
+use Rattle.paper.specs.laws.Met.{first-made}
+
+-- THEOREM. For bend weight 0 no layout at all has a smaller total than a best one, on every board with at least as many ports as pads.
+pub best-of-all : (b : Board) → Proper b → (lw : ℕ) (f : ℕ → ℕ) → Best b (weighted b lw 0) f
+    → LeastOfAll b (weighted b lw 0) (total b (weighted b lw 0) f)
+best-of-all b proper lw f best g layout =
+    let (h, untouching, shorter) = straight-total b proper g layout in
+    omega (arith, best .least h untouching, total-is b lw 0 h, total-is b lw 0 g, mul-le-mul-left lw shorter)
+
+-- THEOREM. For every accepted job and length weight, with bend weight 0, no list in which each port number stands once has a smaller total than First answers.
+pub straightening-costs-no-length : (job : List ℕ) (lw : ℕ) → CostsNothing job lw 0
+straightening-costs-no-length job lw before after t promise list once =
+    let (passed, first, is, kept) = total-told job lw 0 before t after promise in
+    let accepted = first-accepted job lw 0 (length before) passed .0 in
+    omega (arith, is, best-of-all (boardOf job) (accepted .proper) lw (held after) (first .best) (held list) (layout-iff (boardOf job) (held list) refl .1 once))
+
+-- ---- with a bend weight
+
+-- The example's board, the layout whose leaders touch, and the other one.
+abbrev b : Board
+b = boardOf levelPad
+
+abbrev crossed : List ℕ
+crossed = 0 ∷ 1 ∷ []
+
+abbrev uncrossed : List ℕ
+uncrossed = 1 ∷ 0 ∷ []
+
+-- The two layouts have the same lengths, and the second has a bend more.
+crossed-total : (lw bw : ℕ) → total b (weighted b lw bw) (held crossed) ≡ lw * 50 + bw * 1
+unfolding sum lengthOf bendsOf xOf yOf portOf twos
+crossed-total lw bw = total-is b lw bw (held crossed)
+
+uncrossed-total : (lw bw : ℕ) → total b (weighted b lw bw) (held uncrossed) ≡ lw * 50 + bw * 2
+unfolding sum lengthOf bendsOf xOf yOf portOf twos
+uncrossed-total lw bw = total-is b lw bw (held uncrossed)
+
+crossed-once : EachOnce b (held crossed)
+crossed-once = layout-iff b (held crossed) refl .0 (layout-same b (λ i. i) (held crossed) same (record { inside = λ i l. l; own = λ i j l k. omega arith }))
+  where
+    same : Same b (λ i. i) (held crossed)
+    same zero l = refl
+    same (suc zero) l = refl
+    same (suc (suc i)) l = absurd (omega arith)
+
+-- At (10, 10) the arm of record 1 crosses the hand of record 0.
+crossed-touch : Touching b (held crossed) 1 0
+unfolding xOf yOf portOf twos
+crossed-touch = (record { x = 10; y = pos 10 }, inr (refl, omega arith), inl (refl, inr (omega whole, omega whole)))
+
+-- So untouching leaders go the other way.
+only-uncrossed : (f : ℕ → ℕ) → Untouching b f → Same b f (held uncrossed)
+only-uncrossed f u = go (ℕ-discrete (f 0) 0) (u .layout .inside 0 (omega arith)) (u .layout .inside 1 (omega arith)) (u .layout .own 1 0 (omega arith) (omega arith))
+  where
+    pair : (w : List ℕ) → f 0 ≡ held w 0 → f 1 ≡ held w 1 → Same b f (held w)
+    pair w e d zero l = e
+    pair w e d (suc zero) l = d
+    pair w e d (suc (suc i)) l = absurd (omega arith)
+
+    go : Dec (f 0 ≡ 0) → f 0 < 2 → f 1 < 2 → f 1 ≢ f 0 → Same b f (held uncrossed)
+    go (yes e) h k n = absurd (untouching-same b f (held crossed) (pair crossed e (omega arith)) u .apart 1 0 (omega arith) (omega arith) crossed-touch)
+    go (no e) h k n = pair uncrossed (omega arith) (omega arith)
+
+-- The job is accepted, whatever the weights.
+sound : Passed (firstTrials levelPad 0 0 2)
+unfolding first some firstPair outside between jobFindings firstFindings twos nameOf reservedOf xOf yOf portOf
+sound = first-judged levelPad 0 0 2
+
+-- THEOREM. With a bend weight untouching leaders can cost more, whatever the length weight is.
+pub bends-can-cost : BendsCanCost
+bends-can-cost lw bw h k bends =
+    let passed : Passed (firstTrials levelPad lw bw 2) = (sound .0, ((λ i l. ⊎-elim (λ m. omega arith) (λ m. omega arith)), sound .1 .1)) in
+    let (t, after, answers) = first-made levelPad lw bw (9 ∷ 9 ∷ []) passed in
+    let cost = weighted b lw bw in
+    let is = answers .2 ∙ total-same b cost (held after) (held uncrossed) (only-uncrossed (held after) (answers .1 .best .untouching)) in
+    record {
+      best = (9 ∷ 9 ∷ [], after, (Total t, answers, ap pos (omega (arith, is, uncrossed-total lw bw))));
+      once = crossed-once;
+      touch = (1, 0, omega arith, omega arith, crossed-touch);
+      sums = omega (arith, crossed-total lw bw);
+      smaller = omega arith;
+    }
