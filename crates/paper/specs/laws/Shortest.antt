@@ -3,7 +3,7 @@
 use mathlib.Core.Path.{_≡_, refl, ap, _∙_}
 use mathlib.Core.Logic.{_≢_, inl, inr, ⊎-elim}
 use mathlib.Core.List.{List, [], _∷_}
-use Prim.Native.Nat.{ℕ, zero, suc, _+_, _*_, _≤_, _<_}
+use Prim.Native.Nat.{ℕ, zero, suc, _+_, _*_, _<_}
 use native.Mathlib.Decide.{ℕ-discrete}
 use native.Mathlib.Nat.{mul-le-mul-left}
 use native.Mathlib.Omega.{arith}
@@ -13,7 +13,7 @@ use Rattle.numbers.specs.Whole.{whole}
 use Rattle.paper.specs.declared.Answer.the-variants.{Total}
 use Rattle.paper.specs.Job.{twos, nameOf, reservedOf, xOf, yOf, portOf}
 use Rattle.paper.specs.Leaders.{lengthOf, bendsOf}
-use Rattle.paper.specs.Layouts.{Board, boardOf, held, leader, Touching, EachOnce, Untouching, sum, weighted, total, Best}
+use Rattle.paper.specs.Layouts.{Board, boardOf, held, Touching, EachOnce, Untouching, sum, weighted, total, Best}
 use Rattle.paper.specs.Refusals.{Passed, firstTrials}
 use Rattle.paper.specs.Straightening.{LeastOfAll, CostsNothing, levelPad, BendsCanCost}
 use Rattle.paper.specs.laws.Search.{first, some, firstPair}
