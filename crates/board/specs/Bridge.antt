@@ -2,7 +2,7 @@
 use mathlib.Core.Path.{_≡_, refl, sym, _∙_, subst}
 use mathlib.Core.Logic.{_⊎_, inl, inr, _↔_}
 use mathlib.Core.List.{List, List·Memᴰ}
-use Prim.Native.Nat.{ℕ, zero, suc, _+_, _≤_, _<_, zero-le}
+use Prim.Native.Nat.{ℕ, zero, suc, _≤_, _<_, zero-le}
 use native.Mathlib.Omega.{arith}
 use native.Mathlib.Decide.{decLt, ℕ-discrete}
 use lib.ListN.{length, getD, List·getD-eq-default}
@@ -20,7 +20,7 @@ use Rattle.paper.specs.Layouts.{Board, Untouching, sum, total, Best, Before, Fi
 use Rattle.paper.specs.laws.Totals.{sum-same}
 use Rattle.paper.specs.laws.Boards.{untouched-iff, untouching-of}
 use Rattle.board.specs.Lists.{WorkOf}
-use Rattle.board.specs.Sides.{low-high, high-low, clear-iff}
+use Rattle.board.specs.Sides.{low-high, clear-iff}
 
 -- ---- sums
 
@@ -42,10 +42,6 @@ module _ {b : Board} {cost : ℕ → ℕ → ℕ} {order lo hi cs : List ℕ} (W
   level j (yes h) = low-high b (W .proper .rising) (W .sides .low .at j h) (W .sides .high .at j h)
   level j (no h) = omega (arith, default lo (W .sides .low .long) j h)
 
-  thin : (j : ℕ) → Dec (j < b .pads) → getD hi j 0 ≤ getD lo j 0 + 1
-  thin j (yes h) = high-low b (W .proper .rising) (W .sides .low .at j h) (W .sides .high .at j h)
-  thin j (no h) = omega (arith, default hi (W .sides .high .long) j h)
-
   most : (j : ℕ) → Dec (j < b .pads) → getD hi j 0 ≤ b .pads
   most j (yes h) = omega (arith, W .sides .high .at j h .top, W .even)
   most j (no h) = omega (arith, default hi (W .sides .high .long) j h)
@@ -62,7 +58,6 @@ module _ {b : Board} {cost : ℕ → ℕ → ℕ} {order lo hi cs : List ℕ} (W
       top = λ j. omega (arith, most j (decLt j (b .pads)), same-n);
     };
     square = rw same-n (rw (W .even) at (W .costs .square));
-    thin = λ j. thin j (decLt j (b .pads));
     arranged = rw same-n (W .listed .arranged);
   }
 

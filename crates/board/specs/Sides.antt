@@ -1,11 +1,11 @@
 -- A pad among the ports: counted sides say which leaders do not touch.
 use mathlib.Core.Path.{_≡_}
 use mathlib.Core.Logic.{_⊎_, inl, inr, _↔_}
-use Prim.Native.Nat.{ℕ, _+_, _≤_, _<_}
+use Prim.Native.Nat.{ℕ, _≤_, _<_}
 use native.Mathlib.Omega.{arith}
 use native.Mathlib.Decide.{decLt, decLe}
 use lib.IntN.{ℤ}
-use lib.Signed.{_≤ℤ_, _<ℤ_}
+use lib.Signed.{_<ℤ_}
 use Rattle.numbers.specs.Whole.{whole, nlt-num}
 use Rattle.paper.specs.Leaders.{Between}
 use Rattle.paper.specs.Layouts.{Board}
@@ -16,7 +16,7 @@ use Rattle.board.specs.Lists.{Under, Upto}
 -- A pad of the height y with l ports strictly below it and u at its height or below.
 module _ (b : Board) (rising : Rising b) {y : ℤ} {l u : ℕ}
     (L : Under b y l) (U : Upto b y u) where
-  -- No port is both below it and above it,
+  -- No port is both below it and above it.
   pub low-high : l ≤ u
   low-high = go (decLe l u)
     where
@@ -26,18 +26,6 @@ module _ (b : Board) (rising : Rising b) {y : ℤ} {l u : ℕ}
           let k : u < b .ports = omega (arith, L .top) in
           let t : b .port u <ℤ y = L .which u k .0 (omega arith) in
           absurd (omega (arith, U .which u k .1 (omega whole)))
-
-  -- and at most one is at its height.
-  pub high-low : u ≤ l + 1
-  high-low = go (decLe u (l + 1))
-    where
-      go : Dec (u ≤ l + 1) → u ≤ l + 1
-      go (yes h) = h
-      go (no h) =
-          let k : l + 1 < b .ports = omega (arith, U .top) in
-          let t : b .port (l + 1) ≤ℤ y = U .which (l + 1) k .0 (omega arith) in
-          let r : b .port l <ℤ b .port (l + 1) = rising l (l + 1) (omega arith) k in
-          absurd (omega (arith, L .which l (omega arith) .1 (omega whole)))
 
   -- The height of port q is not between the pad's and that of port r exactly if port q is below both or above both.
   pub clear-iff : (q r : ℕ) → q < b .ports → r < b .ports

@@ -13,6 +13,7 @@ use Rattle.paper.specs.Job.{count}
 use Rattle.paper.specs.Layouts.{boardOf, held, Untouching, Best}
 use Rattle.paper.specs.Promises.{Kept}
 use Rattle.paper.specs.laws.Totals.{totalOf}
+use Rattle.paper.specs.laws.Existence.{untouching-exists}
 use Rattle.board.specs.Lists.{WorkOn}
 use Rattle.board.specs.Bridge.{proper, untouching-sol, sum-total, optimal-is-best, best-is-optimal, earliest-is}
 use Rattle.sheets.specs.declared.Start.the-variants.{First, Given}
@@ -29,9 +30,13 @@ module _ {job : List ℕ} {lw bw : ℕ} {order lo hi cs hs ts : List ℕ} (R : R
   pub working-on : (w : List ℕ) → count job ≤ length w → steps.Working order cs lo hi hs ts w
   working-on w h = record { proper = proper (R .work); table = R .table; room = omega (arith, same-n) }
 
-  -- and an untouching layout is one to it.
+  -- an untouching layout is one to it,
   pub untouching-on : (w : List ℕ) → Untouching (boardOf job) (held w) → steps.Untouching order cs lo hi w
   untouching-on w u = untouching-sol (R .work) (held w) u
+
+  -- and there is one.
+  pub solvable-on : steps.Solvable order cs lo hi
+  solvable-on = let u = untouching-exists (boardOf job) (R .work .proper) in (u .0, untouching-sol (R .work) (u .0) (u .1))
 
   pub kept-on : {w v : List ℕ} → steps.Kept (length order) w v → Kept (count job) w v
   kept-on K = record { long = K .long; rest = λ k h. K .rest k (omega (arith, same-n)) }

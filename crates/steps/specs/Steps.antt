@@ -15,16 +15,19 @@ use Rattle.table.specs.Cell.{boardOf, Pads, Table}
 abbrev pub portOf : List ℕ → ℕ → ℕ
 portOf w j = getD w j 0
 
--- A proper board: 64 pads at most, each listed once, with at most one port at its height; a figure for each pad and port.
+-- A proper board: 64 pads at most, each listed once; a figure for each pad and port.
 pub record Proper (order cs lo hi : List ℕ) : Type 0 where
   pub pads : Pads order lo hi
   pub square : length cs ≡ length order * length order
-  pub thin : (j : ℕ) → getD hi j 0 ≤ getD lo j 0 + 1
   pub arranged : Arrangement (length order) order
 
 -- A layout without touching leaders.
 abbrev pub Untouching : List ℕ → List ℕ → List ℕ → List ℕ → List ℕ → Type 0
 Untouching order cs lo hi w = Sol (boardOf order cs lo hi) order 0 (length order) (portOf w)
+
+-- There is one.
+abbrev pub Solvable : List ℕ → List ℕ → List ℕ → List ℕ → Type 0
+Solvable order cs lo hi = (f : ℕ → ℕ) × Sol (boardOf order cs lo hi) order 0 (length order) f
 
 -- A best one.
 abbrev pub BestLayout : List ℕ → List ℕ → List ℕ → List ℕ → List ℕ → Type 0

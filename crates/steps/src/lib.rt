@@ -7,7 +7,7 @@ ghost use mathlib.Core.Path.{_≡_};
 ghost use Prim.Native.Nat.{_≤_, _<_, max};
 ghost use lib.ListN.{length};
 ghost use Rattle.table.specs.Cell.{boardOf, leastOf, Pads, Table, Ready};
-ghost use Rattle.steps.specs.Steps.{total, Proper, Measurable, Untouching, BestLayout, Working, Begun, LocallyBest, Chosen, FilledUp};
+ghost use Rattle.steps.specs.Steps.{total, Proper, Measurable, Untouching, Solvable, BestLayout, Working, Begun, LocallyBest, Chosen, FilledUp};
 ghost use Rattle.steps.specs.Steps.{Placed, Entered, Placeable, Lowest, Highest, FirstIs, StepIs, Told};
 ghost use Rattle.steps.specs.Memory.{startAt, stopAt, LeadsAt, firstPort, endPort, Known, Current, Memory, Noted, Learnt};
 
@@ -295,6 +295,7 @@ pub fn first(
     out: &mut [u16],
 )
     requires { ⌜ Working (now order) (now cost) (now lo) (now hi) (now heads) (now totals) (now out) ⌝ }
+    requires { ⌜ Solvable (now order) (now cost) (now lo) (now hi) ⌝ }
     ensures { λ _. ⌜ FirstIs (now (order .entry)) (now (cost .entry)) (now (lo .entry)) (now (hi .entry)) (now (out .entry)) (now (out .exit)) ⌝ }
 {
     let mut known = [0u8; 256];

@@ -1,6 +1,6 @@
 -- `sheets::begin` meets its contract. Assumes nothing.
 use borrow.Author.Needs.{needs}
-use Rattle.sheets.proofs.Starts.{proper-on, working-on, untouching-on, first-on, given-on}
+use Rattle.sheets.proofs.Starts.{proper-on, working-on, solvable-on, untouching-on, first-on, given-on}
 use Rattle.sheets.proofs.begin.Statement.{statement}
 use Rattle.sheets.proofs.begin.Tie as tie
 
@@ -11,7 +11,7 @@ first-requires : tie.Need-first-requires
 first-requires c κs =
     let told = c .before in
     let s = told .before .before .before .before .before .before .before .before .before .before in
-    working-on (s .pre .0) (s .args .w .now) (rw (told .enum-told .given .1) at (s .pre .1 .1))
+    (working-on (s .pre .0) (s .args .w .now) (rw (told .enum-told .given .1) at (s .pre .1 .1)), solvable-on (s .pre .0))
 
 enum-told-2 : tie.Need-enum-told-2
 enum-told-2 c = search needs
