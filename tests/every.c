@@ -59,6 +59,8 @@ static void too_close(struct question q) {
     for (q.call = 0; q.call < CALLS; q.call++) expect(&q, keeps(&q, refused(12, (int)i)));
 }
 
+static size_t assignments(size_t n) { return n == 0 ? 1 : n * assignments(n - 1); }
+
 /* For bend weight 0 First's total is the least of all assignments, touching or not. */
 static void least_of_all(struct question q) {
     static struct sheets all;
@@ -67,9 +69,10 @@ static void least_of_all(struct question q) {
     q.b = 0;
     struct given g = given_of(&q);
     plain_sheets(&g, &all);
-    check(ask(&q, AT_END).answer == all.least, &q, "not the least of all assignments");
+    expect(&q, gives(&q, all.least, all.sheet[0].port));
+    check(all.tried == assignments(records_of(&q)), &q, "not every assignment was tried");
     check(all.least == q.a * least_length(q.job, records_of(&q)), &q, "another least length");
-    crossed += all.crossed;
+    crossed += q.a > 0 && all.crossed;
 }
 
 static void one_job(void) {
@@ -102,7 +105,9 @@ int main(int argc, char **argv) {
     for (long k = 0; k < count; k++) one_job();
     printf("%ld jobs, %ld sheets listed, at most %ld of one job\n", count, sheets_listed,
            most_sheets);
-    printf("bend weight 0: the least of all; in %ld jobs touching leaders have it too\n", crossed);
+    printf("bend weight 0: the least of all; in %ld jobs with a length weight touching leaders "
+           "have it too\n", crossed);
     printf("with a bend weight: in %ld jobs touching leaders have a smaller total\n", dearer);
+    check(count < 1000 || (crossed > 0 && dearer > 0), NULL, "no touching leaders were weighed");
     return done();
 }

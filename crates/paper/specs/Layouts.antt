@@ -38,9 +38,12 @@ pub record Layout (b : Board) (f : ℕ → ℕ) : Type 0 where
   pub inside : (i : ℕ) → i < b .pads → f i < b .ports
   pub own : (i j : ℕ) → j < i → i < b .pads → f i ≢ f j
 
--- Each port number stands exactly once. (Where there are as many ports as pads, that is a layout: `layout-iff`.)
+-- Port number q stands exactly once; each port number does. (Where there are as many ports as pads, that is a layout: `layout-iff`.)
+abbrev pub StandsOnce : Board → (ℕ → ℕ) → ℕ → Type 0
+StandsOnce b f q = (i : ℕ) × (i < b .pads) × (f i ≡ q) × ((j : ℕ) → j < b .pads → f j ≡ q → j ≡ i)
+
 abbrev pub EachOnce : Board → (ℕ → ℕ) → Type 0
-EachOnce b f = (q : ℕ) → q < b .ports → (i : ℕ) × (i < b .pads) × (f i ≡ q) × ((j : ℕ) → j < b .pads → f j ≡ q → j ≡ i)
+EachOnce b f = (q : ℕ) → q < b .ports → StandsOnce b f q
 
 -- A layout with no touching pair.
 pub record Untouching (b : Board) (f : ℕ → ℕ) : Type 0 where

@@ -20,7 +20,7 @@ CostsNothing job lw bw = (before after : List ℕ) (t : ℕ) → FirstPromise jo
 
 -- It costs something: First answers t, and a list in which each port number stands once, and two leaders touch, has the smaller total u.
 pub record Costs (job : List ℕ) (lw bw t : ℕ) (list : List ℕ) (u : ℕ) : Type 0 where
-  pub best : (before : List ℕ) × (after : List ℕ) × FirstPromise job lw bw before (pos t) after
+  pub first : (before : List ℕ) × (after : List ℕ) × FirstPromise job lw bw before (pos t) after
   pub once : EachOnce (boardOf job) (held list)
   pub touch : (i : ℕ) × (j : ℕ) × (j < i) × (i < count job) × Touching (boardOf job) (held list) i j
   pub sums : u ≡ total (boardOf job) (weighted (boardOf job) lw bw) (held list)

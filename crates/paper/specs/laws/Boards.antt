@@ -5,7 +5,7 @@ use Prim.Native.Nat.{ℕ, zero, suc, _<_}
 use native.Mathlib.Decide.{decLt, ℕ-discrete}
 use native.Mathlib.Omega.{arith}
 use Rattle.paper.specs.Leaders.{Between}
-use Rattle.paper.specs.Layouts.{Board, leader, Touching, Layout, EachOnce, Untouching, weighted, total, Best}
+use Rattle.paper.specs.Layouts.{Board, leader, Touching, Layout, StandsOnce, EachOnce, Untouching, weighted, total, Best}
 use Rattle.paper.specs.laws.Proper.{Differ, Same}
 use Rattle.paper.specs.laws.Touching.{touch-sym, touch-iff}
 use Rattle.paper.specs.laws.Totals.{sum-same, total-is}
@@ -146,12 +146,12 @@ fills (suc n) f below own q h = go (fills n (without n f) below-n own-n) (ℕ-di
         let (i, l, s) = rest q (omega arith) in
         (i, omega arith, ⊎-elim (λ c. omega arith) (λ c. omega arith) (without-is n f i))
 
--- THEOREM: with as many ports as pads, each port number stands exactly once in a layout, and where each does it is one.
+-- THEOREM: with as many ports as pads, each port number stands exactly once in a layout, and where each does, that is a layout.
 module _ (b : Board) (f : ℕ → ℕ) (same : b .ports ≡ b .pads) where
   each-once : Layout b f → EachOnce b f
   each-once s q h = go (fills (b .pads) f (λ i l. omega (arith, s .inside i l)) (s .own) q (omega arith))
     where
-      go : (i : ℕ) × (i < b .pads) × (f i ≡ q) → (i : ℕ) × (i < b .pads) × (f i ≡ q) × ((j : ℕ) → j < b .pads → f j ≡ q → j ≡ i)
+      go : (i : ℕ) × (i < b .pads) × (f i ≡ q) → StandsOnce b f q
       go (i, l, d) = (i, l, d, λ j k c. own-pad b f s j i k l (omega arith))
 
   -- The place of port q; n places of n ports are all the places, so that every entry is a port number.
@@ -178,8 +178,7 @@ module _ (b : Board) (f : ℕ → ℕ) (same : b .ports ≡ b .pads) where
           (λ q r k l e. omega (arith, found q l .1, found r (omega arith) .1, ap f e)) i h in
           omega (arith, found q l .1, ap f e)
 
-      own : {q : ℕ} → (m : ℕ) × (m < b .pads) × (f m ≡ q) × ((j : ℕ) → j < b .pads → f j ≡ q → j ≡ m)
-          → (i j : ℕ) → j < i → i < b .pads → f i ≡ q → f i ≡ f j → ⊥
+      own : {q : ℕ} → StandsOnce b f q → (i j : ℕ) → j < i → i < b .pads → f i ≡ q → f i ≡ f j → ⊥
       own (m, h, s, u) i j l k c d = omega (arith, u i k c, u j (omega arith) (omega arith))
 
   pub layout-iff : Layout b f ↔ EachOnce b f
