@@ -50,7 +50,8 @@ module _ (b : Board) (proper : Proper b) where
           let w = on-the-way (b .y j) (b .port a) (b .port q) t in
           inr (omega (arith, w, away a q k l ne), λ i. omega (arith, w, triangle (b .y i) (b .port a) (b .port q)))
 
-  -- THEOREM: for every layout, touching or not, there is an untouching one whose leaders together are no longer.
+  -- THEOREM (Lemma 1 of "Algorithms for Multi-Criteria One-Sided Boundary Labeling", for a vertical hand): for every layout, touching or not, there is an
+  -- untouching one whose leaders together are no longer.
   pub straight-total : (f : ℕ → ℕ) → Layout b f
       → (g : ℕ → ℕ) × Untouching b g × (sum (b .pads) (λ i. lengthOf (leader b i (g i))) ≤ sum (b .pads) (λ i. lengthOf (leader b i (f i))))
   straight-total f l =
