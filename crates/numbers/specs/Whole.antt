@@ -56,14 +56,7 @@ num-eq (pos a) (negsuc b) h = absurd (omega arith)
 num-eq (negsuc a) (pos b) h = absurd (omega arith)
 num-eq (negsuc a) (negsuc b) h = ap negsuc (omega arith)
 
--- `omega` takes no rule about a `¬`: list these with their arguments, `omega (whole, nle-num z w n)`
-pub nle-num : (z w : ℤ) → ¬ (z ≤ℤ w) → up w + dn z < up z + dn w
-nle-num z w n = go (decLe (up z + dn w) (up w + dn z))
-  where
-    go : Dec (up z + dn w ≤ up w + dn z) → up w + dn z < up z + dn w
-    go (yes h) = absurd (n (num-le z w h))
-    go (no h) = omega arith
-
+-- `omega` takes no rule about a `¬`: list this with its arguments, `omega (whole, nlt-num z w n)`
 pub nlt-num : (z w : ℤ) → ¬ (z <ℤ w) → up w + dn z ≤ up z + dn w
 nlt-num z w n = go (decLt (up z + dn w) (up w + dn z))
   where

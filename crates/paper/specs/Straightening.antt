@@ -9,7 +9,8 @@ use Rattle.paper.specs.Layouts.{Board, boardOf, held, Touching, Layout, 
 use Rattle.paper.specs.Promises.{FirstPromise}
 use Rattle.paper.specs.Sheets.{padAndPort}
 
--- No layout at all, touching or not, has a smaller total than t: on any board, where ports may stay free.
+-- No layout at all, touching or not, has a smaller total than t: on any board, where ports may stay free. (On a job's board the layouts are the lists in
+-- which each port number stands once: `layout-iff`.)
 abbrev pub LeastOfAll : Board → (ℕ → ℕ → ℕ) → ℕ → Type 0
 LeastOfAll b cost t = (f : ℕ → ℕ) → Layout b f → t ≤ total b cost f
 

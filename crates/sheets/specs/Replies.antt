@@ -6,7 +6,7 @@ use Prim.Native.Nat.{ℕ, _≤_}
 use lib.ListN.{length}
 use Rattle.table.specs.Cell.{Table}
 use Rattle.paper.specs.Job.{count}
-use Rattle.paper.specs.Layouts.{Board, boardOf, held, weighted, Untouching, Best, FirstBest, NextBest, LastBest}
+use Rattle.paper.specs.Layouts.{boardOf, held, weighted, Untouching, Best, FirstBest, NextBest, LastBest}
 use Rattle.paper.specs.Promises.{Kept, inTurn, Following}
 use Rattle.paper.specs.laws.Proper.{Same}
 use Rattle.paper.specs.laws.Totals.{totalOf}

@@ -25,11 +25,11 @@ pub record Proper (order cs lo hi : List ℕ) : Type 0 where
 abbrev pub Untouching : List ℕ → List ℕ → List ℕ → List ℕ → List ℕ → Type 0
 Untouching order cs lo hi w = Sol (boardOf order cs lo hi) order 0 (length order) (portOf w)
 
--- There is one.
+-- There is such a layout.
 abbrev pub Solvable : List ℕ → List ℕ → List ℕ → List ℕ → Type 0
 Solvable order cs lo hi = (f : ℕ → ℕ) × Sol (boardOf order cs lo hi) order 0 (length order) f
 
--- A best one.
+-- A best layout.
 abbrev pub BestLayout : List ℕ → List ℕ → List ℕ → List ℕ → List ℕ → Type 0
 BestLayout order cs lo hi w = Optimal (boardOf order cs lo hi) order (length order) (portOf w)
 
