@@ -6,8 +6,8 @@ use native.Mathlib.Nat.{le-suc, le-refl, lt-of-le-of-lt, le-of-eq}
 use native.Mathlib.Omega.{arith}
 use lib.IntN.{ℤ, pos, negsuc, negℤ, natAbs, _-ℤ_, +ℤ-idl}
 use lib.Signed.{mag}
-use mir.Syntax.{w64}
-use mir.Val.{SFits, toZ, ofZ}
+use mir.Syntax.{Width, w64}
+use mir.Val.{SFits, toZ, ofZ, hbits}
 use mir.Facts.{toZ-ofZ}
 use Rattle.numbers.specs.Whole.{up, dn, apart-num}
 use Rattle.numbers.specs.Signs.{natAbs-neg}
@@ -16,18 +16,19 @@ pub mag-le : (z : ℤ) → mag z ≤ natAbs z
 mag-le (pos n) = le-refl n
 mag-le (negsuc n) = le-suc n
 
-fits : (z : ℤ) → natAbs z < 2 ^ 63 → SFits w64 z
-fits z h = record { sfits = lt-of-le-of-lt (mag-le z) h }
+pub fits : (w : Width) (z : ℤ) → natAbs z < 2 ^ hbits w → SFits w z
+fits w z h = record { sfits = lt-of-le-of-lt (mag-le z) h }
 
-fits-neg : (z : ℤ) → natAbs z < 2 ^ 63 → SFits w64 (negℤ z)
-fits-neg z h = fits (negℤ z) (lt-of-le-of-lt (le-of-eq (natAbs-neg z)) h)
+fits-neg : (w : Width) (z : ℤ) → natAbs z < 2 ^ hbits w → SFits w (negℤ z)
+fits-neg w z h = fits w (negℤ z) (lt-of-le-of-lt (le-of-eq (natAbs-neg z)) h)
 
 -- A number that fits 64 bits is read back from its bits.
 pub read-back : (z : ℤ) → mag z < 2 ^ 63 → toZ w64 (ofZ w64 z) ≡ z
 read-back z h = toZ-ofZ {w = w64} (record { sfits = h })
 
-pub back : (z : ℤ) → natAbs z < 2 ^ 63 → toZ w64 (ofZ w64 z) ≡ z
-back z h = toZ-ofZ (fits z h)
+-- The same for any width.
+pub back : (w : Width) (z : ℤ) → natAbs z < 2 ^ hbits w → toZ w (ofZ w z) ≡ z
+back w z h = toZ-ofZ (fits w z h)
 
 -- `==` compares the bits.
 pub same-bits : (a b : ℤ) → mag a < 2 ^ 63 → mag b < 2 ^ 63 → ofZ w64 a ≡ ofZ w64 b → a ≡ b
@@ -45,11 +46,11 @@ pub difference-fits : (y q : ℤ) → mag y < 2147483648 → mag q < 2147483648 
 difference-fits y q h k = omega (arith, difference-small y q h k, mag-le (y -ℤ q))
 
 -- `-z` is 0 - z: it fits, and it is the negative.
-zero-minus : (z : ℤ) → natAbs z < 2 ^ 63 → pos 0 -ℤ toZ w64 (ofZ w64 z) ≡ negℤ z
-zero-minus z h = ap (λ (y : ℤ). pos 0 -ℤ y) (back z h) ∙ +ℤ-idl (negℤ z)
+zero-minus : (w : Width) (z : ℤ) → natAbs z < 2 ^ hbits w → pos 0 -ℤ toZ w (ofZ w z) ≡ negℤ z
+zero-minus w z h = ap (λ (y : ℤ). pos 0 -ℤ y) (back w z h) ∙ +ℤ-idl (negℤ z)
 
-pub minus-fits : (z : ℤ) → natAbs z < 2 ^ 63 → SFits w64 (pos 0 -ℤ toZ w64 (ofZ w64 z))
-minus-fits z h = subst (SFits w64) (sym (zero-minus z h)) (fits-neg z h)
+pub minus-fits : (w : Width) (z : ℤ) → natAbs z < 2 ^ hbits w → SFits w (pos 0 -ℤ toZ w (ofZ w z))
+minus-fits w z h = subst (SFits w) (sym (zero-minus w z h)) (fits-neg w z h)
 
-pub minus-back : (z : ℤ) → natAbs z < 2 ^ 63 → toZ w64 (ofZ w64 (pos 0 -ℤ toZ w64 (ofZ w64 z))) ≡ negℤ z
-minus-back z h = ap (λ (y : ℤ). toZ w64 (ofZ w64 y)) (zero-minus z h) ∙ toZ-ofZ (fits-neg z h)
+pub minus-back : (w : Width) (z : ℤ) → natAbs z < 2 ^ hbits w → toZ w (ofZ w (pos 0 -ℤ toZ w (ofZ w z))) ≡ negℤ z
+minus-back w z h = ap (λ (y : ℤ). toZ w (ofZ w y)) (zero-minus w z h) ∙ toZ-ofZ (fits-neg w z h)

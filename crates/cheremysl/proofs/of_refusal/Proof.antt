@@ -39,10 +39,10 @@ bound : (c : tie.After-struct-known3) → natAbs (number c) < 2 ^ 63
 bound c = omega arith
 
 sub-result : tie.Need-sub-result
-sub-result c = minus-fits (number c) (bound c)
+sub-result c = minus-fits w64 (number c) (bound c)
 
 returns : tie.Need-returns
-returns c = minus-back (number c) (bound c)
+returns c = minus-back w64 (number c) (bound c)
 
 pub of-refusal-spec : {M : Type 1} → statement M
 of-refusal-spec = tie.close (tie.spec cast-n mul-n cast-n-2 mul-n-2 add-n cast-n-3 add-n-2 cast-result sub-result returns)
