@@ -8,18 +8,6 @@
 
 #include "given-sheet.h"
 
-static const char *const faults[] = {
-    [CHEREMYSL_BAD_SIZE] = "the file is not 1 to 64 records of 16 bytes",
-    [CHEREMYSL_NO_ROOM] = "the sheet has fewer ports than the job has pads",
-    [CHEREMYSL_BAD_FIELD] = "a field of this record is outside its range",
-    [CHEREMYSL_PORT_NOT_ABOVE] = "this record's port is not above the one before",
-    [CHEREMYSL_NAME_TWICE] = "this record's name stood in an earlier record",
-    [CHEREMYSL_X_TWICE] = "this record's x stood in an earlier record",
-    [CHEREMYSL_BAD_ENTRY] = "this record's port is not there, or was taken by an earlier record",
-    [CHEREMYSL_TOUCHING] = "their leaders touch",
-    [CHEREMYSL_PORT_TOO_CLOSE] = "this record's port is less than 8 above the one before",
-};
-
 static int64_t measure(const struct given_sheet *s, uint32_t length_weight, uint32_t bend_weight) {
     return cheremysl_measure(s->job, s->job_bytes, length_weight, bend_weight, s->layout,
                              s->entries);
@@ -32,9 +20,7 @@ static void print_refusal(const struct given_sheet *s, int64_t answer) {
     if (number >= CHEREMYSL_BAD_FIELD) printf(" (pad %d)", pad_name(s, (size_t)record));
     if (number == CHEREMYSL_TOUCHING)
         printf(" and record %d (pad %d)", earlier, pad_name(s, (size_t)earlier));
-    if (number < (int)(sizeof faults / sizeof *faults) && faults[number] != NULL)
-        printf(": %s", faults[number]);
-    printf("\n");
+    printf(": %s\n", cheremysl_refusal_text(answer));
 }
 
 int main(int argc, char **argv) {

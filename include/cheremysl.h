@@ -28,8 +28,8 @@
  *      uint16_t layout[CHEREMYSL_MAX_RECORDS];
  *      int64_t answer = cheremysl_first(job, job_bytes, 1, 0, layout, CHEREMYSL_MAX_RECORDS);
  *      if (cheremysl_is_refusal(answer))
- *          printf("refused %d record %d\n", cheremysl_refusal_number(answer),
- *                 cheremysl_refusal_record(answer));
+ *          printf("record %d: %s\n", cheremysl_refusal_record(answer),
+ *                 cheremysl_refusal_text(answer));
  *      while (answer >= 0) {
  *          show(layout, answer);
  *          answer = cheremysl_next(job, job_bytes, 1, 0, layout, CHEREMYSL_MAX_RECORDS);
@@ -88,7 +88,8 @@
  *                          earlier record j; in every other refusal j is 0
  *
  * cheremysl_is_refusal, cheremysl_refusal_number, cheremysl_refusal_record,
- * cheremysl_refusal_earlier and cheremysl_is_end, at the foot of this file, take an answer apart.
+ * cheremysl_refusal_earlier and cheremysl_is_end, at the foot of this file, take an answer apart;
+ * cheremysl_refusal_text says a refusal in a sentence.
  *
  * REFUSALS
  *
@@ -160,12 +161,105 @@
  * First and Next take time that grows with n cubed, Measure with n squared. What grows with n
  * cubed is the making of a table of least totals. Page does as Next does, and one table serves
  * the whole page.
+ *
+ * COMPILERS AND PLATFORMS
+ *
+ * The archive is x86-64 code in ELF, with 64-bit pointers and the System V calling convention, and
+ * needs nothing but memcpy, memset, memmove and memcmp. This header is C99 or later and C++11 or
+ * later. For anything else, x32 included, it is an error; to read the header elsewhere, as an
+ * indexer or a generator of bindings does, define CHEREMYSL_ANY_PLATFORM before it.
+ *
+ * A call throws no C++ exception. Compilers that can are told what each call does with its lists,
+ * and warn of an answer that is not looked at, since it alone tells whether the list was filled.
+ * GCC from 10 on also warns of a list that is too short for the number lent with it, of NULL with
+ * another number than 0, and of a list that was never filled where a call reads it.
+ *
+ * The version is in CHEREMYSL_VERSION_NUMBER, for #if, and CHEREMYSL_VERSION_TEXT, to be shown. A
+ * change of the first number may break a program, one of the second adds something, and one of the
+ * third does neither.
  */
 #ifndef CHEREMYSL_H
 #define CHEREMYSL_H
 
+#ifndef CHEREMYSL_ANY_PLATFORM
+/* Not every compiler for Linux says __ELF__. */
+#if !defined(__x86_64__) || !defined(__LP64__) || !(defined(__ELF__) || defined(__linux__))
+#error "cheremysl is x86-64 ELF code with 64-bit pointers (or define CHEREMYSL_ANY_PLATFORM)"
+#endif
+#ifdef __cplusplus
+#if __cplusplus < 201103L
+#error "cheremysl.h is for C++11 or later (or define CHEREMYSL_ANY_PLATFORM)"
+#endif
+#elif !defined(__STDC_VERSION__) || __STDC_VERSION__ < 199901L
+#error "cheremysl.h is for C99 or later (or define CHEREMYSL_ANY_PLATFORM)"
+#endif
+#endif
+
 #include <stddef.h>
 #include <stdint.h>
+
+/* ---- version ----------------------------------------------------------------------------- */
+
+#define CHEREMYSL_VERSION_MAJOR 1
+#define CHEREMYSL_VERSION_MINOR 1
+#define CHEREMYSL_VERSION_PATCH 0
+
+/* A number to compare, in #if too: 1001000 for 1.1.0. */
+#define CHEREMYSL_VERSION_NUMBER \
+    (1000000 * CHEREMYSL_VERSION_MAJOR + 1000 * CHEREMYSL_VERSION_MINOR + CHEREMYSL_VERSION_PATCH)
+
+/* A string: "1.1.0". */
+#define CHEREMYSL_VERSION_TEXT \
+    CHEREMYSL_JOIN(CHEREMYSL_VERSION_MAJOR, CHEREMYSL_VERSION_MINOR, CHEREMYSL_VERSION_PATCH)
+#define CHEREMYSL_JOIN(major, minor, patch) CHEREMYSL_JOIN_WORDS(major, minor, patch)
+#define CHEREMYSL_JOIN_WORDS(major, minor, patch) #major "." #minor "." #patch
+
+/* ---- what compilers are told; undefined again at the foot -------------------------------- */
+
+#ifdef __has_attribute
+#define CHEREMYSL_HAS(attribute) __has_attribute(attribute)
+#else
+#define CHEREMYSL_HAS(attribute) 0
+#endif
+
+/*
+ * The list that is argument number list, with as many elements as argument number count says.
+ * Writes: what it holds on entry makes no difference to the call, which may yet leave it there.
+ */
+#if CHEREMYSL_HAS(__access__)
+#define CHEREMYSL_READS(list, count) __attribute__((__access__(__read_only__, list, count)))
+#define CHEREMYSL_WRITES(list, count) __attribute__((__access__(__write_only__, list, count)))
+#define CHEREMYSL_CHANGES(list, count) __attribute__((__access__(__read_write__, list, count)))
+#else
+#define CHEREMYSL_READS(list, count)
+#define CHEREMYSL_WRITES(list, count)
+#define CHEREMYSL_CHANGES(list, count)
+#endif
+
+#if CHEREMYSL_HAS(__warn_unused_result__)
+#define CHEREMYSL_LOOK_AT_ANSWER __attribute__((__warn_unused_result__))
+#else
+#define CHEREMYSL_LOOK_AT_ANSWER
+#endif
+
+#if !defined(__cplusplus) && CHEREMYSL_HAS(__nothrow__)
+#define CHEREMYSL_NOTHROW __attribute__((__nothrow__))
+#elif !defined(__cplusplus)
+#define CHEREMYSL_NOTHROW
+#elif __cplusplus < 201103L
+#define CHEREMYSL_NOTHROW throw()
+#else
+#define CHEREMYSL_NOTHROW noexcept
+#endif
+
+#ifdef __cplusplus
+#define CHEREMYSL_CAST(type, value) static_cast<type>(value)
+#else
+#define CHEREMYSL_CAST(type, value) ((type)(value))
+#endif
+
+/* Of each call; noexcept must stand before the attributes. */
+#define CHEREMYSL_CALL CHEREMYSL_NOTHROW CHEREMYSL_LOOK_AT_ANSWER
 
 #ifdef __cplusplus
 extern "C" {
@@ -219,7 +313,8 @@ enum cheremysl_refusal {
  * answers the end.
  */
 int64_t cheremysl_first(const uint8_t *job, size_t job_bytes, uint32_t length_weight,
-                        uint32_t bend_weight, uint16_t *layout, size_t entries);
+                        uint32_t bend_weight, uint16_t *layout, size_t entries)
+    CHEREMYSL_CALL CHEREMYSL_READS(1, 2) CHEREMYSL_WRITES(5, 6);
 
 /*
  * Next: the earliest best layout after the given one.
@@ -236,7 +331,8 @@ int64_t cheremysl_first(const uint8_t *job, size_t job_bytes, uint32_t length_we
  * refuses with 1 to 5, 12 or 6 to 10, checked in this order, and writes nothing.
  */
 int64_t cheremysl_next(const uint8_t *job, size_t job_bytes, uint32_t length_weight,
-                       uint32_t bend_weight, uint16_t *layout, size_t entries);
+                       uint32_t bend_weight, uint16_t *layout, size_t entries)
+    CHEREMYSL_CALL CHEREMYSL_READS(1, 2) CHEREMYSL_CHANGES(5, 6);
 
 /*
  * Page: the best layouts after the given one, as many as a list has room for.
@@ -271,7 +367,8 @@ int64_t cheremysl_next(const uint8_t *job, size_t job_bytes, uint32_t length_wei
  */
 int64_t cheremysl_page(const uint8_t *job, size_t job_bytes, uint32_t length_weight,
                        uint32_t bend_weight, const uint16_t *layout, size_t entries,
-                       uint16_t *page, size_t page_entries);
+                       uint16_t *page, size_t page_entries)
+    CHEREMYSL_CALL CHEREMYSL_READS(1, 2) CHEREMYSL_READS(5, 6) CHEREMYSL_WRITES(7, 8);
 
 /*
  * Measure: the total of a layout without a touching pair, best or not.
@@ -285,7 +382,8 @@ int64_t cheremysl_page(const uint8_t *job, size_t job_bytes, uint32_t length_wei
  * nothing. Refusal 9 names the first pair of records whose leaders touch.
  */
 int64_t cheremysl_measure(const uint8_t *job, size_t job_bytes, uint32_t length_weight,
-                          uint32_t bend_weight, const uint16_t *layout, size_t entries);
+                          uint32_t bend_weight, const uint16_t *layout, size_t entries)
+    CHEREMYSL_CALL CHEREMYSL_READS(1, 2) CHEREMYSL_READS(5, 6);
 
 /*
  * Draw: the leader of one pad to one port, for a canvas where one unit is four job units and y
@@ -294,7 +392,8 @@ int64_t cheremysl_measure(const uint8_t *job, size_t job_bytes, uint32_t length_
  *      job, job_bytes   the job; only read
  *      record           the pad's record number, 0 to n - 1
  *      port             the port's number, 0 to n - 1
- *      points, floats   a lent list of at least six floats, to be filled
+ *      points, floats   a lent list of at least six floats, to be filled; what it holds on entry
+ *                       makes no difference
  *
  * Answers the number of points: 2 for a straight leader (pad, port), exactly if it has no bend,
  * or 3 for a bent one (pad, bend, port). Their coordinates, x before y, stand in the first four
@@ -304,7 +403,8 @@ int64_t cheremysl_measure(const uint8_t *job, size_t job_bytes, uint32_t length_
  * nothing.
  */
 int64_t cheremysl_draw(const uint8_t *job, size_t job_bytes, uint32_t record, uint32_t port,
-                       float *points, size_t floats);
+                       float *points, size_t floats)
+    CHEREMYSL_CALL CHEREMYSL_READS(1, 2) CHEREMYSL_WRITES(5, 6);
 
 /* ---- taking an answer apart -------------------------------------------------------------- */
 
@@ -316,21 +416,70 @@ static inline int cheremysl_is_end(int64_t answer) { return answer == CHEREMYSL_
 
 /* The refusal's number, 1 to 12; 0 if the answer is not a refusal. */
 static inline int cheremysl_refusal_number(int64_t answer) {
-    return cheremysl_is_refusal(answer) ? (int)(answer / -65536 % 65536) : 0;
+    return cheremysl_is_refusal(answer) ? CHEREMYSL_CAST(int, answer / -65536 % 65536) : 0;
 }
 
 /* The refusal's record number; 0 if the answer is not a refusal. */
 static inline int cheremysl_refusal_record(int64_t answer) {
-    return cheremysl_is_refusal(answer) ? (int)-(answer % 65536) : 0;
+    return cheremysl_is_refusal(answer) ? CHEREMYSL_CAST(int, -(answer % 65536)) : 0;
 }
 
 /* The earlier record of refusal 9; 0 for every other answer. It may be record 0. */
 static inline int cheremysl_refusal_earlier(int64_t answer) {
-    return cheremysl_is_refusal(answer) ? (int)(answer / -4294967296) : 0;
+    return cheremysl_is_refusal(answer) ? CHEREMYSL_CAST(int, answer / -4294967296) : 0;
+}
+
+/*
+ * The refusal in one English sentence, for whoever drew the board: "this record" in it is the one
+ * that cheremysl_refusal_record names. "" if the answer is not a refusal. A refusal whose number
+ * is not in this header, from a later library, gets a sentence that says so. The text is constant:
+ * it is there as long as the program runs.
+ */
+static inline const char *cheremysl_refusal_text(int64_t answer) {
+    int number = cheremysl_refusal_number(answer);
+    int known = number <= CHEREMYSL_PORT_TOO_CLOSE ? number : 0; /* within the enum's range */
+    switch (CHEREMYSL_CAST(enum cheremysl_refusal, known)) {
+    case CHEREMYSL_BAD_SIZE:
+        return "The job is not 1 to 64 records of 16 bytes.";
+    case CHEREMYSL_BAD_WEIGHT:
+        return "A weight is above 1,000.";
+    case CHEREMYSL_NO_ROOM:
+        return "The list of ports, or of points, is too short.";
+    case CHEREMYSL_BAD_FIELD:
+        return "A number of this record is outside its range.";
+    case CHEREMYSL_PORT_NOT_ABOVE:
+        return "The port of this record is not above the port of the record before.";
+    case CHEREMYSL_NAME_TWICE:
+        return "The name of this record stands in an earlier record too.";
+    case CHEREMYSL_X_TWICE:
+        return "The x of this record stands in an earlier record too.";
+    case CHEREMYSL_BAD_ENTRY:
+        return "The port given to this record is not there, or an earlier record has it.";
+    case CHEREMYSL_TOUCHING:
+        return "The leader of this record touches the leader of an earlier record.";
+    case CHEREMYSL_NOT_BEST:
+        return "No two leaders touch, but another sheet has a smaller total.";
+    case CHEREMYSL_BAD_NUMBER:
+        return "There is no pad, or no port, of the number given.";
+    case CHEREMYSL_PORT_TOO_CLOSE:
+        return "The port of this record is less than 8 above the port of the record before.";
+    }
+    return cheremysl_is_refusal(answer)
+               ? "The library refuses for a reason that this program does not know."
+               : "";
 }
 
 #ifdef __cplusplus
 }
 #endif
+
+#undef CHEREMYSL_HAS
+#undef CHEREMYSL_READS
+#undef CHEREMYSL_WRITES
+#undef CHEREMYSL_CHANGES
+#undef CHEREMYSL_LOOK_AT_ANSWER
+#undef CHEREMYSL_NOTHROW
+#undef CHEREMYSL_CAST
+#undef CHEREMYSL_CALL
 
 #endif

@@ -1,7 +1,15 @@
-/* The header alone, as C99, C11 and C++ read it: prototypes, numbers, and answers taken apart. */
+/*
+ * The header alone, as C99, C11 and C++ read it: prototypes, numbers, answers taken apart, and what
+ * a caller's list holds after a call that writes nothing.
+ */
 #include "cheremysl.h"
 
 #include <stdio.h>
+#include <string.h>
+
+#if CHEREMYSL_VERSION_NUMBER < 1001000 || CHEREMYSL_VERSION_NUMBER >= 2000000
+#error "the version is not 1.1 or a later 1"
+#endif
 
 /* These are refused by the compiler if a prototype is another. */
 typedef int64_t fill(const uint8_t *, size_t, uint32_t, uint32_t, uint16_t *, size_t);
@@ -33,11 +41,13 @@ static void is_no_refusal(int64_t answer, int end) {
     check(cheremysl_is_refusal(answer) == 0 && cheremysl_is_end(answer) == end);
     check(cheremysl_refusal_number(answer) == 0 && cheremysl_refusal_record(answer) == 0);
     check(cheremysl_refusal_earlier(answer) == 0);
+    check(*cheremysl_refusal_text(answer) == 0);
 }
 
 static void answers(void) {
     is_no_refusal(0, 0);
     is_no_refusal(2, 0);
+    is_no_refusal(5, 0);
     is_no_refusal(CHEREMYSL_MAX_TOTAL, 0);
     is_no_refusal(CHEREMYSL_END, 1);
     for (int number = CHEREMYSL_BAD_SIZE; number <= CHEREMYSL_PORT_TOO_CLOSE; number++)
@@ -53,6 +63,25 @@ static void pairs(void) {
             is_refusal(-(4294967296 * earlier + nine + record), 9, record, (int)earlier);
     is_refusal(-4295557122, 9, 2, 1);
     is_refusal(-589825, 9, 1, 0);
+}
+
+static const char *text(int number) { return cheremysl_refusal_text(-65536 * (int64_t)number); }
+
+/* A sentence, and not one that a smaller number has. */
+static void is_sentence(int number) {
+    const char *sentence = text(number);
+    size_t length = strlen(sentence);
+    check(length > 0 && *sentence >= 'A' && *sentence <= 'Z' && sentence[length - 1] == '.');
+    for (int other = 1; other < number; other++) check(strcmp(sentence, text(other)) != 0);
+}
+
+/* The one after the last known stands for all that are unknown: none of the known shares it. */
+static void texts(void) {
+    int unknown = CHEREMYSL_PORT_TOO_CLOSE + 1;
+    for (int number = CHEREMYSL_BAD_SIZE; number <= unknown; number++) is_sentence(number);
+    check(strcmp(text(16), text(unknown)) == 0 && strcmp(text(65535), text(unknown)) == 0);
+    check(strcmp(cheremysl_refusal_text(-2), text(unknown)) == 0);
+    check(strcmp(cheremysl_refusal_text(-4295557122), text(CHEREMYSL_TOUCHING)) == 0);
 }
 
 static void calls(void) {
@@ -74,11 +103,87 @@ static void limits(void) {
     check(CHEREMYSL_PORT_TOO_CLOSE == 12 && CHEREMYSL_MIN_RISE == 8);
 }
 
+static void version(void) {
+    char numbers[32];
+    snprintf(numbers, sizeof numbers, "%d.%d.%d", CHEREMYSL_VERSION_MAJOR, CHEREMYSL_VERSION_MINOR,
+             CHEREMYSL_VERSION_PATCH);
+    check(strcmp(numbers, CHEREMYSL_VERSION_TEXT) == 0);
+    check(CHEREMYSL_VERSION_NUMBER / 1000000 == CHEREMYSL_VERSION_MAJOR);
+    check(CHEREMYSL_VERSION_NUMBER / 1000 % 1000 == CHEREMYSL_VERSION_MINOR);
+    check(CHEREMYSL_VERSION_NUMBER % 1000 == CHEREMYSL_VERSION_PATCH);
+}
+
+/*
+ * The header tells the compiler which lists are written and not read: what a caller wrote before
+ * must be there still after a refusal, and after the part that a call replaces. Each call is by its
+ * name, in sight of the caller's list, so that an optimiser may use what it is told.
+ */
+enum { LENT = 8 };
+
+static const uint8_t one_pad[CHEREMYSL_RECORD_BYTES] = {1, 0, 0, 0, 5}; /* straight, total 5 */
+static const float own_floats[LENT] = {-1, -2, -3, -4, -5, -6, -7, -8};
+
+static void draw_keeps(size_t job_bytes, int64_t wanted, int from) {
+    float points[LENT];
+    memcpy(points, own_floats, sizeof own_floats);
+    check(cheremysl_draw(one_pad, job_bytes, 0, 0, points, LENT) == wanted);
+    for (int i = from; i < LENT; i++) check(points[i] == own_floats[i]);
+}
+
+#ifndef NO_SEARCH
+static const uint16_t own[LENT] = {1000, 1001, 1002, 1003, 1004, 1005, 1006, 1007};
+
+static void check_own(const uint16_t *list, int from) {
+    for (int i = from; i < LENT; i++) check(list[i] == own[i]);
+}
+
+static void first_keeps(size_t job_bytes, int64_t wanted, int from) {
+    uint16_t layout[LENT];
+    memcpy(layout, own, sizeof own);
+    check(cheremysl_first(one_pad, job_bytes, 1, 0, layout, LENT) == wanted);
+    check_own(layout, from);
+}
+
+static void next_keeps(uint16_t port, int64_t wanted) {
+    uint16_t layout[LENT];
+    memcpy(layout, own, sizeof own);
+    layout[0] = port;
+    check(cheremysl_next(one_pad, sizeof one_pad, 1, 0, layout, LENT) == wanted);
+    check(layout[0] == port);
+    check_own(layout, 1);
+}
+
+static void page_keeps(uint16_t port, int64_t wanted) {
+    uint16_t page[LENT];
+    memcpy(page, own, sizeof own);
+    check(cheremysl_page(one_pad, sizeof one_pad, 1, 0, &port, 1, page, LENT) == wanted);
+    check_own(page, 0);
+}
+#endif
+
+static void lists(void) {
+    int64_t bad_size = -65536 * CHEREMYSL_BAD_SIZE;
+    draw_keeps(sizeof one_pad, 2, 4);
+    draw_keeps(0, bad_size, 0);
+#ifndef NO_SEARCH
+    int64_t bad_entry = -65536 * CHEREMYSL_BAD_ENTRY;
+    first_keeps(sizeof one_pad, 5, 1);
+    first_keeps(0, bad_size, 0);
+    next_keeps(0, CHEREMYSL_END);
+    next_keeps(1, bad_entry);
+    page_keeps(0, 0);
+    page_keeps(1, bad_entry);
+#endif
+}
+
 int main(void) {
     answers();
     pairs();
+    texts();
     calls();
     limits();
+    version();
+    lists();
     printf("%d passed, %d failed\n", passed, failed);
     return failed != 0;
 }
