@@ -1,0 +1,245 @@
+#!/bin/sh
+# tests/header.sh [ARCHIVE]: the header as a user's compiler reads it: silent where all is right, under strict warnings and in
+# every standard, and a warning or an error where something is not. Then tests/abi.c as optimisers make it, with the archive.
+# The last line has the counts. What is missing is installed by apt-get (tools/machine.sh).
+set -u
+cd "$(dirname "$0")/.." || exit 2
+archive=${1:-target/staticlib/libcheremysl.a} passed=0 failed=0
+. tools/machine.sh
+need_compilers
+need clang clang
+[ $# -gt 0 ] || rt staticlib cheremysl || exit 1
+room=$(mktemp -d) || exit 2
+trap 'rm -rf "$room"' EXIT
+
+# The compilers, by short names; an emulated machine's headers are not where clang looks for them.
+gcc="$cc -x c" gxx="$cxx -x c++"
+clang="clang --target=x86_64-linux-gnu ${run:+-isystem $headers} -x c" clangxx="$clang++"
+include=-Iinclude
+
+# check WHAT COMMAND..: counts a command that must succeed; the compiler's last words are shown if it fails
+check() {
+    what=$1
+    shift
+    if "$@"; then
+        passed=$((passed + 1))
+    else
+        failed=$((failed + 1))
+        echo "FAILED: $what"
+        cat "$room/log"
+    fi
+}
+
+# compile FILE COMMAND..: what the compiler says of the file is in the log; silent: nothing; says TEXT: this among others;
+# refuses TEXT: this, and there is no object
+compile() {
+    file=$1
+    shift
+    "$@" $include -c -o "$room/object" "$file" >"$room/log" 2>&1
+}
+silent() { compile "$@" && [ ! -s "$room/log" ]; }
+says() {
+    wanted=$1
+    shift
+    compile "$@"
+    grep -q "$wanted" "$room/log"
+}
+refuses() {
+    wanted=$1
+    shift
+    ! compile "$@" && grep -q "$wanted" "$room/log"
+}
+
+# ---- a program that uses everything, under strict warnings
+
+cat >"$room/user.c" <<'C'
+#include <cheremysl.h>
+
+#if CHEREMYSL_VERSION_NUMBER < 1001000
+#error "too old"
+#endif
+
+int main(void) {
+    uint8_t job[CHEREMYSL_MAX_JOB_BYTES] = {0};
+    uint16_t layout[CHEREMYSL_MAX_RECORDS], page[2 * CHEREMYSL_MAX_RECORDS];
+    float points[CHEREMYSL_DRAW_FLOATS];
+    const char *text = CHEREMYSL_VERSION_TEXT;
+    int64_t answer = cheremysl_first(job, CHEREMYSL_RECORD_BYTES, 1, 0, layout, CHEREMYSL_MAX_RECORDS);
+    if (cheremysl_is_refusal(answer)) text = cheremysl_refusal_text(answer);
+    if (answer > CHEREMYSL_MAX_TOTAL) return cheremysl_refusal_number(answer);
+    answer = cheremysl_next(job, sizeof job, CHEREMYSL_MAX_WEIGHT, 0, layout, CHEREMYSL_MAX_RECORDS);
+    if (cheremysl_is_end(answer)) return cheremysl_refusal_record(answer);
+    answer = cheremysl_page(job, sizeof job, 1, 0, layout, CHEREMYSL_MAX_RECORDS, page, 2 * CHEREMYSL_MAX_RECORDS);
+    if (answer == CHEREMYSL_END) return cheremysl_refusal_earlier(answer);
+    answer = cheremysl_measure(job, sizeof job, 1, 0, page, CHEREMYSL_MAX_RECORDS);
+    if (cheremysl_refusal_number(answer) == CHEREMYSL_TOUCHING) return *text;
+    answer = cheremysl_draw(job, sizeof job, 0, 0, points, CHEREMYSL_DRAW_FLOATS);
+    return answer == 2 && points[0] > points[1];
+}
+C
+
+strict="-O2 -Wall -Wextra -Wconversion -Wsign-conversion -pedantic -Werror -Wcast-qual -Wundef -Wshadow"
+strict_c="$strict -Wstrict-prototypes -Wswitch-enum -Wc++-compat"
+strict_cxx="$strict -Wold-style-cast -Wuseless-cast -Wzero-as-null-pointer-constant -Wnoexcept-type -Wswitch-enum"
+# All that clang knows, but these. c++98-compat: the header is for C++11. switch-default, from clang 18 on: it asks for what
+# covered-switch-default forbids, of every switch over an enum. unknown-warning-option: for clangs that have not one of them.
+everything="-O2 -Weverything -Werror -Wno-unknown-warning-option -Wno-switch-default"
+for form in c99 c11 c17 c2x; do
+    check "$cc, $form" silent "$room/user.c" $gcc -std=$form $strict_c
+    check "clang, $form" silent "$room/user.c" $clang -std=$form $everything
+done
+for form in c++11 c++14 c++17 c++20; do
+    check "$cxx, $form" silent "$room/user.c" $gxx -std=$form $strict_cxx
+    check "clang, $form" silent "$room/user.c" $clangxx -std=$form $everything -Wno-c++98-compat
+done
+
+# ---- lists: one call in a function, in C and C++, unoptimised and optimised
+
+# call BODY: a program with the body of a function that is given a job and a layout
+call() {
+    cat >"$room/call.c" <<C
+#include <cheremysl.h>
+int64_t f(const uint8_t *job, size_t bytes, const uint16_t *given);
+int64_t f(const uint8_t *job, size_t bytes, const uint16_t *given) {
+    (void)job, (void)bytes, (void)given;
+    $1
+}
+C
+}
+
+# quiet BODY: no warning; warned WARNING BODY: this one, from gcc, which alone knows how long a list is
+levels="-O0 -O2"
+quiet() {
+    call "$1"
+    for level in $levels; do
+        check "$cc $level: $1" silent "$room/call.c" $gcc -std=c99 -Wall -Wextra $level
+        check "$cxx $level: $1" silent "$room/call.c" $gxx -std=c++11 -Wall -Wextra $level
+    done
+    check "clang: $1" silent "$room/call.c" $clang -std=c99 -Wall -Wextra -O2
+}
+warned() {
+    call "$2"
+    for level in $levels; do
+        check "$cc $level does not say $1: $2" says "\[-W$1" "$room/call.c" $gcc -std=c99 -Wall $level
+        check "$cxx $level does not say $1: $2" says "\[-W$1" "$room/call.c" $gxx -std=c++11 -Wall $level
+    done
+}
+
+warned stringop-overflow 'uint16_t list[4]; return cheremysl_first(job, bytes, 1, 0, list, 64);'
+warned stringop-overflow 'uint16_t list[4] = {0}; return cheremysl_next(job, bytes, 1, 0, list, 64);'
+warned stringop-overread 'uint16_t page[4], list[4] = {0}; return cheremysl_page(job, bytes, 1, 0, list, 5, page, 4);'
+warned stringop-overflow 'uint16_t page[4]; return cheremysl_page(job, bytes, 1, 0, given, 4, page, 5);'
+warned stringop-overread 'uint16_t list[4] = {0}; return cheremysl_measure(job, bytes, 1, 0, list, 64);'
+warned stringop-overflow 'float points[5]; return cheremysl_draw(job, bytes, 0, 0, points, 6);'
+
+warned stringop-overread 'uint8_t a[15] = {0}; uint16_t list[1]; return cheremysl_first(a, 16, 1, 0, list, 1);'
+warned stringop-overread 'uint8_t a[15] = {0}; uint16_t list[1] = {0}; return cheremysl_next(a, 16, 1, 0, list, 1);'
+warned stringop-overread 'uint8_t a[15] = {0}; return cheremysl_page(a, 16, 1, 0, given, 1, 0, 0);'
+warned stringop-overread 'uint8_t a[15] = {0}; return cheremysl_measure(a, 16, 1, 0, given, 1);'
+warned stringop-overread 'uint8_t a[15] = {0}; float points[6]; return cheremysl_draw(a, 16, 0, 0, points, 6);'
+
+warned nonnull 'return cheremysl_first(job, bytes, 1, 0, 0, 1);'
+warned nonnull 'return cheremysl_measure(0, 16, 1, 0, given, 1);'
+warned nonnull 'return cheremysl_page(job, bytes, 1, 0, given, 1, 0, 1);'
+quiet 'return cheremysl_first(0, 0, 1, 0, 0, 0) + cheremysl_next(0, 0, 1, 0, 0, 0) + cheremysl_measure(0, 0, 1, 0, 0, 0);'
+quiet 'return cheremysl_draw(0, 0, 0, 0, 0, 0) + cheremysl_page(job, bytes, 1, 0, given, 1, 0, 0);'
+
+# What a call only writes need not be filled; what it reads must, if only in part.
+quiet 'uint16_t list[64]; return cheremysl_first(job, bytes, 1, 0, list, 64);'
+quiet 'uint16_t page[64]; return cheremysl_page(job, bytes, 1, 0, given, 4, page, 64);'
+quiet 'float points[6]; return cheremysl_draw(job, bytes, 0, 0, points, 6);'
+quiet 'uint16_t list[64]; list[0] = 1; list[1] = 0; return cheremysl_measure(job, 32, 1, 0, list, 64);'
+quiet 'uint16_t list[64]; list[0] = 1; list[1] = 0; return cheremysl_next(job, 32, 1, 0, list, 64);'
+warned '\(maybe-\)*uninitialized' 'uint16_t list[64]; return cheremysl_next(job, bytes, 1, 0, list, 64);'
+warned '\(maybe-\)*uninitialized' 'uint16_t list[64]; return cheremysl_measure(job, bytes, 1, 0, list, 64);'
+warned '\(maybe-\)*uninitialized' 'uint16_t list[64]; return cheremysl_page(job, bytes, 1, 0, list, 64, 0, 0);'
+
+# ---- an answer that nobody looks at
+
+for ignored in 'uint16_t list[64]; cheremysl_first(job, bytes, 1, 0, list, 64)' \
+    'uint16_t list[64] = {0}; cheremysl_next(job, bytes, 1, 0, list, 64)' \
+    'uint16_t page[64]; cheremysl_page(job, bytes, 1, 0, given, 1, page, 64)' \
+    'cheremysl_measure(job, bytes, 1, 0, given, 1)' \
+    'float points[6]; cheremysl_draw(job, bytes, 0, 0, points, 6)'; do
+    call "$ignored; return 0;"
+    for compiler in "$gcc" "$gxx" "$clang" "$clangxx"; do
+        check "$compiler does not say unused-result: $ignored" says '\[-Wunused-result' "$room/call.c" $compiler
+    done
+done
+
+# ---- C++: no call throws
+
+cat >"$room/throw.c" <<'C'
+#include <cheremysl.h>
+static_assert(noexcept(cheremysl_first(nullptr, 0, 0, 0, nullptr, 0)), "First");
+static_assert(noexcept(cheremysl_next(nullptr, 0, 0, 0, nullptr, 0)), "Next");
+static_assert(noexcept(cheremysl_page(nullptr, 0, 0, 0, nullptr, 0, nullptr, 0)), "Page");
+static_assert(noexcept(cheremysl_measure(nullptr, 0, 0, 0, nullptr, 0)), "Measure");
+static_assert(noexcept(cheremysl_draw(nullptr, 0, 0, 0, nullptr, 0)), "Draw");
+C
+check "$cxx: no call throws" silent "$room/throw.c" $gxx -std=c++11
+check "clang: no call throws" silent "$room/throw.c" $clangxx -std=c++11
+
+# ---- other platforms and older languages: an error that says so, and a word against it
+
+echo '#include <cheremysl.h>' >"$room/header.c"
+elsewhere() {
+    what=$1
+    shift
+    check "$*: no error" refuses "error.*cheremysl.* is .*$what" "$room/header.c" "$@"
+    check "$*: the error stays" silent "$room/header.c" "$@" -DCHEREMYSL_ANY_PLATFORM
+}
+for target in i686-linux-gnu x86_64-linux-gnux32 aarch64-linux-gnu x86_64-apple-darwin x86_64-windows-gnu; do
+    elsewhere x86-64 clang --target=$target -ffreestanding -fsyntax-only
+done
+for target in x86_64-linux-gnu x86_64-freebsd; do
+    check "an error on $target" silent "$room/header.c" clang --target=$target -ffreestanding -fsyntax-only -Weverything
+done
+elsewhere C99 $gcc -std=gnu89
+elsewhere C99 $clang -std=gnu89
+elsewhere C++11 $gxx -std=c++98
+elsewhere C++11 $clangxx -std=c++98
+
+# ---- what the header leaves behind
+
+macros() { echo "$1" | $gcc -dM -E $include - | LC_ALL=C sort; }
+macros '#include <stddef.h>
+#include <stdint.h>' >"$room/without"
+macros '#include <cheremysl.h>' >"$room/with"
+LC_ALL=C comm -13 "$room/without" "$room/with" >"$room/log"
+check "macros: none" [ -s "$room/log" ]
+check "macros that are not the header's own" [ "$(grep -vc '^#define CHEREMYSL_' "$room/log")" = 0 ]
+check "attributes that stayed" [ "$(grep -c '__attribute__\|_cast\|CHEREMYSL_HAS' "$room/log")" = 0 ]
+
+# The version is said once, in three lines that a script can read.
+lines=$(sed -En 's/^#define CHEREMYSL_VERSION_(MAJOR|MINOR|PATCH) ([0-9]+)$/\2/p' include/cheremysl.h | paste -sd .)
+text=$(printf '#include <cheremysl.h>\nCHEREMYSL_VERSION_TEXT\n' | $gcc -E -P $include - | tail -n 1 | tr -d '" ')
+check "version $lines, text $text" [ "${lines:-none}" = "$text" ]
+
+# A refusal without a sentence is a warning.
+sed 's/CHEREMYSL_PORT_TOO_CLOSE = 12/&, CHEREMYSL_NEW = 13/' include/cheremysl.h >"$room/cheremysl.h"
+include=-I$room
+for compiler in "$gcc" "$gxx" "$clang" "$clangxx"; do
+    check "$compiler: a refusal without a sentence" says 'CHEREMYSL_NEW.*\[-Wswitch' "$room/header.c" $compiler -Wall
+done
+include=-Iinclude
+
+# ---- the calls behind the header, as optimisers make them
+
+# optimised COMMAND..: tests/abi.c by this compiler, with the archive; adds its counts
+optimised() {
+    if silent tests/abi.c "$@" -O3 -Wall -Wextra -pedantic &&
+        $cc $static -o "$room/abi" "$room/object" "$archive" >"$room/log" 2>&1; then
+        $run "$room/abi" >"$room/log" 2>&1 || echo "status $?" >>"$room/log"
+    fi
+    counts=$(sed -n '$s/^\([0-9]*\) passed, \([0-9]*\) failed$/\1 \2/p' "$room/log")
+    passed=$((passed + ${counts% *} + 0)) failed=$((failed + ${counts#* } + 0))
+    check "$*: tests/abi.c at -O3" [ "${counts#* }" = 0 ]
+}
+optimised $gcc -std=c99
+optimised $gxx -std=c++11
+optimised $clang -std=c99
+optimised $clangxx -std=c++11
+
+echo "$passed passed, $failed failed"
+[ $failed = 0 ] && [ $passed -gt 0 ]
