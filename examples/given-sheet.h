@@ -3,35 +3,53 @@
 #define GIVEN_SHEET_H
 
 #include <cheremysl.h>
+#include <errno.h>
 #include <stdio.h>
 #include <stdlib.h>
+#include <string.h>
 
 struct given_sheet {
     uint8_t job[CHEREMYSL_MAX_JOB_BYTES + 1]; /* a byte more: a longer file is refused too */
     size_t job_bytes;
-    uint16_t layout[CHEREMYSL_MAX_RECORDS];
+    uint16_t layout[CHEREMYSL_MAX_RECORDS + 1]; /* an entry more: a longer list is seen to be one */
     size_t entries;
 };
+
+static inline void end_unread(const char *program, const char *what, const char *name) {
+    fprintf(stderr, "%s: cannot %s %s: %s\n", program, what, name, strerror(errno));
+    exit(2);
+}
+
+/* Reads the job file, '-' for standard input; if it cannot the program ends with 2. */
+static inline void read_given_job(struct given_sheet *s, const char *program, const char *name) {
+    FILE *file = strcmp(name, "-") == 0 ? stdin : fopen(name, "rb");
+    if (file == NULL) end_unread(program, "open", name);
+    s->job_bytes = fread(s->job, 1, sizeof s->job, file);
+    if (ferror(file)) end_unread(program, "read", name);
+    fclose(file);
+}
+
+/* A port's number; one too large for an entry stays too large for any job. */
+static inline uint16_t read_given_port(const char *program, const char *word) {
+    char *end;
+    unsigned long port = strtoul(word, &end, 10);
+    if (*word < '0' || *word > '9' || *end != 0) {
+        fprintf(stderr, "%s: '%s' is not a port number\n", program, word);
+        exit(2);
+    }
+    return port < UINT16_MAX ? (uint16_t)port : UINT16_MAX;
+}
 
 /* Takes the words 'PROGRAM JOB PORT..'; without a file and numbers the program ends with 2. */
 static inline struct given_sheet read_given_sheet(int argc, char **argv) {
     struct given_sheet s = {{0}, 0, {0}, 0};
-    FILE *file = argc > 1 ? fopen(argv[1], "rb") : NULL;
-    if (file == NULL || argc - 2 > CHEREMYSL_MAX_RECORDS) {
+    if (argc < 2) {
         fprintf(stderr, "usage: %s JOB PORT..: a job file, and each pad's port number\n", argv[0]);
         exit(2);
     }
-    s.job_bytes = fread(s.job, 1, sizeof s.job, file);
-    fclose(file);
-    for (; s.entries + 2 < (size_t)argc; s.entries++) {
-        char *word = argv[s.entries + 2], *end;
-        unsigned long port = strtoul(word, &end, 10);
-        if (*word < '0' || *word > '9' || *end != 0 || port > UINT16_MAX) {
-            fprintf(stderr, "%s: '%s' is not a port number\n", argv[0], word);
-            exit(2);
-        }
-        s.layout[s.entries] = (uint16_t)port;
-    }
+    read_given_job(&s, argv[0], argv[1]);
+    for (; s.entries + 2 < (size_t)argc && s.entries <= CHEREMYSL_MAX_RECORDS; s.entries++)
+        s.layout[s.entries] = read_given_port(argv[0], argv[s.entries + 2]);
     return s;
 }
 
