@@ -1,5 +1,5 @@
 # make           proves and builds the archive and the printing program; the header is include/cheremysl.h
-# make examples  the C examples and draw-svg, into build/
+# make examples  the C examples and cheremysl-draw, into build/
 # make install   PREFIX=/usr/local DESTDIR=: archive, header, pkg-config file, man pages, program, sample jobs
 # make test      the gate
 # make bench     instructions and seconds
@@ -14,7 +14,7 @@ CFLAGS = -O2 -std=c99 -Wall -Wextra -Werror -pedantic
 
 archive = target/staticlib/libcheremysl.a
 program = target/bin/sheet
-programs = build/sheets build/audit build/draw-svg
+programs = build/sheets build/audit build/cheremysl-draw
 samples = $(wildcard examples/*.job examples/*.txt examples/*.layout)
 sources := crates.txt $(shell find crates -name '*.rt' -o -name '*.antt')
 to = $(DESTDIR)$(PREFIX)
@@ -29,16 +29,19 @@ $(program): $(sources)
 
 examples: $(programs)
 
-vpath %.c examples tools
+vpath %.c examples programs
 build/%: %.c examples/given-sheet.h include/cheremysl.h $(archive)
 	@mkdir -p build
 	$(CC) $(CFLAGS) -Iinclude -o $@ $< $(archive)
 
-pictures: build/draw-svg
-	build/draw-svg examples/J5.job 1 2 0 >docs/j5.svg
-	build/draw-svg examples/crossing.job $$(cat examples/crossing.layout) >docs/crossing.svg
-	build/draw-svg examples/level.job 0 1 >docs/level-crossed.svg
-	build/draw-svg examples/level.job 1 0 >docs/level.svg
+pictures: build/cheremysl-draw
+	build/cheremysl-draw examples/J5.job 1 2 0 >docs/j5.svg
+	build/cheremysl-draw --any examples/crossing.job $$(cat examples/crossing.layout) >docs/crossing.svg
+	build/cheremysl-draw --any examples/level.job 0 1 >docs/level-crossed.svg
+	build/cheremysl-draw examples/level.job 1 0 >docs/level.svg
+	build/cheremysl-draw examples/sequencer.job >docs/board-24.svg
+	build/cheremysl-draw examples/strip.job >docs/board-40.svg
+	build/cheremysl-draw examples/matrix.job >docs/board-64.svg
 
 install: all
 	install -d $(to)/bin $(to)/lib/pkgconfig $(to)/include $(to)/share/man/man1 $(to)/share/man/man3 $(to)/share/cheremysl

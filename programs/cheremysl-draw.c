@@ -1,0 +1,527 @@
+/*
+ * cheremysl-draw [--any] JOB [PORT..] >SVG: draws a sheet: the label edge with port numbers and
+ * names, the pads as dots with their names, and the leaders. Without ports it is First's sheet.
+ * The status is 0 if it was drawn, 1 if job or sheet is refused, 2 if it cannot be read or written.
+ *
+ * There is one scale for x and y, but what would come too close to be told apart is pushed on, to
+ * the right or down, with all that follows. So the order of the heights, and that of the pads' x,
+ * stay what they are, and these orders alone decide what touches: the picture shows no touching
+ * that is not there, hides none, and has room for every line, dot, name and label. A polyline's
+ * data-points are Draw's numbers as they are, its points the same places in pixels.
+ */
+#include <inttypes.h>
+
+#include "../examples/given-sheet.h"
+
+/* All in pixels. */
+#define FONT 11.0
+#define LETTER 7.2      /* the width of a digit and of most letters, in the widest usual face */
+#define LINE 1.2        /* the width of a leader */
+#define DOT 3.0         /* the radius of a pad's dot */
+#define APART 8.0       /* least distance of two heights and of two hands; a name fits in between */
+#define LABELS 13.0     /* least distance of two ports */
+#define AROUND 16.0     /* left free at the picture's borders, and between edge and pads */
+#define NAME_LETTERS 40 /* letters of the file's name that are shown */
+
+static char program[] = "cheremysl-draw";
+static const char usage[] =
+    "usage: cheremysl-draw [--any] JOB [PORT..] >SVG\n"
+    "Draws a sheet: a job file, - for standard input, and then each pad's port number. Without\n"
+    "port numbers it is the earliest sheet of least length that has no touching leaders.\n"
+    "  --any      draws a sheet with touching leaders or with a port given twice, too\n"
+    "  --help     prints this\n"
+    "  --version  prints the version\n";
+
+/* One leader as Draw gives it: 2 or 3 points, the pad's first, the port's last. */
+struct leader {
+    size_t record, port;
+    int name, points;
+    float at[CHEREMYSL_DRAW_FLOATS];
+    double right, down; /* pixels that its pad is pushed on */
+};
+
+struct port {
+    float at;
+    double down;
+};
+
+/* A sheet and where the picture has it: the height y stands at pixel top + scale * y + its push. */
+struct picture {
+    struct given_sheet s;
+    size_t n;
+    struct leader leaders[CHEREMYSL_MAX_RECORDS];
+    struct port ports[CHEREMYSL_MAX_RECORDS];
+    int64_t length, bends;
+    int64_t fault; /* Measure's refusal, if the sheet is drawn all the same */
+    double scale, left, top, width, height;
+    double edge; /* where the label edge begins, below the heading */
+    int pushed;
+};
+
+static double larger(double a, double b) { return a > b ? a : b; }
+static double smaller(double a, double b) { return a < b ? a : b; }
+
+/* ---- the sheet: read, judged, drawn by Draw ---- */
+
+static int64_t measure(const struct given_sheet *s) {
+    return cheremysl_measure(s->job, s->job_bytes, 1, 0, s->layout, s->entries);
+}
+
+/* The first entry that is no port's number, as refusal 8; 0 if there is none. */
+static int64_t missing_port(const struct given_sheet *s) {
+    for (size_t i = 0; i < s->entries; i++)
+        if (s->layout[i] >= s->job_bytes / CHEREMYSL_RECORD_BYTES)
+            return -(int64_t)(65536 * CHEREMYSL_BAD_ENTRY + i);
+    return 0;
+}
+
+/* What stays refused with --any, of what Measure refuses. */
+static int64_t refused_still(const struct given_sheet *s, int64_t fault) {
+    switch (cheremysl_refusal_number(fault)) {
+    case CHEREMYSL_TOUCHING: return 0;
+    case CHEREMYSL_BAD_ENTRY: return missing_port(s);
+    default: return fault;
+    }
+}
+
+static void say_record(const struct given_sheet *s, int record, int number) {
+    fprintf(stderr, " record %d", record);
+    if (number < CHEREMYSL_BAD_FIELD) return; /* it speaks of no record */
+    if (pad_name(s, (size_t)record) == 0)
+        fprintf(stderr, " (dummy pad)");
+    else
+        fprintf(stderr, " (pad %d)", pad_name(s, (size_t)record));
+}
+
+static void end_refused(const struct given_sheet *s, const char *file, int64_t answer) {
+    int number = cheremysl_refusal_number(answer);
+    fprintf(stderr, "%s: %s: refused %d", program, file, number);
+    say_record(s, cheremysl_refusal_record(answer), number);
+    if (number == CHEREMYSL_TOUCHING) {
+        fprintf(stderr, " and");
+        say_record(s, cheremysl_refusal_earlier(answer), number);
+    }
+    fprintf(stderr, ": %s\n", cheremysl_refusal_text(answer));
+    exit(1);
+}
+
+static void end_other_length(const char *file, size_t entries, size_t pads) {
+    const char *how = entries < pads ? "refused 3 record 0: fewer" : "refused: more";
+    fprintf(stderr, "%s: %s: %s port numbers than pads (%d)\n", program, file, how, (int)pads);
+    exit(1);
+}
+
+/* Ends the program unless the sheet can be drawn; the answer is what Measure says of it. */
+static int64_t judge(struct given_sheet *s, const char *file, int any) {
+    size_t pads = s->job_bytes / CHEREMYSL_RECORD_BYTES;
+    if (s->entries == 0) {
+        int64_t first = cheremysl_first(s->job, s->job_bytes, 1, 0, s->layout,
+                                        CHEREMYSL_MAX_RECORDS);
+        if (cheremysl_is_refusal(first)) end_refused(s, file, first);
+        s->entries = pads;
+    }
+    int64_t answer = measure(s), refusal = any ? refused_still(s, answer) : answer;
+    if (s->entries != pads && cheremysl_refusal_number(refusal) != CHEREMYSL_BAD_SIZE)
+        end_other_length(file, s->entries, pads);
+    if (cheremysl_is_refusal(refusal)) end_refused(s, file, refusal);
+    return answer;
+}
+
+static struct leader leader_of(const struct given_sheet *s, size_t record, size_t port) {
+    struct leader l = {record, port, pad_name(s, record), 0, {0}, 0, 0};
+    l.points = (int)cheremysl_draw(s->job, s->job_bytes, (uint32_t)record, (uint32_t)port, l.at,
+                                   CHEREMYSL_DRAW_FLOATS);
+    return l;
+}
+
+static float port_height(const struct leader *l) { return l->at[2 * l->points - 1]; }
+static int bends_of(const struct leader *l) { return l->points - 2; }
+
+/* Exact: Draw's numbers are quarters of whole ones. */
+static int64_t length_of(const struct leader *l) {
+    double hand = (double)l->at[1] - (double)port_height(l);
+    return (int64_t)(4 * (l->at[0] + (hand < 0 ? -hand : hand)));
+}
+
+static void lead_pads(struct picture *p) {
+    p->n = p->s.entries;
+    for (size_t i = 0; i < p->n; i++) {
+        struct leader own = leader_of(&p->s, i, i);
+        p->ports[i].at = port_height(&own);
+        p->leaders[i] = leader_of(&p->s, i, p->s.layout[i]);
+        p->length += length_of(p->leaders + i);
+        p->bends += bends_of(p->leaders + i);
+    }
+}
+
+/* ---- places: the heights first, then the pads' x ---- */
+
+static double height_of(const struct picture *p, double at, double down) {
+    return p->top + p->scale * at + down;
+}
+static double pad_y(const struct picture *p, const struct leader *l) {
+    return height_of(p, l->at[1], l->down);
+}
+static double port_y(const struct picture *p, size_t port) {
+    return height_of(p, p->ports[port].at, p->ports[port].down);
+}
+static double pad_x(const struct picture *p, const struct leader *l) {
+    return p->left + p->scale * l->at[0] + l->right;
+}
+
+/* The scale by which the board's longer side has a length that grows with the number of pads. */
+static void choose_scale(struct picture *p) {
+    double right = 0, top = p->ports[p->n - 1].at, bottom = p->ports[0].at;
+    for (size_t i = 0; i < p->n; i++) {
+        right = larger(right, p->leaders[i].at[0]);
+        top = smaller(top, p->leaders[i].at[1]);
+        bottom = larger(bottom, p->leaders[i].at[1]);
+    }
+    p->scale = (200 + 12 * (double)p->n) / larger(right, bottom - top);
+    p->top = -p->scale * top;
+}
+
+struct height {
+    double at;
+    int port;
+    double *down;
+};
+
+/* From the top down; a port before the pads at its height, which are pushed as it is. */
+static int by_height(const void *one, const void *other) {
+    const struct height *a = one, *b = other;
+    return a->at != b->at ? (a->at > b->at) - (a->at < b->at) : b->port - a->port;
+}
+
+static void push_down(struct picture *p, const struct height *heights) {
+    double down = 0, above = 0, label = -LABELS;
+    for (size_t k = 0; k < 2 * p->n; k++) {
+        double y = height_of(p, heights[k].at, down), least = y;
+        if (k > 0 && heights[k].at > heights[k - 1].at) least = larger(least, above + APART);
+        if (heights[k].port) least = larger(least, label + LABELS);
+        down += least - y;
+        *heights[k].down = down;
+        above = height_of(p, heights[k].at, down);
+        if (heights[k].port) label = above;
+    }
+    p->pushed = p->pushed || down > 0;
+    p->height = above;
+}
+
+static void place_heights(struct picture *p) {
+    struct height heights[2 * CHEREMYSL_MAX_RECORDS];
+    for (size_t i = 0; i < p->n; i++) {
+        heights[2 * i] = (struct height){p->ports[i].at, 1, &p->ports[i].down};
+        heights[2 * i + 1] = (struct height){p->leaders[i].at[1], 0, &p->leaders[i].down};
+    }
+    qsort(heights, 2 * p->n, sizeof *heights, by_height);
+    push_down(p, heights);
+}
+
+/* The pixels from a pad to the end of its name. */
+static double name_room(const struct leader *l) {
+    char digits[16];
+    return l->name == 0 ? DOT : 2 * DOT + LETTER * snprintf(digits, sizeof digits, "%d", l->name);
+}
+
+/* Would b's hand, dot or name meet the name of a, pad b being a little to the right of pad a? */
+static int meets_name(const struct picture *p, const struct leader *a, const struct leader *b) {
+    double name = pad_y(p, a), pad = pad_y(p, b), port = port_y(p, b->port);
+    return smaller(pad, port) - FONT < name && name < larger(pad, port) + FONT;
+}
+
+static int by_x(const void *one, const void *other) {
+    const struct leader *const *a = one, *const *b = other;
+    return ((*a)->at[0] > (*b)->at[0]) - ((*a)->at[0] < (*b)->at[0]);
+}
+
+/* The least pixel for pad k, with the pads left of it in their places. */
+static double least_x(const struct picture *p, struct leader *const *order, size_t k) {
+    double least = p->left + AROUND;
+    for (size_t i = 0; i < k; i++) {
+        double room = meets_name(p, order[i], order[k]) ? name_room(order[i]) + 2 * DOT : 0;
+        least = larger(least, pad_x(p, order[i]) + larger(room, APART));
+    }
+    return least;
+}
+
+static void push_right(struct picture *p, struct leader **order) {
+    double right = 0;
+    for (size_t k = 0; k < p->n; k++) {
+        order[k]->right = right;
+        right += larger(0, least_x(p, order, k) - pad_x(p, order[k]));
+        order[k]->right = right;
+        p->width = larger(p->width, pad_x(p, order[k]) + name_room(order[k]));
+    }
+    p->pushed = p->pushed || right > 0;
+}
+
+static void place_pads(struct picture *p) {
+    struct leader *order[CHEREMYSL_MAX_RECORDS];
+    for (size_t i = 0; i < p->n; i++) order[i] = p->leaders + i;
+    qsort(order, p->n, sizeof *order, by_x);
+    push_right(p, order);
+}
+
+/* ---- texts ---- */
+
+/* The bytes of the letter that begins here if XML may have it, UTF-8 and no control; else 0. */
+static int letter_bytes(const unsigned char *at) {
+    static const uint32_t least[] = {0, 0x20, 0xa0, 0x800, 0x10000}; /* for so many bytes */
+    int bytes = *at < 0x80   ? 1
+                : *at < 0xc0 ? 0
+                : *at < 0xe0 ? 2
+                : *at < 0xf0 ? 3
+                : *at < 0xf8 ? 4
+                             : 0;
+    uint32_t letter = bytes > 1 ? *at & (0x7fU >> bytes) : *at;
+    for (int k = 1; k < bytes; k++) {
+        if ((at[k] & 0xc0) != 0x80) return 0;
+        letter = letter << 6 | (at[k] & 0x3f);
+    }
+    int other = letter < least[bytes] || letter == 0x7f || (letter & ~0x7ffU) == 0xd800 ||
+                (letter & ~1U) == 0xfffe || letter > 0x10ffff;
+    return other ? 0 : bytes;
+}
+
+/* A file's name as it may stand in XML: what is no letter becomes U+FFFD. */
+struct shown_name {
+    char text[NAME_LETTERS * 5 + 8];
+    size_t letters;
+};
+
+static const char *escaped(char letter) {
+    return letter == '&' ? "&amp;" : letter == '<' ? "&lt;" : letter == '>' ? "&gt;" : NULL;
+}
+
+static struct shown_name show_name(const char *file) {
+    struct shown_name shown = {"", 0};
+    const char *slash = strrchr(file, '/'), *at = slash != NULL ? slash + 1 : file;
+    char *to = shown.text;
+    for (; *at != 0 && shown.letters < NAME_LETTERS; shown.letters++) {
+        int bytes = letter_bytes((const unsigned char *)at);
+        const char *written = bytes == 0 ? "\xef\xbf\xbd" : escaped(*at);
+        to += written != NULL ? sprintf(to, "%s", written) : sprintf(to, "%.*s", bytes, at);
+        at += bytes > 0 ? bytes : 1;
+    }
+    if (*at != 0) strcpy(to, "\xe2\x80\xa6"); /* cut: three points follow */
+    return shown;
+}
+
+/* A port's label: its number, and the names of the pads led there. */
+struct label {
+    char text[6 * CHEREMYSL_MAX_RECORDS + 8];
+    int letters;
+};
+
+static struct label label_of(const struct picture *p, size_t port) {
+    struct label label = {"", 0};
+    const char *before = ": ";
+    label.letters = sprintf(label.text, "%d", (int)port);
+    for (size_t i = 0; i < p->n; i++) {
+        if (p->leaders[i].port != port || p->leaders[i].name == 0) continue; /* a dummy has none */
+        label.letters += sprintf(label.text + label.letters, "%s%d", before, p->leaders[i].name);
+        before = " ";
+    }
+    return label;
+}
+
+static void place_edge(struct picture *p) {
+    double letters = strlen("port: pad");
+    for (size_t i = 0; i < p->n; i++) letters = larger(letters, label_of(p, i).letters);
+    p->left = AROUND + LETTER * letters + 2 * DOT;
+}
+
+/* The lines above the board. */
+struct heading {
+    char lines[3][sizeof(struct shown_name) + 64];
+    int count;
+    double width;
+};
+
+/* The line just written ends; beside letters of the usual width it has some that may be wide. */
+static void end_line(struct heading *h, int letters, size_t wide) {
+    h->width = larger(h->width, LETTER * letters + FONT * (double)wide);
+    h->count++;
+}
+
+static void head_total(struct heading *h, const struct picture *p, const char *file) {
+    struct shown_name name = show_name(strcmp(file, "-") == 0 ? "standard input" : file);
+    char total[64];
+    int letters = sprintf(total, ": length %" PRId64 ", bends %" PRId64, p->length, p->bends);
+    sprintf(h->lines[0], "%s%s", name.text, total);
+    end_line(h, letters, name.letters);
+}
+
+static void head_fault(struct heading *h, int64_t fault) {
+    char *line = h->lines[h->count];
+    int number = cheremysl_refusal_number(fault), record = cheremysl_refusal_record(fault);
+    if (number == 0) return;
+    int letters = sprintf(line, "refused %d record %d", number, record);
+    if (number == CHEREMYSL_TOUCHING)
+        letters += sprintf(line + letters, " and record %d", cheremysl_refusal_earlier(fault));
+    end_line(h, letters, 0);
+}
+
+static struct heading heading_of(const struct picture *p, const char *file) {
+    struct heading h = {{""}, 0, 0};
+    head_total(&h, p, file);
+    if (p->pushed)
+        end_line(&h, sprintf(h.lines[1], "not to scale: close lines are drawn apart"), 0);
+    head_fault(&h, p->fault);
+    return h;
+}
+
+/* ---- the picture ---- */
+
+/* Neighbouring arms have different colours. */
+static const char *const colours[] = {"black", "#0060b0", "#b84000", "#007850"};
+
+static const char *colour_of(size_t port) { return colours[port % 4]; }
+
+/* Room for the heading, a line for the labels' own heading, and the borders. */
+static void place_heading(struct picture *p, const struct heading *h) {
+    double room = AROUND + LABELS * (h->count + 2);
+    p->edge = room - 1.2 * LABELS;
+    p->top += room;
+    p->height += room + AROUND;
+    p->width = larger(p->width, AROUND + h->width) + AROUND;
+}
+
+static void draw_line(const struct picture *p, const struct leader *l) {
+    double x = pad_x(p, l), pad = pad_y(p, l), port = port_y(p, l->port);
+    printf("<polyline data-points=\"%.9g,%.9g", l->at[0], l->at[1]);
+    for (int k = 1; k < l->points; k++) printf(" %.9g,%.9g", l->at[2 * k], l->at[2 * k + 1]);
+    printf("\" points=\"%.6g,%.6g", x, pad);
+    if (l->points == 3) printf(" %.6g,%.6g", x, port);
+    printf(" %.6g,%.6g\"/>\n", p->left, port);
+}
+
+static void draw_leader(const struct picture *p, const struct leader *l) {
+    const char *colour = colour_of(l->port);
+    printf("<g id=\"leader-%d\" stroke=\"%s\">\n<title>", (int)l->record, colour);
+    if (l->name == 0)
+        printf("dummy pad");
+    else
+        printf("pad %d", l->name);
+    printf(" (record %d) to port %d: length %" PRId64 ", bends %d</title>\n", (int)l->record,
+           (int)l->port, length_of(l), bends_of(l));
+    draw_line(p, l);
+    printf("<circle cx=\"%.6g\" cy=\"%.6g\" r=\"%.4g\" stroke=\"none\" fill=\"%s\"/>\n</g>\n",
+           pad_x(p, l), pad_y(p, l), DOT, colour);
+}
+
+static void draw_text(double x, double y, const char *colour, const char *text) {
+    printf("<text x=\"%.6g\" y=\"%.6g\" dy=\"0.36em\"", x, y);
+    printf(" fill=\"%s\">%s</text>\n", colour, text);
+}
+
+static void draw_name(const struct picture *p, const struct leader *l) {
+    char digits[16];
+    if (l->name == 0) return;
+    sprintf(digits, "%d", l->name);
+    draw_text(pad_x(p, l) + 2 * DOT, pad_y(p, l), colour_of(l->port), digits);
+}
+
+static void draw_leaders(const struct picture *p) {
+    printf("<g fill=\"none\" stroke-width=\"%.4g\">\n", LINE);
+    for (size_t i = 0; i < p->n; i++) draw_leader(p, p->leaders + i);
+    printf("</g>\n");
+}
+
+/* The white around a name keeps it readable where leaders touch; elsewhere it is free of lines. */
+static void draw_names(const struct picture *p) {
+    printf("<g stroke=\"white\" stroke-width=\"3\" paint-order=\"stroke\">\n");
+    for (size_t i = 0; i < p->n; i++) draw_name(p, p->leaders + i);
+    printf("</g>\n");
+}
+
+static void draw_labels(const struct picture *p) {
+    double x = p->left - 2 * DOT;
+    printf("<g text-anchor=\"end\">\n");
+    draw_text(x, p->edge, "gray", "port: pad");
+    for (size_t i = 0; i < p->n; i++) {
+        struct label label = label_of(p, i);
+        draw_text(x, port_y(p, i), colour_of(i), label.text);
+    }
+    printf("</g>\n");
+}
+
+static void draw_heading(const struct heading *h) {
+    for (int k = 0; k < h->count; k++)
+        draw_text(AROUND, AROUND + LABELS * k, "black", h->lines[k]);
+}
+
+static void draw_picture(struct picture *p, const char *file) {
+    choose_scale(p);
+    place_heights(p);
+    place_edge(p);
+    place_pads(p);
+    struct heading h = heading_of(p, file);
+    place_heading(p, &h);
+    printf("<svg xmlns=\"http://www.w3.org/2000/svg\" width=\"%.0f\" height=\"%.0f\" "
+           "viewBox=\"0 0 %.0f %.0f\" font-family=\"sans-serif\" font-size=\"%.4g\">\n",
+           p->width, p->height, p->width, p->height, FONT);
+    printf("<title>%s</title>\n", h.lines[0]);
+    printf("<rect width=\"100%%\" height=\"100%%\" fill=\"white\"/>\n");
+    draw_heading(&h);
+    printf("<path stroke=\"gray\" d=\"M%.6g,%.6gV%.6g\"/>\n", p->left, p->edge,
+           p->height - AROUND / 2);
+    draw_leaders(p);
+    draw_names(p);
+    draw_labels(p);
+    printf("</svg>\n");
+}
+
+/* ---- the program ---- */
+
+/* What was printed has been written, or the program ends with 2. */
+static int written(void) {
+    if (fflush(stdout) == 0 && !ferror(stdout) && fclose(stdout) == 0) return 0;
+    fprintf(stderr, "%s: cannot write: %s\n", program, strerror(errno));
+    return 2;
+}
+
+static void end_with_option(const char *word) {
+    if (strcmp(word, "--help") == 0) {
+        fputs(usage, stdout);
+        exit(written());
+    }
+    if (strcmp(word, "--version") == 0) {
+        printf("%s %s\n", program, CHEREMYSL_VERSION_TEXT);
+        exit(written());
+    }
+    fprintf(stderr, "%s: there is no option %s\n%s", program, word, usage);
+    exit(2);
+}
+
+/* Takes the options out of the words and answers how many are left; -- ends the options. */
+static int take_options(int argc, char **argv, int *any) {
+    int left = 1, k = 1;
+    for (; k < argc && strcmp(argv[k], "--") != 0; k++) {
+        if (argv[k][0] != '-' || argv[k][1] == 0)
+            argv[left++] = argv[k];
+        else if (strcmp(argv[k], "--any") == 0)
+            *any = 1;
+        else
+            end_with_option(argv[k]);
+    }
+    if (k == argc) return left;
+    memmove(argv + left, argv + k + 1, (size_t)(argc - k - 1) * sizeof *argv);
+    return left + argc - k - 1;
+}
+
+int main(int argc, char **argv) {
+    static struct picture p;
+    int any = 0, words = take_options(argc, argv, &any);
+    if (words < 2) {
+        fputs(usage, stderr);
+        return 2;
+    }
+    argv[0] = program;
+    p.s = read_given_sheet(words, argv);
+    p.fault = judge(&p.s, argv[1], any);
+    lead_pads(&p);
+    draw_picture(&p, argv[1]);
+    return written();
+}
