@@ -1,0 +1,241 @@
+#!/usr/bin/env python3
+"""tests/draw.py PROGRAM..: draws the sample jobs and boards of every kind, and looks at the pictures as a reader does: each is well-formed, its
+leaders are those of 01 worked out here, those touch that do by 01 and no others come close, no dot or name meets a foreign leader, and no text meets
+another. The last line has the counts."""
+import glob, itertools, math, os, random, struct, subprocess, sys, tempfile
+import xml.etree.ElementTree as xml
+
+SVG = '{http://www.w3.org/2000/svg}'
+LEAST = 7.98  # pixels from a line to the next: 8, and the last digit may be rounded
+WIDEST, HIGHEST = 4200, 2400  # pixels: no sound sheet has a larger picture
+passed = failed = 0
+
+def check(what, good, *seen):
+    global passed, failed
+    passed, failed = passed + bool(good), failed + (not good)
+    if not good:
+        print('FAILED:', what, *seen)
+
+def records(job):
+    return [struct.unpack_from('<HHIii', job, 16 * i) for i in range(len(job) // 16)]
+
+# ---- reading a picture
+
+def points(text):
+    return [tuple(map(float, p.split(','))) for p in text.split()]
+
+def box(text, size, half=0.37):
+    """Left, top, right, bottom of a text: letters are 0.65 of the size wide, and digits reach 0.37 up and down from their middle."""
+    x, y, wide = float(text.get('x')), float(text.get('y')), 0.65 * size * len(text.text)
+    left = x - wide if text.get('anchor') == 'end' else x
+    return left, y - half * size, left + wide, y + half * size
+
+def meet(a, b):
+    return a[0] < b[2] and b[0] < a[2] and a[1] < b[3] and b[1] < a[3]
+
+def segments(line):
+    """The boxes of a leader's hand and arm."""
+    return [(min(a, c), min(b, d), max(a, c), max(b, d)) for (a, b), (c, d) in zip(line, line[1:])]
+
+def distance(a, b):
+    """Of two boxes, each of them upright."""
+    return math.hypot(max(a[0] - b[2], b[0] - a[2], 0), max(a[1] - b[3], b[1] - a[3], 0))
+
+def apart(one, other):
+    """Of two leaders, as their segments."""
+    return min([distance(a, b) for a in one for b in other])
+
+class Picture:
+    def __init__(self, text):
+        root = xml.fromstring(text)
+        self.width, self.height, self.size = (float(root.get(k)) for k in ('width', 'height', 'font-size'))
+        self.title = root.find(SVG + 'title').text
+        self.ids = [e.get('id') for e in root.iter() if e.get('id')]
+        group = root.findall(SVG + 'g')
+        self.leaders = group[0].findall(SVG + 'g')
+        self.width_of_line = float(group[0].get('stroke-width'))
+        self.lines = [points(g.find(SVG + 'polyline').get('points')) for g in self.leaders]
+        self.segments = [segments(line) for line in self.lines]
+        self.drawn = [g.find(SVG + 'polyline').get('data-points') for g in self.leaders]
+        self.dots = [tuple(float(g.find(SVG + 'circle').get(k)) for k in ('cx', 'cy', 'r')) for g in self.leaders]
+        self.heading, self.names, self.labels = root.findall(SVG + 'text'), list(group[1]), list(group[2])
+        for label in self.labels:
+            label.set('anchor', group[2].get('text-anchor'))
+
+# ---- what must be on it
+
+def number(v):
+    return repr(v).removesuffix('.0')
+
+def expected_leader(record, port):
+    x, y, q = record[2] / 4, -record[3] / 4 + 0.0, -port / 4 + 0.0
+    way = [(x, y), (0.0, q)] if y == q else [(x, y), (x, q), (0.0, q)]
+    return ' '.join(number(a) + ',' + number(b) for a, b in way)
+
+def check_leaders(what, picture, rs, layout):
+    """The leaders are Draw's, with their titles and the total."""
+    lengths = [r[2] + abs(r[3] - rs[q][4]) for r, q in zip(rs, layout)]
+    bends = [int(r[3] != rs[q][4]) for r, q in zip(rs, layout)]
+    name = lambda r: 'pad %d' % r[0] if r[0] else 'dummy pad'
+    check(what + ': ids', picture.ids == ['leader-%d' % i for i in range(len(rs))], picture.ids)
+    check(what + ': points', picture.drawn == [expected_leader(r, rs[q][4]) for r, q in zip(rs, layout)], picture.drawn)
+    check(what + ': titles', [g.find(SVG + 'title').text for g in picture.leaders] == [
+        '%s (record %d) to port %d: length %d, bends %d' % (name(r), i, layout[i], lengths[i], bends[i]) for i, r in enumerate(rs)])
+    check(what + ': total', picture.title == what + ': length %d, bends %d' % (sum(lengths), sum(bends)), picture.title)
+    check(what + ': total shown', picture.heading[0].text == picture.title)
+
+def check_places(what, picture, rs, layout):
+    """Pads and ports stand in the order of their heights and x, far enough from each other, and equal heights in one place."""
+    heights = {(-r[3], dot[1]) for r, dot in zip(rs, picture.dots)} | {(-rs[q][4], line[-1][1]) for q, line in zip(layout, picture.lines)}
+    at = sorted(heights)
+    check(what + ': one place for each height', len(at) == len(dict(at)))
+    check(what + ': heights apart', all(b[1] - a[1] >= LEAST for a, b in zip(at, at[1:])), at)
+    across = [(0, picture.lines[0][-1][0])] + sorted((r[2], dot[0]) for r, dot in zip(rs, picture.dots))
+    check(what + ': pads apart', all(b[1] - a[1] >= LEAST for a, b in zip(across, across[1:])), across)
+    check(what + ': one edge', len({line[-1][0] for line in picture.lines}) == 1)
+    check(what + ': lines', all(line[0] == dot[:2] and all(a[0] == b[0] or a[1] == b[1] for a, b in zip(line, line[1:]))
+                                and len(line) == len(drawn.split()) for line, dot, drawn in zip(picture.lines, picture.dots, picture.drawn)))
+    if not any('not to scale' in line.text for line in picture.heading):
+        scales = [(b[1] - a[1]) / (b[0] - a[0]) for a, b in itertools.chain(zip(at, at[1:]), zip(across, across[1:]))]
+        check(what + ': to scale', max(scales) - min(scales) < 0.01 * max(scales), scales)
+
+def check_texts(what, picture, rs, layout):
+    """The labels are all there, and no two texts meet, nor does one leave the picture."""
+    named = [' '.join(str(r[0]) for r, q in zip(rs, layout) if q == k and r[0]) for k in range(len(rs))]
+    check(what + ': labels', [t.text for t in picture.labels] == ['port: pad'] + ['%d' % k + (': ' + n if n else '') for k, n in enumerate(named)])
+    at = {q: line[-1][1] for q, line in zip(layout, picture.lines)}
+    check(what + ': labels at their ports', all(float(picture.labels[q + 1].get('y')) == y for q, y in at.items()))
+    check(what + ': names', [(t.text, float(t.get('y'))) for t in picture.names] == [(str(r[0]), dot[1]) for r, dot in zip(rs, picture.dots) if r[0]])
+    boxes = [box(t, picture.size) for t in picture.heading + picture.names + picture.labels]
+    check(what + ': texts inside', all(b[0] >= 0 and b[1] >= 0 and b[2] <= picture.width and b[3] <= picture.height for b in boxes))
+    labels = [box(t, picture.size, 0.5) for t in picture.labels + picture.heading]
+    check(what + ': labels apart', not any(meet(a, b) for a, b in itertools.combinations(labels, 2)))
+    return boxes
+
+def touch(a, p, b, q):
+    """Of pads a and b, led to the port heights p and q."""
+    (_, _, _, y, _), p, q = (b, p, q) if a[2] > b[2] else (a, q, p)  # the left pad's height, the right one's port, the left one's
+    return min(y, q) <= p <= max(y, q)
+
+def check_touching(what, picture, rs, layout):
+    """Leaders touch in the picture exactly if they do on the sheet, and others are far enough from each other for the width of a line."""
+    bad = []
+    for i, j in itertools.combinations(range(len(rs)), 2):
+        near, touching = apart(picture.segments[i], picture.segments[j]), touch(rs[i], rs[layout[i]][4], rs[j], rs[layout[j]][4])
+        if near > 0 if touching else near < LEAST:
+            bad.append((i, j, near))
+    check(what + ': leaders apart', not bad, bad)
+    check(what + ': width of lines', picture.width_of_line < LEAST / 3)
+
+def check_sound(what, picture, rs, boxes):
+    """On a sheet without touching leaders nothing meets a foreign leader, and no two texts meet."""
+    n = len(rs)
+    check(what + ': size', picture.width <= WIDEST and picture.height <= HIGHEST and picture.size >= 10, picture.width, picture.height)
+    for i, (x, y, r) in enumerate(picture.dots):
+        near = min([distance((x, y, x, y), s) for j in range(n) if j != i for s in picture.segments[j]], default=LEAST)
+        check(what + ': dot of %d' % i, 2 <= r < near - picture.width_of_line, r, near)
+    check(what + ': texts apart', not any(meet(a, b) for a, b in itertools.combinations(boxes, 2)))
+    names = [(t.text, box(t, picture.size)) for t in picture.names]
+    on = [(name, j) for name, place in names for j in range(n) for s in picture.segments[j] if meet(place, s)]
+    check(what + ': names clear of leaders', not on, on)
+
+# ---- running it
+
+def draw(path, *words):
+    run = subprocess.run(program + [path] + list(words), stdout=subprocess.PIPE, stderr=subprocess.PIPE)
+    check('%s %s: status' % (path, ' '.join(words)), run.returncode == 0 and not run.stderr, run)
+    return run.stdout
+
+def look(what, text):
+    try:
+        return Picture(text)
+    except (xml.ParseError, AttributeError, IndexError, TypeError) as fault:
+        check('%s: well-formed' % what, False, fault)
+
+def try_board(path, layout=None, sound=True):
+    words = [] if layout is None else [str(q) for q in layout] + ['--any'] * (not sound)
+    text, rs, what = draw(path, *words), records(open(path, 'rb').read()), os.path.basename(path)
+    picture = look(what, text)
+    if picture is None:
+        return
+    shown = [int(g.find(SVG + 'title').text.split(' to port ')[1].split(':')[0]) for g in picture.leaders]
+    if layout is None:  # First's: no shorter sheet, which is led by the order of heights
+        check(what + ': a layout', sorted(shown) == list(range(len(rs))))
+        least = sum(abs(y - q) for y, q in zip(sorted(r[3] for r in rs), (r[4] for r in rs)))
+        check(what + ': shortest', sum(abs(r[3] - rs[q][4]) for r, q in zip(rs, shown)) == least)
+    layout = shown if layout is None else layout
+    check_leaders(what, picture, rs, layout)
+    check_places(what, picture, rs, layout)
+    boxes = check_texts(what, picture, rs, layout)
+    check_touching(what, picture, rs, layout)
+    if sound:
+        check_sound(what, picture, rs, boxes)
+        check(what + ': drawn again', draw(path, *words) == text)
+
+# ---- boards
+
+END = 1000000
+
+def spread(r, n, low, high, least=1):
+    """n rising numbers, at least so far from each other."""
+    free = high - low - (n - 1) * least
+    return [low + place + k * least for k, place in enumerate(sorted(r.randint(0, free) for _ in range(n)))]
+
+def boards(r):
+    """Names of boards, with the pads' x and y and the ports."""
+    for n in (1, 3, 24, 40, 64):
+        any_x, any_y = lambda w: r.sample(range(1, w + 1), n), lambda low, high: [r.randint(low, high) for _ in range(n)]
+        close = [8 * k - 4 * n for k in range(n)]
+        high = spread(r, n, -END, END, 8)
+        yield 'ports-8-apart-%d' % n, any_x(10 * n), any_y(-4 * n, 4 * n), close
+        yield 'ports-8-apart-high-%d' % n, any_x(END), any_y(-END, END), close
+        yield 'high-%d' % n, any_x(END), any_y(-END, END), high
+        yield 'narrow-%d' % n, r.sample(range(1, n + 1), n), any_y(-END, END), high
+        yield 'flat-%d' % n, any_x(END), any_y(0, 8), close
+        yield 'one-height-%d' % n, any_x(END), [-END] * n, high
+        yield 'corner-%d' % n, r.sample(range(1, n), n - 1) + [END], any_y(END - 2 * n, END)[1:] + [-END], high
+        yield 'crowd-%d' % n, list(range(1, n)) + [END], [0] * n, high
+        yield 'level-with-ports-%d' % n, any_x(2 * n), [r.choice(close) + r.choice((0, 0, 1, -1)) for _ in range(n)], close
+
+def pack(r, xs, ys, ports):
+    names = r.sample(range(1, 65536), len(xs))
+    if len(xs) > 2:
+        names[r.randrange(len(xs))] = names[r.randrange(len(xs))] = 0
+    return b''.join(struct.pack('<HHIii', name, 0, x, y, q) for name, x, y, q in zip(names, xs, ys, ports))
+
+def odd_names(room):
+    """Names of files, and how they are shown."""
+    yield b'a & b <c> "d" \'e\'', 'a & b <c> "d" \'e\''
+    yield 'плата № 7 – Ω 🔧'.encode(), 'плата № 7 – Ω 🔧'
+    yield b'tab\tline\nescape\x1b\x7f', 'tab\ufffdline\ufffdescape\ufffd\ufffd'
+    yield b'\xff\xc3(\xe2\x82', '\ufffd\ufffd(\ufffd\ufffd'
+    yield b'\xc0\xaf\xed\xa0\x80\xef\xbf\xbe\xf4\x90\x80\x80\xc2\x9b', '\ufffd' * 14
+    yield b'x' * 200, 'x' * 40 + '…'
+    yield b'&' * 200, '&' * 40 + '…'
+    yield ('Ж' * 100).encode(), 'Ж' * 40 + '…'
+
+def main():
+    r = random.Random(1)
+    for path in sorted(glob.glob('examples/*.job')):
+        try_board(path)
+    try_board('examples/crossing.job', [3, 1, 2, 0], False)
+    try_board('examples/level.job', [0, 1], False)
+    try_board('examples/J5.job', [1, 1, 1], False)
+    try_board('examples/matrix.job', [63] * 64, False)
+    with tempfile.TemporaryDirectory() as room:
+        for name, xs, ys, ports in boards(r):
+            path = os.path.join(room, name)
+            open(path, 'wb').write(pack(r, xs, ys, ports))
+            try_board(path)
+            if len(xs) > 1:
+                try_board(path, r.sample(range(len(xs)), len(xs)), False)
+        for name, shown in odd_names(room):
+            path = os.path.join(room.encode(), name)
+            open(path, 'wb').write(open('examples/J1.job', 'rb').read())
+            picture = look(repr(name), draw(path))
+            check(repr(name), picture and picture.title == shown + ': length 5, bends 0')
+    print('%d passed, %d failed' % (passed, failed))
+    sys.exit(failed > 0)
+
+program = sys.argv[1:]
+main()

@@ -1,0 +1,131 @@
+#!/bin/sh
+# tests/draw.sh [ARCHIVE]: builds the drawing program with the archive, and shows what it refuses, how it ends if it
+# cannot read or write, that the pictures in docs/ are its own, and by tests/draw.py what is on its pictures. The last
+# line has the counts.
+set -u
+cd "$(dirname "$0")/.." || exit 2
+. tools/machine.sh
+need_compilers
+need python3 python3
+room=$(mktemp -d) || exit 2
+trap 'rm -rf "$room"' EXIT
+passed=0 failed=0 archive=${1:-target/staticlib/libcheremysl.a}
+
+# check WHAT COMMAND..: counts a command that must succeed; what it prints is shown if it fails
+check() {
+    what=$1
+    shift
+    if "$@" >"$room/log" 2>&1; then
+        passed=$((passed + 1))
+    else
+        failed=$((failed + 1))
+        echo "FAILED: $what: $*"
+        cat "$room/log"
+    fi
+}
+
+check "cheremysl-draw.c" $cc -std=c99 -O2 -Wall -Wextra -Werror -pedantic -Iinclude $static -o "$room/cheremysl-draw" \
+    programs/cheremysl-draw.c "$archive"
+draw() { $run "$room/cheremysl-draw" "$@"; }
+matches() { case $1 in $2) ;; *) false ;; esac; }
+
+# says STATUS PATTERN WORD..: the program, given the words, ends with the status, writes just such text to standard
+# error, and no picture
+says() {
+    wanted=$1 pattern=$2
+    shift 2
+    draw "$@" >"$room/out" 2>"$room/err"
+    status=$?
+    check "$* said '$(cat "$room/err")', status $status" matches "$status $(cat "$room/err")" "$wanted $pattern"
+    check "$* wrote a picture" [ ! -s "$room/out" ]
+}
+
+# ---- what is refused: the number, each record with its pad, and words
+
+made() { examples/mkjob >"$room/$1.job"; }
+J5=examples/J5.job crossing=examples/crossing.job
+touching='refused 9 record 2 (pad 403) and record 1 (pad 402): ?*'
+for any in '' --any; do
+    says 1 "cheremysl-draw: $J5: refused 3 record 0: fewer port numbers than pads (3)" $any $J5 1
+    says 1 "cheremysl-draw: $J5: refused 3 record 0: fewer port numbers than pads (3)" $any $J5 1 2
+    says 1 "cheremysl-draw: $J5: refused: more port numbers than pads (3)" $any $J5 1 2 0 2
+    says 1 "cheremysl-draw: $J5: refused: more port numbers than pads (3)" $any $J5 $(seq 0 99)
+    says 1 "cheremysl-draw: $J5: refused 8 record 1 (pad 102): ?*" $any $J5 1 3 0
+    says 1 "cheremysl-draw: $J5: refused 8 record 0 (pad 101): ?*" $any $J5 65537 2 0
+    says 1 "cheremysl-draw: $J5: refused 8 record 2 (pad 103): ?*" $any $J5 1 2 99999999999999999999
+    says 1 'cheremysl-draw: *.c: refused 1 record 0: ?*' $any examples/audit.c
+    says 1 'cheremysl-draw: *.c: refused 1 record 0: ?*' $any examples/audit.c 0 1 2
+    says 1 'cheremysl-draw: /dev/null: refused 1 record 0: ?*' $any /dev/null
+    echo '7 0 5 5' | made field
+    says 1 'cheremysl-draw: *field.job: refused 4 record 0 (pad 7): ?*' $any "$room/field.job"
+    printf '7 1 5 5\n7 2 5 5\n' | made above
+    says 1 'cheremysl-draw: *above.job: refused 5 record 1 (pad 7): ?*' $any "$room/above.job"
+    printf '7 1 5 5\n0 2 5 12\n' | made close
+    says 1 'cheremysl-draw: *close.job: refused 12 record 1 (dummy pad): ?*' $any "$room/close.job" 0 1
+    printf '7 1 5 5\n7 2 5 13\n' | made name
+    says 1 'cheremysl-draw: *name.job: refused 6 record 1 (pad 7): ?*' $any "$room/name.job" 1 0
+    printf '7 1 5 5\n8 1 5 13\n' | made x
+    says 1 'cheremysl-draw: *x.job: refused 7 record 1 (pad 8): ?*' $any "$room/x.job"
+done
+says 1 "cheremysl-draw: $crossing: $touching" $crossing 3 1 2 0
+says 1 "cheremysl-draw: $J5: refused 8 record 2 (pad 103): ?*" $J5 1 2 1
+check "touching, with --any" draw --any $crossing 3 1 2 0
+check "a port twice, with --any" draw $J5 1 --any 2 1
+
+# ---- the command line
+
+usage='usage: cheremysl-draw *'
+says 2 "$usage"
+says 2 "$usage" --any
+says 2 "cheremysl-draw: there is no option --no-such*$usage" --no-such $J5
+says 2 "cheremysl-draw: there is no option -1*$usage" $J5 -1 2 0
+says 2 "cheremysl-draw: 'x' is not a port number" $J5 1 x 0
+says 2 "cheremysl-draw: '' is not a port number" $J5 1 '' 0
+says 2 "cheremysl-draw: '1x' is not a port number" $J5 1x 2 0
+check "--help" matches "$(draw --help)" "$usage"
+check "--version" matches "$(draw --version)" 'cheremysl-draw [0-9]*.[0-9]*'
+
+# ---- what cannot be read or written
+
+says 2 "cheremysl-draw: cannot open $room/none: No such file or directory" "$room/none"
+says 2 "cheremysl-draw: cannot read $room: Is a directory" "$room"
+says 2 "cheremysl-draw: cannot open --any: No such file or directory" -- --any
+
+# unwritten WORD..: with no room for what it writes, the program says so and ends with 2
+unwritten() {
+    draw "$@" >/dev/full 2>"$room/err"
+    check "$* with a full disk, status $?" [ $? = 2 ]
+    check "$* with a full disk" [ "$(cat "$room/err")" = 'cheremysl-draw: cannot write: No space left on device' ]
+}
+unwritten $J5
+unwritten examples/matrix.job
+unwritten --help
+unwritten --version
+draw $J5 >&- 2>"$room/err"
+check "without standard output, status $?" [ $? = 2 ]
+
+# ---- the pictures in docs/: each line of the Makefile that makes one
+
+sed -n 's|^	build/cheremysl-draw \(.*\) >docs/\(.*\)$|\2 \1|p' Makefile | sed 's/\$\$/$/' >"$room/pictures"
+picture() { draw "$@" | cmp - "docs/$svg"; }
+while read -r svg words; do
+    eval "check 'picture $svg' picture $words"
+done <"$room/pictures"
+made_pictures=$(cut -d ' ' -f 1 "$room/pictures" | LC_ALL=C sort)
+check "every picture is made" [ "$made_pictures" = "$(cd docs && ls | LC_ALL=C sort | grep '[.]svg$')" ]
+svg=j5.svg
+check "First's sheet" picture $J5
+from_input() { draw - <$J5 | sed 's/standard input/J5.job/' | cmp - docs/j5.svg; }
+check "from standard input" from_input
+
+# ---- what is on a picture
+
+python3 tests/draw.py $run "$room/cheremysl-draw" >"$room/drawn" 2>&1
+status=$?
+sed '$d' "$room/drawn"
+counts=$(sed -n '$s/^\([0-9]*\) passed, \([0-9]*\) failed$/\1 \2/p' "$room/drawn")
+check "tests/draw.py, status $status: $(tail -n 1 "$room/drawn")" [ "$counts" ]
+passed=$((passed + ${counts% *} + 0)) failed=$((failed + ${counts#* } + 0))
+
+echo "$passed passed, $failed failed"
+[ $failed = 0 ] && [ $passed -gt 0 ]
