@@ -95,6 +95,8 @@ if [ $search ]; then
     both large 100 10
     both pages 200 20
 fi
+# Traps and registers as they happen to be are not for the sanitizers.
+build floats floats -std=c99 -O2 && try floats $out/floats $((600 * times)) $seed
 # A stack of its own is not for the sanitizers. Bound at the start: binding a function when it is first called takes stack.
 build stack stack -std=c99 -O2 -Wl,-z,now && try stack $out/stack
 
