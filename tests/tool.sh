@@ -113,7 +113,7 @@ prints 0 'the sheet of a job' from_there
 cat >"$room/bin/rt" <<'END'
 #!/bin/sh
 echo 'rt: low proved (4 s)'
-for wait in 1 2 3 4 5 6 7 8 9 10; do
+for turn in 1 2 3 4 5 6 7 8 9 10; do
     grep -q '^sheet: 1 of 3' "$ROOM/said" && exit 0
     sleep 0.5
 done
