@@ -13,8 +13,8 @@ use Rattle.strips.specs.Places.{Optimal, Later}
 use Rattle.strips.specs.ByPlace.{mem-at, place-mem, free-places, places-free, earlier-differ, differ-earlier, sumTo, sum-order}
 use Rattle.table.specs.Cell.{boardOf}
 use Rattle.steps.specs.Steps.{figureOf}
-use Rattle.steps.specs.Steps as steps
-use Rattle.steps.specs.Lists.{listed}
+use Rattle.choices.specs.Choices as choices
+use Rattle.choices.specs.Lists.{listed}
 use Rattle.paper.specs.Leaders.{Between}
 use Rattle.paper.specs.Layouts.{Board, Untouching, sum, total, Best, Before, FirstBest, NextBest, LastBest}
 use Rattle.paper.specs.laws.Totals.{sum-same}
@@ -47,7 +47,7 @@ module _ {b : Board} {cost : ℕ → ℕ → ℕ} {order lo hi cs : List ℕ} (W
   most j (no h) = omega (arith, default hi (W .sides .high .long) j h)
 
   -- The work lists are what the search asks for.
-  pub proper : steps.Proper order cs lo hi
+  pub proper : choices.Proper order cs lo hi
   proper = record {
     pads = record {
       few = omega (arith, W .few, same-n);

@@ -8,7 +8,8 @@ use lib.ListN.{length}
 use Rattle.table.specs.Cell.{leastOf}
 use Rattle.steps.specs.Steps.{FirstIs, Told}
 use Rattle.steps.specs.Steps as steps
-use Rattle.steps.specs.Lists.{best-total}
+use Rattle.choices.specs.Choices as choices
+use Rattle.steps.specs.Totals.{best-total}
 use Rattle.paper.specs.Job.{count}
 use Rattle.paper.specs.Layouts.{boardOf, held, Untouching, Best}
 use Rattle.paper.specs.Promises.{Kept}
@@ -20,14 +21,14 @@ use Rattle.sheets.specs.declared.Start.the-variants.{First, Given}
 use Rattle.sheets.specs.Replies.{Ready, cost, Began, Begins}
 
 -- The work lists are what the search asks for,
-pub proper-on : (job : List ℕ) (lw bw : ℕ) {order lo hi cs : List ℕ} → WorkOn job lw bw order lo hi cs → steps.Proper order cs lo hi
+pub proper-on : (job : List ℕ) (lw bw : ℕ) {order lo hi cs : List ℕ} → WorkOn job lw bw order lo hi cs → choices.Proper order cs lo hi
 proper-on job lw bw W = proper W
 
 module _ {job : List ℕ} {lw bw : ℕ} {order lo hi cs hs ts : List ℕ} (R : Ready job lw bw order lo hi cs hs ts) where
   pub same-n : length order ≡ count job
   same-n = R .work .listed .arranged .long
 
-  pub working-on : (w : List ℕ) → count job ≤ length w → steps.Working order cs lo hi hs ts w
+  pub working-on : (w : List ℕ) → count job ≤ length w → choices.Working order cs lo hi hs ts w
   working-on w h = record { proper = proper (R .work); table = R .table; room = omega (arith, same-n) }
 
   -- an untouching layout is one to it,
@@ -38,7 +39,7 @@ module _ {job : List ℕ} {lw bw : ℕ} {order lo hi cs hs ts : List ℕ} (R : R
   pub solvable-on : steps.Solvable order cs lo hi
   solvable-on = let u = untouching-exists (boardOf job) (R .work .proper) in (u .0, untouching-sol (R .work) (u .0) (u .1))
 
-  pub kept-on : {w v : List ℕ} → steps.Kept (length order) w v → Kept (count job) w v
+  pub kept-on : {w v : List ℕ} → choices.Kept (length order) w v → Kept (count job) w v
   kept-on K = record { long = K .long; rest = λ k h. K .rest k (omega (arith, same-n)) }
 
   pub first-on : (w v : List ℕ) → FirstIs order cs lo hi w v → Began First job lw bw w v

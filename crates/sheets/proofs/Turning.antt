@@ -6,7 +6,8 @@ use native.Mathlib.Numerals.{add-one}
 use native.Mathlib.Nat.{mul-le-mul-left}
 use native.Mathlib.Omega.{arith}
 use lib.ListN.{length}
-use Rattle.steps.specs.Steps.{BestLayout, Working, NextIs, EndIs}
+use Rattle.steps.specs.Steps.{BestLayout, NextIs, EndIs}
+use Rattle.choices.specs.Choices.{Working}
 use Rattle.paper.specs.Job.{count}
 use Rattle.paper.specs.Layouts.{boardOf, held, Best}
 use Rattle.paper.specs.Promises.{Kept, inTurn}

@@ -1,4 +1,3 @@
--- Steps: the definitions that the contracts cite. Memory: those of what a walk remembers. Lists: what a proper board is to the theory.
+-- Steps: the definitions that the contracts cite. Totals: the least total is that of each best layout.
 pub mod Steps
-pub mod Memory
-pub mod Lists
+pub mod Totals

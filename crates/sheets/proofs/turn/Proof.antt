@@ -3,7 +3,7 @@ use mathlib.Core.Path.{sym}
 use Prim.Native.Nat.{_-_, _≤_, _<_}
 use native.Mathlib.Omega.{arith}
 use lib.ListN.{length}
-use Rattle.steps.specs.Memory.{Memory, memory-none}
+use Rattle.choices.specs.Memory.{Memory, memory-none}
 use Rattle.sheets.proofs.Starts.{same-n, working-on}
 use Rattle.sheets.proofs.Turning.{Turning, turning-none, turning-inside, turning-ready, turning-room, turning-count}
 use Rattle.sheets.proofs.Turning.{turning-more, turning-end, turning-full}

@@ -5,10 +5,11 @@ use Prim.Native.Nat.{_+_, _-_, _%_}
 use native.Mathlib.Omega.{arith}
 use borrow.Author.Needs.{needs}
 use lib.ListN.{length, length-set}
-use Rattle.steps.specs.Steps.{Entered}
-use Rattle.steps.specs.Memory.{Memory}
-use Rattle.steps.proofs.Search.{places, working-with, placeable, chosen-some, Filling, filling-none, filling-more, filling-entered, filling-done}
-use Rattle.steps.proofs.Memory.{memory-part, memory-more, memory-store}
+use Rattle.places.specs.Places.{Entered}
+use Rattle.choices.specs.Memory.{Memory}
+use Rattle.steps.proofs.Filling.{places, working-with, placeable, Filling, filling-none, filling-more, filling-entered, filling-done}
+use Rattle.choices.proofs.Search.{chosen-some}
+use Rattle.choices.proofs.Memory.{memory-part, memory-more, memory-store}
 use Rattle.steps.proofs.fill_on.Statement.{statement}
 use Rattle.steps.proofs.fill_on.Tie as tie
 

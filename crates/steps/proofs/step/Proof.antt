@@ -5,23 +5,11 @@ use Prim.Native.Nat.{_-_, _%_, _<_}
 use native.Mathlib.Omega.{arith}
 use borrow.Author.Needs.{needs}
 use lib.ListN.{length, getD, length-set}
-use Rattle.steps.specs.Steps.{Placed}
-use Rattle.steps.specs.Memory.{Memory}
-use Rattle.steps.proofs.Search.{places, working-with}
-use Rattle.steps.proofs.Memory.{memory-again, memory-store}
-use Rattle.steps.proofs.Stepping.{
-  Looking,
-  placeable-best,
-  looking-none,
-  looking-inside,
-  looking-begun,
-  looking-port,
-  looking-placed,
-  looking-more,
-  looking-filled,
-  looking-found,
-  looking-end,
-}
+use Rattle.places.specs.Places.{Placed}
+use Rattle.choices.specs.Memory.{Memory}
+use Rattle.steps.proofs.Filling.{places, working-with}
+use Rattle.choices.proofs.Memory.{memory-again, memory-store}
+use Rattle.steps.proofs.Stepping.{Looking, placeable-best, looking-none, looking-inside, looking-begun, looking-port, looking-placed, looking-more, looking-filled, looking-found, looking-end}
 use Rattle.steps.proofs.step.Statement.{statement}
 use Rattle.steps.proofs.step.Tie as tie
 

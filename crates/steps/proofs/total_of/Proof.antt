@@ -4,7 +4,8 @@ use Prim.Native.Nat.{_-_, _*_, _^_, _≤_}
 use native.Mathlib.Omega.{arith}
 use lib.ListN.{length, drop}
 use Rattle.strips.specs.Board.{sum}
-use Rattle.steps.specs.Steps.{portOf, figureOf}
+use Rattle.places.specs.Places.{portOf}
+use Rattle.steps.specs.Steps.{figureOf}
 use Rattle.steps.proofs.Whole.{sum-none, sum-step}
 use Rattle.steps.proofs.total_of.Statement.{statement}
 use Rattle.steps.proofs.total_of.Tie as tie

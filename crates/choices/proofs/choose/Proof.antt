@@ -1,12 +1,12 @@
--- `steps::choose` meets its contract: what each of its three ends says is a law of Search. Assumes nothing.
+-- `choices::choose` meets its contract: what each of its three ends says is a law of Search. Assumes nothing.
 use Prim.Native.Nat.{_+_}
 use native.Mathlib.Omega.{arith}
 use borrow.Author.Needs.{needs}
 use lib.ListN.{getD}
 use Rattle.table.specs.Cell.{boardOf}
-use Rattle.steps.proofs.Search.{choose-past, choose-none, choose-found}
-use Rattle.steps.proofs.choose.Statement.{statement}
-use Rattle.steps.proofs.choose.Tie as tie
+use Rattle.choices.proofs.Search.{choose-past, choose-none, choose-found}
+use Rattle.choices.proofs.choose.Statement.{statement}
+use Rattle.choices.proofs.choose.Tie as tie
 
 shared-slice-read-a : tie.Need-shared-slice-read-a
 shared-slice-read-a c = search needs

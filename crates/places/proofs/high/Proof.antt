@@ -1,10 +1,10 @@
--- `steps::high` meets its contract. The loop's invariant: no port from h to b - 1 is taken. Assumes nothing.
+-- `places::high` meets its contract. The loop's invariant: no port from h to b - 1 is taken. Assumes nothing.
 use Prim.Native.Nat.{ℕ, _-_, _≤_, _<_}
 use native.Mathlib.Omega.{arith}
 use lib.ListN.{getD}
-use Rattle.steps.proofs.Ports.{free-up}
-use Rattle.steps.proofs.high.Statement.{statement}
-use Rattle.steps.proofs.high.Tie as tie
+use Rattle.places.proofs.Ports.{free-up}
+use Rattle.places.proofs.high.Statement.{statement}
+use Rattle.places.proofs.high.Tie as tie
 
 abbrev Inv-loop : tie.InvT-loop
 Inv-loop at h m n b₀ b = (h ≤ b) × (b ≤ n) × ((q : ℕ) → h ≤ q → q < b → m ≤ getD at q 0)

@@ -1,10 +1,10 @@
--- `steps::low` meets its contract. The loop's invariant: no port from a to l - 1 is taken. Assumes nothing.
+-- `places::low` meets its contract. The loop's invariant: no port from a to l - 1 is taken. Assumes nothing.
 use Prim.Native.Nat.{ℕ, _-_, _≤_, _<_}
 use native.Mathlib.Omega.{arith}
 use lib.ListN.{getD}
-use Rattle.steps.proofs.Ports.{free-down}
-use Rattle.steps.proofs.low.Statement.{statement}
-use Rattle.steps.proofs.low.Tie as tie
+use Rattle.places.proofs.Ports.{free-down}
+use Rattle.places.proofs.low.Statement.{statement}
+use Rattle.places.proofs.low.Tie as tie
 
 abbrev Inv-loop : tie.InvT-loop
 Inv-loop at l m a₀ a = (a ≤ l) × ((q : ℕ) → a ≤ q → q < l → m ≤ getD at q 0)

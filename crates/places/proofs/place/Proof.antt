@@ -1,12 +1,12 @@
--- `steps::place` meets its contract. The loop's invariant: the first i places are entered. Assumes nothing.
+-- `places::place` meets its contract. The loop's invariant: the first i places are entered. Assumes nothing.
 use mathlib.Core.Path.{_≡_, refl, sym}
 use Prim.Native.Nat.{_-_, _≤_}
 use native.Mathlib.Omega.{arith}
 use lib.ListN.{length, length-set}
-use Rattle.steps.specs.Steps.{Entered}
-use Rattle.steps.proofs.Ports.{entered-more}
-use Rattle.steps.proofs.place.Statement.{statement}
-use Rattle.steps.proofs.place.Tie as tie
+use Rattle.places.specs.Places.{Entered}
+use Rattle.places.proofs.Ports.{entered-more}
+use Rattle.places.proofs.place.Statement.{statement}
+use Rattle.places.proofs.place.Tie as tie
 
 abbrev Inv-loop : tie.InvT-loop
 Inv-loop order w m at₀ i₀ at i = (i ≤ m) × (length at ≡ length at₀) × Entered order w i at

@@ -1,11 +1,11 @@
--- `steps::lowest` meets its contract: what it leaves is a law of Memory. Assumes nothing.
+-- `choices::lowest` meets its contract: what it leaves is a law of Memory. Assumes nothing.
 use Prim.Native.Nat.{_+_, _<_}
 use native.Mathlib.Omega.{arith}
 use borrow.Author.Needs.{needs}
-use Rattle.steps.proofs.Search.{chosen-some}
-use Rattle.steps.proofs.Memory.{settled-strip, settled-learnt, strip-look, strip-chosen, learnt-least}
-use Rattle.steps.proofs.lowest.Statement.{statement}
-use Rattle.steps.proofs.lowest.Tie as tie
+use Rattle.choices.proofs.Search.{chosen-some}
+use Rattle.choices.proofs.Memory.{settled-strip, settled-learnt, strip-look, strip-chosen, learnt-least}
+use Rattle.choices.proofs.lowest.Statement.{statement}
+use Rattle.choices.proofs.lowest.Tie as tie
 
 settle-requires : tie.Need-settle-requires
 settle-requires c κs = search needs

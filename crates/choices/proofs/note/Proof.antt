@@ -1,11 +1,11 @@
--- `steps::note` meets its contract: what it leaves is a law of Memory. Assumes nothing.
+-- `choices::note` meets its contract: what it leaves is a law of Memory. Assumes nothing.
 use Prim.Native.Nat.{_+_}
 use native.Mathlib.Omega.{arith}
 use borrow.Author.Needs.{needs}
 use lib.ListN.{length-set}
-use Rattle.steps.proofs.Memory.{noted-same, noted-set}
-use Rattle.steps.proofs.note.Statement.{statement}
-use Rattle.steps.proofs.note.Tie as tie
+use Rattle.choices.proofs.Memory.{noted-same, noted-set}
+use Rattle.choices.proofs.note.Statement.{statement}
+use Rattle.choices.proofs.note.Tie as tie
 
 slice-read-if1 : tie.Need-slice-read-if1
 slice-read-if1 c = search needs

@@ -12,8 +12,8 @@ use lib.Seq.{getD-set-same, getD-set-other}
 use borrow.Author.Tests.{leb-true, leb-false, ltb-true, ltb-false}
 use Rattle.strips.specs.Lists.{All}
 use Rattle.strips.specs.Prefix.{floor, ceil, floor-le, ceil-le}
-use Rattle.steps.specs.Steps.{portOf, Placed, Entered, Lowest, Highest}
-use Rattle.steps.proofs.Stores.{take-mem, mem-take}
+use Rattle.places.specs.Places.{portOf, Placed, Entered, Lowest, Highest}
+use Rattle.places.proofs.Taken.{take-mem, mem-take}
 
 -- ---- a strip's ends by the ports taken
 

@@ -7,7 +7,8 @@ use native.Mathlib.Omega.{arith}
 use lib.ListN.{length, getD, take, replicate, getD-replicate}
 use Rattle.strips.specs.Prefix.{floor, ceil}
 use Rattle.table.specs.Cell.{boardOf, Leads}
-use Rattle.steps.specs.Steps.{portOf, Chosen}
+use Rattle.places.specs.Places.{portOf}
+use Rattle.choices.specs.Choices.{Chosen}
 
 -- The strip of place k: its first port, and the port after its last.
 abbrev pub startAt : List ℕ → ℕ → ℕ

@@ -1,10 +1,10 @@
--- `steps::above` meets its contract: what it leaves is a law of Memory. Assumes nothing.
+-- `choices::above` meets its contract: what it leaves is a law of Memory. Assumes nothing.
 use Prim.Native.Nat.{_+_, _<_}
 use native.Mathlib.Omega.{arith}
 use borrow.Author.Needs.{needs}
-use Rattle.steps.proofs.Memory.{settled-strip, settled-learnt, strip-look, strip-chosen, learnt-same, most-chosen, learnt-most}
-use Rattle.steps.proofs.above.Statement.{statement}
-use Rattle.steps.proofs.above.Tie as tie
+use Rattle.choices.proofs.Memory.{settled-strip, settled-learnt, strip-look, strip-chosen, learnt-same, most-chosen, learnt-most}
+use Rattle.choices.proofs.above.Statement.{statement}
+use Rattle.choices.proofs.above.Tie as tie
 
 add-if1 : tie.Need-add-if1
 add-if1 c = search needs

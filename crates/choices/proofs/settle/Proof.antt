@@ -1,13 +1,13 @@
--- `steps::settle` meets its contract: the ends of the strip by the list of places are laws of Ports. Assumes nothing.
+-- `choices::settle` meets its contract: the ends of the strip by the list of places are laws of Ports. Assumes nothing.
 use mathlib.Core.Path.{_≡_}
 use native.Mathlib.Omega.{arith}
 use borrow.Author.Needs.{needs}
 use lib.ListN.{getD}
-use Rattle.steps.specs.Memory.{firstPort, endPort}
-use Rattle.steps.proofs.Ports.{low-floor, high-ceil}
-use Rattle.steps.proofs.Search.{lows}
-use Rattle.steps.proofs.settle.Statement.{statement}
-use Rattle.steps.proofs.settle.Tie as tie
+use Rattle.choices.specs.Memory.{firstPort, endPort}
+use Rattle.places.proofs.Ports.{low-floor, high-ceil}
+use Rattle.choices.proofs.Search.{lows}
+use Rattle.choices.proofs.settle.Statement.{statement}
+use Rattle.choices.proofs.settle.Tie as tie
 
 shared-slice-read-j : tie.Need-shared-slice-read-j
 shared-slice-read-j c = search needs

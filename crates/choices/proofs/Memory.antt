@@ -9,8 +9,9 @@ use lib.Seq.{getD-set-same, getD-set-other}
 use Rattle.strips.specs.Prefix.{floor-cong, ceil-cong, ceil-le}
 use Rattle.strips.specs.Places.{At}
 use Rattle.table.specs.Cell.{boardOf, Ready}
-use Rattle.steps.specs.Steps.{portOf, Proper, Working, Begun, Chosen}
-use Rattle.steps.specs.Memory.{
+use Rattle.places.specs.Places.{portOf}
+use Rattle.choices.specs.Choices.{Proper, Working, Begun, Chosen}
+use Rattle.choices.specs.Memory.{
   startAt,
   stopAt,
   leastAt,
@@ -26,8 +27,8 @@ use Rattle.steps.specs.Memory.{
   Noted,
   Learnt,
 }
-use Rattle.steps.proofs.Stores.{store-before}
-use Rattle.steps.proofs.Search.{strip-ready}
+use Rattle.choices.proofs.Stores.{store-before}
+use Rattle.choices.proofs.Search.{strip-ready}
 
 -- ---- a store for one place leaves the others
 

@@ -1,0 +1,73 @@
+-- Laws of the search for a port: the strip it looks in, and what `choose` finds there.
+use mathlib.Core.Path.{refl}
+use mathlib.Core.List.{List}
+use Prim.Native.Nat.{ℕ, _≤_, _<_, max, zero-le}
+use native.Mathlib.Omega.{arith}
+use native.Mathlib.Decide.{decLt}
+use lib.ListN.{length, getD, take}
+use Rattle.strips.specs.Board.{Board}
+use Rattle.strips.specs.Prefix.{floor-most, ceil-least, ceil-le}
+use Rattle.strips.specs.Places.{At, extends-choice, extends-full}
+use Rattle.table.specs.Cell.{boardOf, Pads, Ready, Leads, NextPort}
+use Rattle.places.specs.Places.{portOf}
+use Rattle.choices.specs.Choices.{Proper, Working, Begun, Chosen}
+use Rattle.choices.specs.Memory.{firstPort, endPort}
+use Rattle.choices.specs.Lists.{listed}
+
+-- Every pad lies above ports of the board only.
+pub lows : {order lo hi : List ℕ} → Pads order lo hi → (j : ℕ) → getD lo j 0 ≤ length order
+lows P j = omega (arith, P .level j, P .top j)
+
+-- The strip of the pad at place m is one to look in.
+pub strip-ready : {order cs lo hi hs ts w : List ℕ} → Working order cs lo hi hs ts w → (m : ℕ) → m < length order → Begun order cs lo hi w m
+    → Ready (boardOf order cs lo hi) order m (firstPort order lo w m) (endPort order hi w m)
+strip-ready {order} {cs} {lo} {hi} {w = w} W m inside E = record {
+  ports = ceil-le (portOf w) (getD hi (getD order m 0) 0) (take m order) (length order);
+  listed = inside;
+  here = record {
+    low = floor-most (portOf w) (getD lo (getD order m 0) 0) (take m order) 0 zero-le;
+    high = ceil-least (portOf w) (getD hi (getD order m 0) 0) (take m order) (length order) (W .proper .pads .top (getD order m 0));
+  };
+  full = extends-full (boardOf order cs lo hi) (length order) order (listed (W .proper)) m inside (portOf w) refl E;
+}
+
+-- What `choose` finds in a strip a .. b - 1.
+module _ (B : Board) (order : List ℕ) (m a b from : ℕ) where
+  pub choose-past : b ≤ max a from → Chosen (Leads B order m a b) from 64
+  choose-past h = record {
+    start = λ u. absurd (omega arith);
+    found = λ u. absurd (omega arith);
+    passed = λ i u v l. absurd (omega (arith, l .low, l .high));
+  }
+
+  module _ (q : ℕ) (N : NextPort (Leads B order m a b) (max a from) b q) where
+    pub choose-none : b ≤ q → Chosen (Leads B order m a b) from 64
+    choose-none h = record {
+      start = λ u. absurd (omega arith);
+      found = λ u. absurd (omega arith);
+      passed = λ i u v l. N .passed i (omega (arith, l .low)) (omega (arith, l .high)) l;
+    }
+
+    pub choose-found : q < b → Chosen (Leads B order m a b) from q
+    choose-found h = record {
+      start = λ u. omega (arith, N .start);
+      found = λ u. N .found h;
+      passed = λ i u v l. N .passed i (omega (arith, l .low)) v l;
+    }
+
+-- A port is below 64.
+pub port-few : {order cs lo hi : List ℕ} (P : Proper order cs lo hi) (w : List ℕ) (m r : ℕ) → At (boardOf order cs lo hi) (length order) order (portOf w) m r → r < 64
+port-few {order} {cs} {lo} {hi} P w m r c =
+    let u = ceil-le (portOf w) (getD hi (getD order m 0) 0) (take m order) (length order) in omega (arith, c .high, P .pads .few)
+
+-- A prefix of a best layout can go on.
+pub chosen-some : {order cs lo hi : List ℕ} (w : List ℕ) (P : Proper order cs lo hi) (m : ℕ) → m < length order → Begun order cs lo hi w m → (q : ℕ)
+    → Chosen (At (boardOf order cs lo hi) (length order) order (portOf w) m) 0 q → q < 64
+chosen-some {order} {cs} {lo} {hi} w P m inside E q C = go (decLt q 64)
+  where
+    c : At (boardOf order cs lo hi) (length order) order (portOf w) m (E .layout (getD order m 0))
+    c = extends-choice (boardOf order cs lo hi) (length order) order (listed P) m inside (portOf w) E
+
+    go : Dec (q < 64) → q < 64
+    go (yes h) = h
+    go (no h) = absurd (C .passed (E .layout (getD order m 0)) zero-le (omega (arith, port-few P w m (E .layout (getD order m 0)) c)) c)

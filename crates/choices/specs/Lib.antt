@@ -1,0 +1,4 @@
+-- Choices: the definitions that the contracts cite. Memory: those of what a walk remembers. Lists: what a proper board is to the theory.
+pub mod Choices
+pub mod Memory
+pub mod Lists

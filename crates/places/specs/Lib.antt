@@ -1,0 +1,2 @@
+-- Places: the definitions that the contracts cite.
+pub mod Places
