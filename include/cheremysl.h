@@ -149,7 +149,9 @@
  *
  * The calls keep no state: no static variables, no heap, no locks, no files, no errno. Any
  * number of threads may call at once, on one job too, as long as no list that one of them
- * writes is used by another meanwhile.
+ * writes is used by another meanwhile. The calls raise no floating-point exception and leave
+ * modes and flags as they were, whatever the caller's registers hold; rounding mode and treatment
+ * of denormals make no difference to them.
  *
  * Working memory is on the stack: at most 64 KiB in any call (CHEREMYSL_STACK_BYTES). As built, a
  * call takes so many bytes at most, whatever it is given, from its return address on:

@@ -55,19 +55,25 @@ try() {
     passed=$((passed + ${counts% *} + 0)) failed=$((failed + ${counts#* } + 0))
 }
 
-# build FILE PROGRAM FLAGS..
+# What the tests share is compiled once as it is and once sanitized.
+plain="-std=c99 -O2" checked="-std=c11 -O1 -g $sanitize"
+for file in trial questions guard boards plain; do
+    $cc $strict $plain -c -o $out/$file.o tests/$file.c && $cc $strict $checked -c -o $out/$file-sanitized.o tests/$file.c ||
+        fail "$file.c does not compile"
+done
+
+# build FILE PROGRAM SUFFIX FLAGS..: with the shared objects of that suffix
 build() {
-    file=$1 program=$2
-    shift 2
-    $cc $strict "$@" $static -o $out/$file \
-        tests/$program.c tests/trial.c tests/questions.c tests/guard.c tests/boards.c tests/plain.c "$archive" ||
-        { fail "$file does not compile"; false; }
+    file=$1 program=$2 suffix=$3
+    shift 3
+    $cc $strict "$@" $static -o $out/$file tests/$program.c $out/trial$suffix.o $out/questions$suffix.o \
+        $out/guard$suffix.o $out/boards$suffix.o $out/plain$suffix.o "$archive" || { fail "$file does not compile"; false; }
 }
 
 # both PROGRAM [COUNT CHECKED_COUNT]: as it is, and sanitized; random trials with different seeds
 both() {
-    build $1 $1 -std=c99 -O2 && try $1 $out/$1 ${2:+$(($2 * times)) $seed}
-    build $1-sanitized $1 -std=c11 -O1 -g $sanitize &&
+    build $1 $1 "" $plain && try $1 $out/$1 ${2:+$(($2 * times)) $seed}
+    build $1-sanitized $1 -sanitized $checked &&
         try "$1, sanitized" $out/$1-sanitized ${3:+$(($3 * times)) $((seed + 1))}
 }
 
@@ -96,9 +102,9 @@ if [ $search ]; then
     both pages 200 20
 fi
 # Traps and registers as they happen to be are not for the sanitizers.
-build floats floats -std=c99 -O2 && try floats $out/floats $((600 * times)) $seed
+build floats floats "" $plain && try floats $out/floats $((600 * times)) $seed
 # A stack of its own is not for the sanitizers. Bound at the start: binding a function when it is first called takes stack.
-build stack stack -std=c99 -O2 -Wl,-z,now && try stack $out/stack
+build stack stack "" $plain -Wl,-z,now && try stack $out/stack
 
 # The header and the README state the figures that the test holds the calls to.
 figures=$(sed -En 's/^([A-Z][a-z]+) .* stack, ([0-9]+) stated$/\1:\2/p' $out/log | sed -E 's/[0-9]{3}$/,&/; s/:,/:/')
