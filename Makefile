@@ -2,7 +2,8 @@
 # make examples  the C examples and cheremysl-draw, into build/
 # make install   PREFIX=/usr/local DESTDIR=: archive, header, pkg-config file, man pages, program, sample jobs
 # make test      the gate
-# make bench     instructions and seconds
+# make bench     instructions beside plain C's, into docs/SPEED.md
+# make times     microseconds on this machine
 # make fuzz      SECONDS=600: the fuzz trial for longer
 # make pictures  the drawings in docs/
 # make clean     removes all that was built
@@ -59,8 +60,11 @@ install: all
 test:
 	tests/gate
 
-bench:
-	@if [ -x bench/run ]; then bench/run; else echo 'there is no bench/run'; fi
+bench: $(archive)
+	bench/run --write $(archive)
+
+times: $(archive)
+	bench/run --times $(archive)
 
 fuzz:
 	tests/fuzz.sh $(SECONDS)
@@ -69,4 +73,4 @@ clean:
 	rm -rf target build
 
 .NOTPARALLEL:
-.PHONY: all examples pictures install test bench fuzz clean
+.PHONY: all examples pictures install test bench times fuzz clean

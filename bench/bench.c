@@ -1,13 +1,15 @@
 /*
  * bench.c: the library beside the plain C program, on the same jobs.
  *
- *   bench same TRIALS SEED               both on random jobs, sound and spoilt: fails if an answer, a list or a page
- *                                        differs
- *   bench CALL BOARD PADS WHO TIMES      TIMES calls by WHO: none, ours or plain; all else is the same for the three,
- *                                        so that instructions of the calls are had by subtraction. Prints the answer
+ *   bench same TRIALS SEED  both on random jobs, sound and spoilt: fails if an answer, a list or a page differs
+ *   bench count             each call on each board at 8, 16, 32 and 64 pads, by ours and plain, marked for the emulator,
+ *                           which counts instructions. Prints CALL BOARD PADS WHO ANSWER
  */
+#define _POSIX_C_SOURCE 200112L /* getppid */
+
 #include "../tests/boards.h"
 #include "cheremysl.h"
+#include "measured.h"
 #include "plain.h"
 
 #include <inttypes.h>
@@ -15,6 +17,7 @@
 #include <stdio.h>
 #include <stdlib.h>
 #include <string.h>
+#include <unistd.h>
 
 #define ENTRIES (CHEREMYSL_MAX_RECORDS + 2) /* two that must keep what they hold */
 #define LAYOUTS 20                          /* on a page that is measured */
@@ -44,10 +47,6 @@ static int64_t our_page(const uint8_t *of, size_t size, uint32_t lw, uint32_t bw
 }
 static int64_t their_page(const uint8_t *of, size_t size, uint32_t lw, uint32_t bw, uint16_t *layout, size_t count) {
     return c_page(of, size, lw, bw, layout, count, page, page_entries);
-}
-static int64_t nothing(const uint8_t *of, size_t size, uint32_t lw, uint32_t bw, uint16_t *layout, size_t count) {
-    (void)of, (void)size, (void)lw, (void)bw, (void)count;
-    return layout[0];
 }
 
 static call_of *const ours[CALLS] = {cheremysl_first, cheremysl_next, our_page, our_measure};
@@ -79,66 +78,41 @@ static int64_t both(int call, uint16_t *layout) {
     exit(1);
 }
 
-/* ---- the boards that are measured: ports 10 apart ---- */
+/* ---- counting ---- */
 
-enum { RANDOM, EVEN_SPREAD, MIDDLE, TIES, RIGHT, ABOVE_ALL, KINDS };
-static const char *const board_names[KINDS] = {"random", "even", "middle", "ties", "right", "above"};
+/* Every second mark ends a stretch, whose instructions the emulator's plugin prints (insns.c). */
+static void mark(void) { (void)getppid(); }
 
-/* On the last two only the rightmost pads, ten at most, have a choice: every step goes over all others. */
-static bool at_the_right(int kind) { return kind == RIGHT || kind == ABOVE_ALL; }
-
-static int64_t height(int kind, int n, int i) {
-    if (at_the_right(kind) && i < n / 4 * 2 && i < 10) kind = TIES;
-    switch (kind) {
-    case RANDOM: return below((uint32_t)(10 * n)); /* anywhere beside the ports */
-    case EVEN_SPREAD: return 10 * i + 5;           /* one in each gap between ports */
-    case MIDDLE: return 5 * n - 5;                 /* all in the middle gap; weights 0: every untouching sheet is best */
-    case RIGHT: return 10 * i - 2;                 /* each just below a port of its own */
-    case ABOVE_ALL: return 10 * n;                 /* above all ports: few strips can be filled */
-    default: return 10 * (i / 2 * 2) + 5;          /* two in every second gap: 2 to the n/2 best sheets */
-    }
+/* One call between marks; prints it with its answer. A dozen instructions are the caller's, the same for both. */
+static void count_one(int call, call_of *by, const char *who, const char *board, const uint16_t *start) {
+    uint16_t layout[ENTRIES];
+    memcpy(layout, start, sizeof layout);
+    mark();
+    int64_t answer = ask(by, layout);
+    mark();
+    printf("%s %s %zu %s %" PRId64 "\n", call_names[call], board, bytes / CHEREMYSL_RECORD_BYTES, who, answer);
 }
 
-static void make_measured(int kind, int n) {
-    int x[CHEREMYSL_MAX_RECORDS];
-    seed_random((uint64_t)(100 * kind + n));
-    for (int i = 0; i < n; i++) { /* in random order from right to left .. */
-        int k = (int)below((uint32_t)i + 1);
-        if (k < i) x[i] = x[k];
-        x[k] = 10 * (i + 1);
-    }
-    if (at_the_right(kind)) /* .. or the lower the further right: that leaves the widest strips */
-        for (int i = 0; i < n; i++) x[i] = 10 * (n - i);
-    for (int i = 0; i < n; i++) put_record(job, (size_t)i, 101 + i, x[i], height(kind, n, i), 10 * i);
-    bytes = CHEREMYSL_RECORD_BYTES * (size_t)n;
-    length_weight = kind == MIDDLE ? 0 : 1;
-    bend_weight = 0;
-}
-
-static int number_of(const char *word, const char *const *names, int count) {
-    for (int k = 0; k < count; k++)
-        if (strcmp(word, names[k]) == 0) return k;
-    fprintf(stderr, "bench: what is '%s'?\n", word);
-    exit(2);
-}
-
-/* Next and Page go on from First's sheet, every time; Measure measures it. */
-static int measure_calls(char **words) {
-    int call = number_of(words[0], call_names, CALLS), kind = number_of(words[1], board_names, KINDS);
-    int n = atoi(words[2]), times = atoi(words[4]);
-    call_of *run = strcmp(words[3], "ours") == 0 ? ours[call] : strcmp(words[3], "plain") == 0 ? plain[call] : nothing;
-    uint16_t start[ENTRIES] = {0}, layout[ENTRIES] = {0};
-    int64_t answer = 0;
-    make_measured(kind, n);
+/* Next and Page go on from First's sheet; Measure measures it. */
+static void count_board(enum measured kind, int n) {
+    uint16_t start[ENTRIES] = {0};
+    struct given g = make_measured(kind, n);
+    memcpy(job, g.job, sizeof job);
+    bytes = g.bytes, length_weight = g.length_weight, bend_weight = 0;
     page_entries = LAYOUTS * (size_t)n;
     both(FIRST, start);
-    memcpy(layout, start, sizeof layout);
-    both(call, layout);
-    for (int k = 0; k < times; k++) {
+    for (int call = 0; call < CALLS; call++) {
+        uint16_t layout[ENTRIES];
         memcpy(layout, start, sizeof layout);
-        answer = ask(run, layout);
+        both(call, layout);
+        count_one(call, ours[call], "ours", measured_names[kind], start);
+        count_one(call, plain[call], "plain", measured_names[kind], start);
     }
-    printf("%" PRId64 "\n", answer);
+}
+
+static int count_all(void) {
+    for (int kind = 0; kind < KINDS; kind++)
+        for (int n = 8; n <= CHEREMYSL_MAX_RECORDS; n *= 2) count_board((enum measured)kind, n);
     return 0;
 }
 
@@ -217,7 +191,7 @@ static int same(int trials, int seed) {
 
 int main(int count, char **words) {
     if (count == 4 && strcmp(words[1], "same") == 0) return same(atoi(words[2]), atoi(words[3]));
-    if (count == 6) return measure_calls(words + 1);
-    fprintf(stderr, "usage: bench same TRIALS SEED | bench CALL BOARD PADS WHO TIMES\n");
+    if (count == 2 && strcmp(words[1], "count") == 0) return count_all();
+    fprintf(stderr, "usage: bench same TRIALS SEED | bench count\n");
     return 2;
 }

@@ -1,7 +1,8 @@
 /*
- * insns.c: a plugin for qemu-user that prints how many instructions the guest ran: the same number on every run and
- * every machine, where a time is not. The declarations are those of its plugin interface, which has been the same for
- * these since version 1; a qemu takes a plugin only if VERSION suits it.
+ * insns.c: a plugin for qemu-user that prints how many instructions the guest ran from one mark to the next, for every
+ * second mark: the same numbers on every run and every machine, which times are not. A mark is the system call getppid.
+ * The declarations are those of its plugin interface, which has been the same for these since version 1; a qemu takes a
+ * plugin only if VERSION suits it.
  */
 #include <inttypes.h>
 #include <stddef.h>
@@ -10,32 +11,45 @@
 int qemu_plugin_version = VERSION;
 
 struct qemu_plugin_tb; /* a block of instructions, translated once and then run many times */
+struct qemu_plugin_insn;
 size_t qemu_plugin_tb_n_insns(const struct qemu_plugin_tb *block);
+struct qemu_plugin_insn *qemu_plugin_tb_get_insn(const struct qemu_plugin_tb *block, size_t place);
 void qemu_plugin_register_vcpu_tb_trans_cb(uint64_t id, void (*call)(uint64_t, struct qemu_plugin_tb *));
-void qemu_plugin_register_vcpu_tb_exec_cb(struct qemu_plugin_tb *block, void (*call)(unsigned, void *), int flags,
-                                          void *data);
-void qemu_plugin_register_atexit_cb(uint64_t id, void (*call)(uint64_t, void *), void *data);
+void qemu_plugin_register_vcpu_insn_exec_cb(struct qemu_plugin_insn *one, void (*call)(unsigned, void *), int flags,
+                                            void *data);
+typedef void system_call(uint64_t id, unsigned cpu, int64_t number, uint64_t, uint64_t, uint64_t, uint64_t, uint64_t,
+                         uint64_t, uint64_t, uint64_t);
+void qemu_plugin_register_vcpu_syscall_cb(uint64_t id, system_call *call);
 
-static uint64_t ran;
+#define GETPPID 110 /* in x86-64 Linux */
 
-static void runs(unsigned cpu, void *size) {
-    (void)cpu;
-    ran += (uintptr_t)size;
+static uint64_t ran, begun;
+static int within;
+
+static void runs(unsigned cpu, void *data) {
+    (void)cpu, (void)data;
+    ran++;
 }
 
+/* One by one: a block's size may count an instruction that the next block has again. */
 static void translated(uint64_t id, struct qemu_plugin_tb *block) {
     (void)id;
-    qemu_plugin_register_vcpu_tb_exec_cb(block, runs, 0, (void *)(uintptr_t)qemu_plugin_tb_n_insns(block));
+    for (size_t k = 0; k < qemu_plugin_tb_n_insns(block); k++)
+        qemu_plugin_register_vcpu_insn_exec_cb(qemu_plugin_tb_get_insn(block, k), runs, 0, NULL);
 }
 
-static void ended(uint64_t id, void *data) {
-    (void)id, (void)data;
-    fprintf(stderr, "instructions %" PRIu64 "\n", ran);
+static void marked(uint64_t id, unsigned cpu, int64_t number, uint64_t a, uint64_t b, uint64_t c, uint64_t d, uint64_t e,
+                   uint64_t f, uint64_t g, uint64_t h) {
+    (void)id, (void)cpu, (void)a, (void)b, (void)c, (void)d, (void)e, (void)f, (void)g, (void)h;
+    if (number != GETPPID) return;
+    if (within) fprintf(stderr, "%" PRIu64 "\n", ran - begun);
+    within = !within;
+    begun = ran;
 }
 
 int qemu_plugin_install(uint64_t id, const void *info, int count, char **words) {
     (void)info, (void)count, (void)words;
     qemu_plugin_register_vcpu_tb_trans_cb(id, translated);
-    qemu_plugin_register_atexit_cb(id, ended, NULL);
+    qemu_plugin_register_vcpu_syscall_cb(id, marked);
     return 0;
 }

@@ -1,0 +1,41 @@
+#include "measured.h"
+
+#include "../tests/boards.h"
+
+#include <stdbool.h>
+
+const char *const measured_names[KINDS] = {"random", "even", "middle", "ties", "right", "above"};
+
+/* On these every step goes over all pads but the rightmost. */
+static bool at_the_right(enum measured kind) { return kind == RIGHT || kind == ABOVE_ALL; }
+
+static int64_t height(enum measured kind, int n, int i) {
+    if (at_the_right(kind) && i < n / 4 * 2 && i < 10) kind = TIES;
+    switch (kind) {
+    case RANDOM: return below((uint32_t)(10 * n));
+    case EVEN_SPREAD: return 10 * i + 5;
+    case MIDDLE: return 5 * n - 5;
+    case RIGHT: return 10 * i - 2;
+    case ABOVE_ALL: return 10 * n;
+    default: return 10 * (i / 2 * 2) + 5;
+    }
+}
+
+/* In random order from right to left, or the lower the further right: that leaves the widest strips. */
+static void place(enum measured kind, int n, int *x) {
+    for (int i = 0; i < n; i++) {
+        int k = (int)below((uint32_t)i + 1);
+        if (k < i) x[i] = x[k];
+        x[k] = 10 * (i + 1);
+    }
+    for (int i = 0; i < n && at_the_right(kind); i++) x[i] = 10 * (n - i);
+}
+
+struct given make_measured(enum measured kind, int n) {
+    struct given g = {{0}, 16 * (size_t)n, kind != MIDDLE};
+    int x[64];
+    seed_random((uint64_t)(100 * (int)kind + n));
+    place(kind, n, x);
+    for (int i = 0; i < n; i++) put_record(g.job, (size_t)i, 101 + i, x[i], height(kind, n, i), 10 * i);
+    return g;
+}

@@ -1,0 +1,29 @@
+/* measured.h: the boards on which calls are counted and timed. Ports are 10 apart. */
+#ifndef MEASURED_H
+#define MEASURED_H
+
+#include <stddef.h>
+#include <stdint.h>
+
+enum measured {
+    RANDOM,      /* pad heights anywhere beside the ports */
+    EVEN_SPREAD, /* a pad in each gap between ports */
+    MIDDLE,      /* all pads in the middle gap; length weight 0, so that every untouching sheet is best */
+    TIES,        /* two pads in every second gap: 2 to the n/2 best sheets */
+    RIGHT,       /* only the rightmost pads, ten at most, have a choice; the others each just below a port .. */
+    ABOVE_ALL,   /* .. or all above all ports, so that few strips can be filled */
+    KINDS
+};
+
+extern const char *const measured_names[KINDS];
+
+/* What First and the others are given; the bend weight is 0. */
+struct given {
+    uint8_t job[1024];
+    size_t bytes;
+    uint32_t length_weight;
+};
+
+struct given make_measured(enum measured kind, int n);
+
+#endif
