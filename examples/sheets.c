@@ -1,6 +1,8 @@
 /* sheets JOB: every best sheet of a job file, with the points of its leaders. */
 #include <cheremysl.h>
+#include <errno.h>
 #include <stdio.h>
+#include <stdlib.h>
 #include <string.h>
 
 #define SHEETS 4 /* on a page */
@@ -16,15 +18,26 @@ static void show(const uint8_t *job, size_t bytes, const uint16_t *layout, int64
     }
 }
 
+static size_t read_job(const char *name, uint8_t *job, size_t room) {
+    FILE *file = fopen(name, "rb");
+    size_t bytes = file == NULL ? 0 : fread(job, 1, room, file);
+    if (file == NULL || ferror(file)) {
+        const char *what = file == NULL ? "open" : "read";
+        fprintf(stderr, "sheets: cannot %s %s: %s\n", what, name, strerror(errno));
+        exit(2);
+    }
+    fclose(file);
+    return bytes;
+}
+
 int main(int argc, char **argv) {
     uint8_t job[CHEREMYSL_MAX_JOB_BYTES + 1]; /* a byte more: a longer file is refused too */
     uint16_t layout[CHEREMYSL_MAX_RECORDS], page[SHEETS * CHEREMYSL_MAX_RECORDS];
-    FILE *file = argc == 2 ? fopen(argv[1], "rb") : NULL;
-    if (file == NULL) {
+    if (argc != 2) {
         fprintf(stderr, "usage: sheets JOB\n");
         return 2;
     }
-    size_t bytes = fread(job, 1, sizeof job, file), n = bytes / CHEREMYSL_RECORD_BYTES;
+    size_t bytes = read_job(argv[1], job, sizeof job), n = bytes / CHEREMYSL_RECORD_BYTES;
     int64_t total = cheremysl_first(job, bytes, 1, 0, layout, CHEREMYSL_MAX_RECORDS);
     if (cheremysl_is_refusal(total)) {
         printf("refused %d record %d\n", cheremysl_refusal_number(total),
