@@ -2,8 +2,9 @@
  * times.c: how long the calls take on this machine, in microseconds, and how many sheets a second are listed by pages
  * of several sizes. Prints two tables in Markdown.
  *
- * A time is the median of many stretches, each of as many calls as take 50 microseconds, with job and lists in the
- * cache. Of the six boards the smallest and the largest are printed. Boards and starting sheets are those of bench.c.
+ * A time is a median of many stretches, each of as many calls as take 50 microseconds, with job and lists in the cache.
+ * All is timed several times over, and the smallest times count: other programs on the machine only make them longer. Of
+ * the six boards the smallest and the largest are printed. Boards and starting sheets are those of bench.c.
  */
 #define _POSIX_C_SOURCE 199309L /* clock_gettime */
 
@@ -15,11 +16,14 @@
 #include <string.h>
 #include <time.h>
 
-#define STRETCHES 201
+#define ROUNDS 15      /* over everything */
+#define STRETCHES 41   /* that a median is of */
 #define SHORTEST 50e-6 /* seconds of a stretch */
-#define LISTING 0.5    /* seconds of a listing */
+#define LISTING 0.1    /* seconds of a listing */
 #define LARGEST 10000  /* layouts on a page */
 #define ENTRIES CHEREMYSL_MAX_RECORDS
+
+enum { CALLS = 5, SIZES = 4, LISTINGS = 2, PAGES = 4 };
 
 static struct given on;
 static size_t pads;
@@ -45,7 +49,7 @@ static void draw(void) {
 static const struct {
     const char *name;
     void (*call)(void);
-} calls[] = {
+} calls[CALLS] = {
     {"First", first}, {"Next", next}, {"Page of 20", page_of_20}, {"Measure", measure}, {"Draw, one leader", draw}};
 
 static void take_board(int kind, int n) {
@@ -64,9 +68,9 @@ static double seconds(void) {
     return (double)t.tv_sec + 1e-9 * (double)t.tv_nsec;
 }
 
-static double stretch(void (*call)(void), int times) {
+static double stretch(void (*call)(void), int many) {
     double begun = seconds();
-    for (int k = 0; k < times; k++) call();
+    for (int k = 0; k < many; k++) call();
     return seconds() - begun;
 }
 
@@ -77,36 +81,15 @@ static int by_size(const void *a, const void *b) {
 
 /* Of one call, in microseconds. */
 static double median(void (*call)(void)) {
-    double times[STRETCHES];
+    double took[STRETCHES];
     int many = 1;
     while (stretch(call, many) < SHORTEST) many *= 2;
-    for (int k = 0; k < STRETCHES; k++) times[k] = stretch(call, many) / many;
-    qsort(times, STRETCHES, sizeof *times, by_size);
-    return 1e6 * times[STRETCHES / 2];
+    for (int k = 0; k < STRETCHES; k++) took[k] = 1e6 * stretch(call, many) / many;
+    qsort(took, STRETCHES, sizeof *took, by_size);
+    return took[STRETCHES / 2];
 }
 
-/* As many figures as say something: 0.42, 4.2, 42. */
-static void print_figure(double value) { printf("%.*f", value < 1 ? 2 : value < 10 ? 1 : 0, value); }
-
-static void time_call(void (*call)(void), int n) {
-    double least = 0, most = 0;
-    for (int kind = 0; kind < KINDS; kind++) {
-        take_board(kind, n);
-        double time = median(call);
-        if (kind == 0 || time < least) least = time;
-        if (kind == 0 || time > most) most = time;
-    }
-    printf(" ");
-    print_figure(least);
-    printf(" to ");
-    print_figure(most);
-    printf(" |");
-    fflush(stdout);
-}
-
-/* ---- listing ---- */
-
-/* Sheets a second, from First's on, for half a second: none of these boards comes to its end by then. */
+/* Sheets a second, from First's on, for a while: none of these boards comes to its end by then. */
 static double listed(size_t on_page) {
     double begun = seconds(), took = 0, sheets = 0;
     memcpy(layout, start, sizeof layout);
@@ -120,27 +103,70 @@ static double listed(size_t on_page) {
     return sheets / took;
 }
 
-static void time_listing(int kind, int n) {
-    static const size_t sizes[] = {1, 20, 1000, LARGEST};
-    take_board(kind, n);
-    printf("| %s, %d pads |", measured_names[kind], n);
-    for (size_t k = 0; k < sizeof sizes / sizeof *sizes; k++) {
-        printf(" ");
-        print_figure(listed(sizes[k]) / 1000);
-        printf(" |");
-    }
+/* ---- the tables ---- */
+
+static const int sizes[SIZES] = {8, 16, 32, 64};
+static double times[CALLS][SIZES][KINDS];
+
+static const enum measured many_sheets[LISTINGS] = {TIES, MIDDLE};
+static const size_t on_page[PAGES] = {1, 20, 1000, LARGEST};
+static double rates[LISTINGS][PAGES];
+
+static double smaller(double a, double b) { return a < b ? a : b; }
+static double larger(double a, double b) { return a > b ? a : b; }
+
+/* The smallest so far; 0: none yet. */
+static void keep_smallest(double *time, double now) { *time = *time == 0 ? now : smaller(*time, now); }
+
+static void time_board(int size, int kind) {
+    take_board(kind, sizes[size]);
+    for (int c = 0; c < CALLS; c++) keep_smallest(&times[c][size][kind], median(calls[c].call));
+}
+
+static void time_listing(int which) {
+    take_board(many_sheets[which], CHEREMYSL_MAX_RECORDS);
+    for (int p = 0; p < PAGES; p++) rates[which][p] = larger(rates[which][p], listed(on_page[p]));
+}
+
+static void one_round(void) {
+    for (int k = 0; k < SIZES * KINDS; k++) time_board(k / KINDS, k % KINDS);
+    for (int which = 0; which < LISTINGS; which++) time_listing(which);
+}
+
+/* As many figures as say something: 0.42, 4.2, 42; 4,200. */
+static void print_figure(const char *before, double value) {
+    long whole = (long)(value + 0.5);
+    if (whole < 1000)
+        printf("%s%.*f", before, value < 1 ? 2 : value < 10 ? 1 : 0, value);
+    else
+        printf("%s%ld,%03ld", before, whole / 1000, whole % 1000);
+}
+
+static void print_range(const double *of) {
+    double least = of[0], most = of[0];
+    for (int kind = 1; kind < KINDS; kind++) least = smaller(least, of[kind]), most = larger(most, of[kind]);
+    print_figure(" ", least);
+    print_figure(" to ", most);
+    printf(" |");
+}
+
+static void print_call(int c) {
+    printf("| %s |", calls[c].name);
+    for (int size = 0; size < SIZES; size++) print_range(times[c][size]);
+    printf("\n");
+}
+
+static void print_listing(int which) {
+    printf("| *%s*, 64 pads |", measured_names[many_sheets[which]]);
+    for (int p = 0; p < PAGES; p++) print_figure(" ", rates[which][p] / 1000), printf(" |");
     printf("\n");
 }
 
 int main(void) {
+    for (int k = 0; k < ROUNDS; k++) one_round();
     printf("| microseconds | 8 pads | 16 pads | 32 pads | 64 pads |\n|---|---|---|---|---|\n");
-    for (size_t k = 0; k < sizeof calls / sizeof *calls; k++) {
-        printf("| %s |", calls[k].name);
-        for (int n = 8; n <= CHEREMYSL_MAX_RECORDS; n *= 2) time_call(calls[k].call, n);
-        printf("\n");
-    }
+    for (int c = 0; c < CALLS; c++) print_call(c);
     printf("\n| thousand sheets a second, on pages of | 1 | 20 | 1,000 | 10,000 |\n|---|---|---|---|---|\n");
-    time_listing(TIES, 64);
-    time_listing(MIDDLE, 64);
+    for (int which = 0; which < LISTINGS; which++) print_listing(which);
     return 0;
 }
