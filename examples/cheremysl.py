@@ -1,0 +1,183 @@
+#!/usr/bin/env python3
+"""cheremysl.py JOB: every best sheet of a job file, its total and then the port number of each pad
+
+The status is 0 for sheets, 1 for a refused job, 2 for any other failure.
+
+As a module, the calls of the shared library for Python:
+
+    library = Cheremysl()
+    job = job_of([(101, 10, 15, 10), (102, 20, 15, 20)])  # name, x, y, port height of each record
+    total, ports = library.first(job)
+    for total, ports in library.sheets(job, length_weight=1, bend_weight=0): ...
+
+A job is bytes, a layout any sequence of port numbers, which is only read. What C's list would hold
+afterwards is returned. A refusal is an exception, Refusal; the end is None. A number that does not
+fit C's type is an OverflowError. The manual is cheremysl(3).
+"""
+import array
+import ctypes
+import os
+import signal
+import struct
+import sys
+
+RECORD = struct.Struct("<HHIii")  # name, reserved, x, y, port height: 16 bytes, little-endian
+MAX_RECORDS = 64
+DRAW_FLOATS = 6
+PAGE_SHEETS = 20  # fetched at once
+END = -1
+
+TEXTS = {  # as cheremysl_refusal_text of the C header has them
+    1: "The job is not 1 to 64 records of 16 bytes.",
+    2: "A weight is above 1,000.",
+    3: "The list of ports, or of points, is too short.",
+    4: "A number of this record is outside its range.",
+    5: "The port of this record is not above the port of the record before.",
+    6: "The name of this record stands in an earlier record too.",
+    7: "The x of this record stands in an earlier record too.",
+    8: "The port given to this record is not there, or an earlier record has it.",
+    9: "The leader of this record touches the leader of an earlier record.",
+    10: "No two leaders touch, but another sheet has a smaller total.",
+    11: "There is no pad, or no port, of the number given.",
+    12: "The port of this record is less than 8 above the port of the record before.",
+}
+
+
+class Refusal(Exception):
+    """A call's refusal: its number, the record at fault, in refusal 9 the earlier one, else None."""
+
+    def __init__(self, number, record, earlier=None):
+        super().__init__(number, record, earlier)
+        self.number, self.record, self.earlier = number, record, earlier
+
+    def __str__(self):
+        pair = "" if self.earlier is None else f" and record {self.earlier}"
+        text = TEXTS.get(self.number, "The library has a reason that is not known here.")
+        return f"refused {self.number} record {self.record}{pair}: {text}"
+
+
+def job_of(records):
+    """The bytes of a job, from a name, x, y and port height for each record."""
+    return b"".join(RECORD.pack(name, 0, x, y, port) for name, x, y, port in records)
+
+
+def records_in(job):
+    """n, the number of a job's records."""
+    return len(job) // RECORD.size
+
+
+def taken_apart(answer):
+    """A call's answer, or the refusal that it stands for."""
+    if answer >= END:
+        return answer
+    earlier, rest = divmod(-answer, 1 << 32)
+    number, record = divmod(rest, 1 << 16)
+    raise Refusal(number, record, earlier if number == 9 else None)
+
+
+def word(number):
+    """A number for C's uint32_t: ctypes would drop what does not fit."""
+    return array.array("I", [number])[0]
+
+
+def lent(kind, values):
+    """The values as a list for C, and their number."""
+    count = len(values)
+    return (kind * count).from_buffer(values) if count else (kind * 0)(), count
+
+
+def layout_of(ports):
+    return lent(ctypes.c_uint16, array.array("H", ports))
+
+
+class Cheremysl:
+    """The library: by its path, by the path in CHEREMYSL_LIBRARY, or where the loader finds it."""
+
+    def __init__(self, path=None):
+        path = path or os.environ.get("CHEREMYSL_LIBRARY") or "libcheremysl.so.1"
+        library = ctypes.CDLL(path)
+        job, number = [ctypes.POINTER(ctypes.c_uint8), ctypes.c_size_t], ctypes.c_uint32
+        layout = [ctypes.POINTER(ctypes.c_uint16), ctypes.c_size_t]
+        points = [ctypes.POINTER(ctypes.c_float), ctypes.c_size_t]
+
+        def call(name, *lists):
+            function = getattr(library, "cheremysl_" + name)
+            function.argtypes, function.restype = job + [number, number, *lists], ctypes.c_int64
+            return function
+
+        self._first, self._next = call("first", *layout), call("next", *layout)
+        self._page = call("page", *layout, *layout)
+        self._measure, self._draw = call("measure", *layout), call("draw", *points)
+
+    @staticmethod
+    def _ask(call, job, a, b, *lists):
+        job = lent(ctypes.c_uint8, bytearray(memoryview(job)))
+        return taken_apart(call(*job, word(a), word(b), *lists))
+
+    def first(self, job, length_weight=1, bend_weight=0):
+        """The earliest best sheet: its total, and the list of its port numbers."""
+        layout, entries = layout_of([0] * MAX_RECORDS)
+        total = self._ask(self._first, job, length_weight, bend_weight, layout, entries)
+        return total, layout[: records_in(job)]
+
+    def next_(self, job, layout, length_weight=1, bend_weight=0):
+        """The best sheet after a given one, as from first; None at the end."""
+        layout, entries = layout_of(layout)
+        total = self._ask(self._next, job, length_weight, bend_weight, layout, entries)
+        return None if total == END else (total, layout[: records_in(job)])
+
+    def page(self, job, layout, sheets, length_weight=1, bend_weight=0):
+        """The best sheets after a given one, so many at most: a list of lists of port numbers."""
+        n = records_in(job)
+        page, room = layout_of([0] * (sheets * n))
+        weights = length_weight, bend_weight
+        written = self._ask(self._page, job, *weights, *layout_of(layout), page, room)
+        return [page[k * n : (k + 1) * n] for k in range(written)]
+
+    def measure(self, job, layout, length_weight=1, bend_weight=0):
+        """The total of a sheet without touching leaders, best or not."""
+        return self._ask(self._measure, job, length_weight, bend_weight, *layout_of(layout))
+
+    def draw(self, job, record, port):
+        """The points of the leader from a record's pad to a port: two or three pairs x, y."""
+        points = (ctypes.c_float * DRAW_FLOATS)()
+        count = self._ask(self._draw, job, record, port, points, DRAW_FLOATS)
+        return [(points[2 * k], points[2 * k + 1]) for k in range(count)]
+
+    def sheets(self, job, length_weight=1, bend_weight=0):
+        """Every best sheet, in order, each as from first; they are fetched page by page."""
+        total, layout = self.first(job, length_weight, bend_weight)
+        yield total, layout
+        page = [layout] * PAGE_SHEETS
+        while len(page) == PAGE_SHEETS:  # a page with fewer is the last
+            page = self.page(job, page[-1], PAGE_SHEETS, length_weight, bend_weight)
+            yield from ((total, layout) for layout in page)
+
+
+def list_sheets(job):
+    try:
+        for total, ports in Cheremysl().sheets(job):
+            print(f"total {total}:", *ports)
+    except Refusal as refusal:
+        print(refusal)
+        return 1
+    return 0
+
+
+def main(words):
+    try:
+        if len(words) != 1:
+            raise OSError("usage: cheremysl.py JOB")
+        with open(words[0], "rb") as file:
+            job = file.read(MAX_RECORDS * RECORD.size + 1)  # a byte more: a longer file is refused
+        status = list_sheets(job)
+        sys.stdout.flush()
+        return status
+    except OSError as fault:
+        print(f"cheremysl.py: {fault}", file=sys.stderr)
+        return 2
+
+
+if __name__ == "__main__":
+    signal.signal(signal.SIGPIPE, signal.SIG_DFL)  # a reader that has enough is no failure
+    sys.exit(main(sys.argv[1:]))

@@ -1,0 +1,243 @@
+#!/usr/bin/env python3
+"""tests/python.py TEXTS [LIBRARY JOBS SEED]: the Python binding, examples/cheremysl.py. Its sentences against those in the file TEXTS, from the C header; its
+job maker; and, given the shared library, every call on random jobs against 01 worked out in plain Python, all assignments tried, and the binding as a program.
+The last line has the counts."""
+import contextlib, importlib.util, io, itertools, os, random, signal, struct, subprocess, sys
+
+def module_at(path, *words):
+    """A Python file as a module; a program runs with these words, and its definitions stay."""
+    spec = importlib.util.spec_from_file_location(os.path.basename(path)[:-3], path)
+    module = importlib.util.module_from_spec(spec)
+    kept, sys.argv = sys.argv, [path, *words]
+    with contextlib.redirect_stdout(io.StringIO()), contextlib.suppress(SystemExit):
+        spec.loader.exec_module(module)
+    sys.argv = kept
+    return module
+
+sys.dont_write_bytecode = True  # nothing of a test stays beside the sources
+here = os.path.dirname(os.path.abspath(__file__))
+examples = os.path.join(here, '../examples/')
+binding = module_at(examples + 'cheremysl.py')
+plain = module_at(os.path.join(here, 'sheet.py'), '0', '1')
+passed = failed = 0
+seen = set()
+
+def check(what, found, expected):
+    global passed, failed
+    if found == expected:
+        passed += 1
+    else:
+        failed += 1
+        print('FAILED: %s: %r, not %r' % (what, found, expected))
+
+def reply(call, *words):
+    """What a call returns; a refusal as its three numbers."""
+    try:
+        return call(*words)
+    except binding.Refusal as refusal:
+        seen.add(refusal.number)
+        return refusal.number, refusal.record, refusal.earlier
+    except (OverflowError, TypeError) as fault:
+        return type(fault)
+
+class Board:
+    """A job as 01 reads it."""
+    def __init__(self, job):
+        self.bad, self.n = plain.refusal(job), len(job) // 16
+        if self.bad:
+            return
+        self.records = list(struct.iter_unpack('<HHIii', job))
+        self.right = sorted(range(self.n), key=lambda i: -self.records[i][2])
+        self.on = {(i, q): plain.points(*self.records[i][2:4], self.records[q][4]) for i in range(self.n) for q in range(self.n)}
+
+    def cost(self, i, q, lengths, bends):
+        _, _, x, y, _ = self.records[i]
+        rise = abs(y - self.records[q][4])
+        return lengths * (x + rise) + bends * (rise > 0)
+
+    def touching(self, f):
+        for i in range(self.n):
+            for j in range(i):
+                if self.on[i, f[i]] & self.on[j, f[j]]:
+                    return i, j
+
+    def best(self, lengths, bends):
+        """The least total, and the layouts that have it, in order."""
+        total = lambda f: sum(self.cost(i, f[i], lengths, bends) for i in range(self.n))
+        apart = [(total(f), [f[i] for i in self.right], list(f)) for f in itertools.permutations(range(self.n)) if not self.touching(f)]
+        least = min(apart)[0]
+        return least, [f for t, _, f in sorted(apart) if t == least]
+
+    def refusal(self, layout, lengths, bends):
+        """Measure's; without a layout, First's."""
+        if self.bad and self.bad[0] == 1:
+            return 1, 0, None
+        if max(lengths, bends) > 1000:
+            return 2, 0, None
+        if layout is not None and len(layout) < self.n:
+            return 3, 0, None
+        if self.bad:
+            return (*self.bad, None)
+        for i in range(self.n) if layout else ():
+            if layout[i] >= self.n or layout[i] in layout[:i]:
+                return 8, i, None
+        pair = self.touching(layout) if layout else None
+        return (9, *pair) if pair else None
+
+    def points(self, i, q):
+        _, _, x, y, _ = self.records[i]
+        port = self.records[q][4]
+        return [(a / 4, -b / 4) for a, b in ([(x, y)] if y == port else [(x, y), (x, port)]) + [(0, port)]]
+
+def try_best(library, job, board, weights):
+    total, best = board.best(*weights)
+    every = [(total, f) for f in best]
+    binding.PAGE_SHEETS = len(best) % 4 + 1
+    check('first', library.first(job, *weights), every[0])
+    check('sheets', list(library.sheets(job, *weights)), every)
+    for at, f in enumerate(best[:30]):
+        check('next', library.next_(job, f, *weights), every[at + 1] if at + 1 < len(best) else None)
+        check('next, a longer list', library.next_(job, tuple(f) + (0, 65535), *weights), every[at + 1] if at + 1 < len(best) else None)
+        for sheets in 0, 1, 3, len(best):
+            check('page', library.page(job, f, sheets, *weights), best[at + 1:at + 1 + sheets])
+    return total, best
+
+def try_given(library, job, board, weights, layout, total, best):
+    """A layout from anywhere: measured, and refused or not as one to go on from."""
+    bad = board.refusal(layout, *weights)
+    f = layout[:board.n]
+    measured = bad or sum(board.cost(i, f[i], *weights) for i in range(board.n))
+    check('measure', reply(library.measure, job, layout, *weights), measured)
+    if bad or f not in best:
+        bad = bad or (10, 0, None)
+        check('next', reply(library.next_, job, layout, *weights), bad)
+        check('page', reply(library.page, job, layout, 2, *weights), bad)
+
+def try_draw(library, job, board):
+    for i, q in itertools.product(range(board.n + 1), repeat=2):
+        there = max(i, q) < board.n
+        drawn = reply(library.draw, job, i, q)
+        check('draw', drawn, board.points(i, q) if there else (11, 0, None))
+        check('a zero is positive', there and any(str(number) == '-0.0' for point in drawn for number in point), False)
+
+def layouts(r, n):
+    """Some of all: whole, spoilt, shorter, longer."""
+    f = r.sample(range(n), n)
+    yield f
+    yield f + [r.randrange(65536)]
+    yield f[:-1]
+    yield [r.choice([q, r.randrange(n + 1), 65535]) for q in f]
+
+def try_job(library, job, r):
+    weights = r.choice([(1, 0), (0, 0), (0, 1), (1, 1), (2, 3), (1000, 1000), (r.randint(0, 9), r.randint(0, 9)), (1001, 0), (0, 4294967295)])
+    board, total, best = Board(job), None, []
+    bad = board.refusal(None, *weights)
+    if bad:
+        check('first', reply(library.first, job, *weights), bad)
+        check('sheets', reply(list, library.sheets(job, *weights)), bad)
+    else:
+        total, best = try_best(library, job, board, weights)
+    for layout in layouts(r, min(board.n, 64)) if board.n else [[], [0]]:
+        try_given(library, job, board, weights, layout, total, best)
+    if not board.bad:
+        try_draw(library, job, board)
+    else:
+        check('draw', reply(library.draw, job, 0, 0), (*board.bad, None))
+
+def many(n):
+    """A job of many best sheets: all pads in the middle gap, half of them to be led up, half down."""
+    return binding.job_of((i + 1, 10 + i, 8 * n // 2 - 4, 8 * i) for i in range(n))
+
+def try_pages(library):
+    """More sheets than one page has."""
+    job = many(8)
+    stepped = [library.first(job)]
+    while stepped[-1]:
+        stepped.append(library.next_(job, stepped[-1][1]))
+    for binding.PAGE_SHEETS in 1, 7, 20, 69, 70, 1000:
+        check('sheets', list(library.sheets(job)), stepped[:-1])
+    check('sheets', len(stepped), 71)
+
+def try_numbers(library):
+    """A number that does not fit C's is not cut down to one that does; a job is bytes."""
+    job = binding.job_of([(101, 5, 3, 3)])
+    for bad in -1, 2 ** 32, 2 ** 64 + 1:
+        check('weight', reply(library.first, job, bad, 0), OverflowError)
+        check('weight', reply(library.measure, job, [0], 0, bad), OverflowError)
+        check('record', reply(library.draw, job, bad, 0), OverflowError)
+    for bad in -1, 65536, 2 ** 32:
+        check('entry', reply(library.measure, job, [bad]), OverflowError)
+    for bad in 16, 'x' * 16, [0] * 16, None:
+        check('job', reply(library.measure, bad, [0]), TypeError)
+    check('job', library.first(bytearray(job)), (5, [0]))
+    check('layout', library.measure(job, iter([0])), 5)
+    check('largest job', reply(library.first, job * 65), (1, 0, None))
+    most = binding.job_of((i, 100 + i, 8 * i, 8 * i) for i in range(64))
+    check('64 records', library.first(most), (sum(range(100, 164)), list(range(64))))
+    check('a long list of ports', library.measure(most, list(range(1000))), sum(range(100, 164)))
+
+def try_texts(texts):
+    check('texts', [binding.TEXTS.get(number) for number in range(1, len(texts) + 1)], texts)
+    check('texts', len(binding.TEXTS), len(texts))
+    check('text', str(binding.Refusal(12, 1)), 'refused 12 record 1: ' + texts[11])
+    check('text', str(binding.Refusal(9, 2, 0)), 'refused 9 record 2 and record 0: ' + texts[8])
+    check('text', str(binding.Refusal(99, 0))[:20], 'refused 99 record 0:')
+    for number, record, earlier in itertools.product(range(1, 13), [0, 1, 63], [0, 1, 63]):
+        if number == 9 or not earlier:
+            answer = -(4294967296 * earlier + 65536 * number + record)
+            check('answer', reply(binding.taken_apart, answer), (number, record, earlier if number == 9 else None))
+    check('answers', [binding.taken_apart(answer) for answer in (-1, 0, 192000064000)], [-1, 0, 192000064000])
+
+def try_jobs():
+    """The jobs that lie beside the binding, made again by it."""
+    for name in 'J1', 'J5', 'matrix':
+        with open(examples + name + '.job', 'rb') as file:
+            job = file.read()
+        records = [(a, x, y, q) for a, _, x, y, q in struct.iter_unpack('<HHIii', job)]
+        check('job', (binding.job_of(records), binding.records_in(job)), (job, len(records)))
+
+def try_program(library, texts):
+    """The binding as a program: its status, and what it writes."""
+    def program(words, out=subprocess.PIPE, **environment):
+        run = subprocess.run([sys.executable, examples + 'cheremysl.py', *words], stdout=out, stderr=subprocess.PIPE, env={**os.environ, **environment})
+        return run.returncode, (run.stdout or b'').decode(), run.stderr.decode()
+    given, j3 = {'CHEREMYSL_LIBRARY': library}, 'total 40: 1 0\ntotal 40: 0 1\n'
+    says = lambda words: (2, '', 'cheremysl.py: %s\n' % words)
+    check('program', program([examples + 'J3.job'], **given), (0, j3, ''))
+    check('found', program([examples + 'J3.job'], LD_LIBRARY_PATH=os.path.dirname(library)), (0, j3, ''))
+    check('refused', program(['/dev/zero'], **given), (1, 'refused 1 record 0: %s\n' % texts[0], ''))
+    check('no file', program(['none'], **given), says("[Errno 2] No such file or directory: 'none'"))
+    check('no word', program([], **given), says('usage: cheremysl.py JOB'))
+    check('no library', program([examples + 'J3.job'], CHEREMYSL_LIBRARY='/none/lib.so'),
+          says('/none/lib.so: cannot open shared object file: No such file or directory'))
+    with open('/dev/full', 'wb') as full:
+        for job in examples + 'J3.job', '/dev/null':
+            check('full', program([job], full, **given), says('[Errno 28] No space left on device'))
+
+def try_reader(library):
+    """A reader that has enough: the program goes on listing until then, and says nothing of it."""
+    run = subprocess.Popen([sys.executable, examples + 'cheremysl.py', '/dev/stdin'], stdin=subprocess.PIPE, stdout=subprocess.PIPE, stderr=subprocess.PIPE,
+                           env={**os.environ, 'CHEREMYSL_LIBRARY': library})
+    run.stdin.write(many(64))
+    run.stdin.close()
+    line = run.stdout.readline()
+    run.stdout.close()
+    check('enough', (line[:6], run.stderr.read(), run.wait()), (b'total ', b'', -signal.SIGPIPE))
+
+with open(sys.argv[1]) as file:
+    texts = file.read().splitlines()
+try_texts(texts)
+try_jobs()
+if len(sys.argv) > 2:
+    library, r = binding.Cheremysl(sys.argv[2]), random.Random(int(sys.argv[4]))
+    for k in range(int(sys.argv[3])):
+        job = (plain.spoilt if k % 4 == 3 else plain.sound)(r)
+        if len(job) <= 80 or len(job) > 1024:
+            try_job(library, job, r)
+    try_pages(library)
+    try_numbers(library)
+    try_program(sys.argv[2], texts)
+    try_reader(sys.argv[2])
+    check('refusals seen', seen, set(range(1, 13)))
+print('%d passed, %d failed' % (passed, failed))
+sys.exit(failed > 0 or passed == 0)
