@@ -1,68 +1,101 @@
 #!/bin/sh
 # tests/install.sh [WORD..]: installs into a temporary prefix, then does what a user does next: builds the examples by
-# pkg-config, runs them, makes jobs, reads the manual. Words go to make, as archive=FILE. The last line has the counts.
+# pkg-config, runs them, makes jobs, reads the manual, and uninstalls. Words go to make, as archive=FILE. The last line has
+# the counts.
 set -u
 cd "$(dirname "$0")/.." || exit 2
 . tools/machine.sh
+. tests/checks.sh
 need_compilers
 need "make pkg-config python3 mandoc" make pkg-config python3 mandoc
-room=$(mktemp -d) || exit 2
-trap 'rm -rf "$room"' EXIT
-passed=0 failed=0
-
-# check WHAT COMMAND..: counts a command that must succeed; what it prints is shown if it fails
-check() {
-    what=$1
-    shift
-    if "$@" >"$room/log" 2>&1; then
-        passed=$((passed + 1))
-    else
-        failed=$((failed + 1))
-        echo "FAILED: $what: $*"
-        cat "$room/log"
-    fi
-}
-
-# prints STATUS TEXT COMMAND..: the command, which may be a pipe, ends with the status and writes just this text
-prints() {
-    expected=$2 wanted=$1
-    shift 2
-    written=$("$@" 2>&1)
-    status=$?
-    check "$* wrote '$written', status $status" [ "$written $status" = "$expected $wanted" ]
-}
+readelf=${nm%nm}readelf
 
 # ---- the package
 
-install() { make install "$@" >"$room/make.log" 2>&1 || { cat "$room/make.log"; false; }; }
+# Where there is an emulator the programs are linked statically, so that the front runs without the library path, which
+# what it starts would get as well.
+word=${static:+CFLAGS=-O2 -std=c99 $static}
+make_quietly() { make "$@" ${word:+"$word"} >"$room/make.log" 2>&1 || { cat "$room/make.log"; false; }; }
 listing() { (cd "$1" && find . -type f -o -type l | LC_ALL=C sort); }
 
 installed=$room/usr
-check "make install" install PREFIX="$installed" "$@"
-share=$installed/share/cheremysl
-for file in lib/libcheremysl.a include/cheremysl.h lib/pkgconfig/cheremysl.pc bin/cheremysl-sheet share/cheremysl/J5.job; do
+check "make install" make_quietly install PREFIX="$installed" "$@"
+share=$installed/share/cheremysl lib=$installed/lib
+for file in lib/libcheremysl.a lib/libcheremysl.so include/cheremysl.h lib/pkgconfig/cheremysl.pc libexec/cheremysl/sheet \
+    share/cheremysl/J5.job; do
     check "installed" [ -f "$installed/$file" ]
 done
-check "make install, staged" install DESTDIR="$room/stage" PREFIX=/opt/cheremysl "$@"
+for program in programs/*.c; do
+    program=${program#programs/}
+    check "installed" [ -x "$installed/bin/${program%.c}" ]
+done
 listing "$installed" >"$room/direct"
-listing "$room/stage/opt/cheremysl" >"$room/staged"
+
+# Staged, with folders of their own: the same files, and nothing in them of the stage.
+stage=$room/stage
+set -- "$@" DESTDIR="$stage" PREFIX=/opt/c LIBDIR=/opt/c/lib/x86_64-linux-gnu BINDIR=/opt/c/tools INCLUDEDIR=/srv/include MANDIR=/srv/man \
+    LIBEXECDIR=/opt/c/lib DATADIR=/srv/data
+check "make install, staged" make_quietly install "$@"
+listing "$stage" | sed 's|^./opt/c/lib/cheremysl/|./libexec/cheremysl/|; s|^./opt/c/lib/x86_64-linux-gnu/|./lib/|; s|^./opt/c/tools/|./bin/|
+    s|^./srv/include/|./include/|; s|^./srv/man/|./share/man/|; s|^./srv/data/|./share/|' | LC_ALL=C sort >"$room/staged"
 check "the same files" cmp "$room/direct" "$room/staged"
-check "prefix of the package" grep -qx prefix=/opt/cheremysl "$room/stage/opt/cheremysl/lib/pkgconfig/cheremysl.pc"
-check "no trace of the stage" sh -c '! grep -rlI "$1" "$1"' sh "$room/stage"
+check "no trace of the stage" sh -c '! grep -rl "$1" "$1"' sh "$stage"
+check "no trace of another prefix" sh -c '! grep -rl "$1" "$2"' sh "$installed" "$stage"
+check "the front's program" grep -q /opt/c/lib/cheremysl/sheet "$stage/opt/c/tools/cheremysl-sheet"
+packaged() { PKG_CONFIG_PATH=$1/pkgconfig pkg-config "$2" cheremysl | sed 's/ *$//'; }
+prints 0 -I/srv/include packaged "$stage/opt/c/lib/x86_64-linux-gnu" --cflags
+prints 0 '-L/opt/c/lib/x86_64-linux-gnu -lcheremysl' packaged "$stage/opt/c/lib/x86_64-linux-gnu" --libs
+version=$(sed -nE 's/^.define CHEREMYSL_VERSION_(MAJOR|MINOR|PATCH) //p' include/cheremysl.h | paste -sd. -)
+prints 0 "$version" packaged "$lib" --modversion
 
-# ---- the C examples, compiled as a user does
+# Uninstalled, files of others stay, in these folders too, and no others.
+for folder in opt/c/tools opt/c/lib opt/c/lib/cheremysl opt/c/lib/x86_64-linux-gnu/pkgconfig srv/include srv/man/man1 srv/man/man3 srv/data/cheremysl; do
+    echo other >"$stage/$folder/cheremysl-other"
+done
+listing "$stage" | grep other >"$room/others"
+check "make uninstall, staged" make_quietly uninstall "$@"
+listing "$stage" >"$room/left"
+check "only files of others are left" cmp "$room/others" "$room/left"
 
-flags=$(PKG_CONFIG_PATH=$installed/lib/pkgconfig pkg-config --cflags --libs cheremysl)
-compile() { $cc -std=c99 -Wall -Wextra -Werror -pedantic $static -o "$room/$1" "$2" $flags; }
-check "pkg-config" [ "$flags" ]
-check "sheets.c" compile sheets "$share/sheets.c"
-check "audit.c" compile audit "$share/audit.c"
-check "draw-svg.c" compile draw-svg tools/draw-svg.c
+# ---- the shared library
 
-prints 0 'total 90
+shared=$lib/libcheremysl.so.$version soname=libcheremysl.so.${version%%.*}
+prints 0 "$soname" readlink "$lib/libcheremysl.so"
+prints 0 "libcheremysl.so.$version" readlink "$lib/$soname"
+defined() { $nm "$@" | sed 's/.* //' | LC_ALL=C sort; }
+prints 0 "$(defined -g --defined-only "$lib/libcheremysl.a" | sed '/^$/d; /:$/d')" defined -D --defined-only "$shared"
+dynamic() {
+    $readelf -dW "$shared" | sed -En 's/.*\((SONAME|NEEDED|TEXTREL|RPATH|RUNPATH|INIT|FINI|INIT_ARRAY|FINI_ARRAY|FLAGS)\) +(.*: \[)?([^]]*)\]?$/\1 \3/p'
+}
+prints 0 "NEEDED libc.so.6
+SONAME $soname
+FLAGS BIND_NOW" dynamic
+# What is bound when it is loaded is no call of the library's own: none can be taken by another library's.
+bound() { $readelf -rW "$shared" | awk '/R_X86_64/ { sub("@.*", "", $5); print $3, $5 }' | grep -vxE 'R_X86_64_JUMP_SLOT? mem(cpy|set|move|cmp)'; }
+prints 1 '' bound
+segments() { $readelf -lW "$shared" | awk '/RWE|GNU_STACK.* R?W?E / { print "writable code:", $0 } /GNU_RELRO/ { print $1 }'; }
+prints 0 GNU_RELRO segments
+
+# ---- the C examples, compiled as a user does: with the shared library, and one with the archive
+
+flags=$(packaged "$lib" --cflags) libs=$(packaged "$lib" --libs)
+strict="-std=c99 -Wall -Wextra -Werror -pedantic"
+compile() { $cc $strict -o "$room/$1" "$2" $flags $libs -Wl,-rpath,"$lib"; }
+compile_archive() { $cc $strict $static -o "$room/sheets-archive" "$share/sheets.c" $flags "$lib/libcheremysl.a"; }
+uses_shared() { $readelf -d "$room/$1" | grep -qF "[$soname]"; }
+for program in sheets audit; do
+    check "$program.c" compile $program "$share/$program.c"
+    check "$program uses the shared library" uses_shared $program
+done
+check "sheets.c with the archive" compile_archive
+prints 1 '' uses_shared sheets-archive
+
+j5='total 90
   record 0 to port 1: (2.50, -2.50) (0.00, -2.50)
   record 1 to port 2: (5.00, -5.00) (0.00, -5.00)
-  record 2 to port 0: (7.50, -7.50) (7.50, 0.00) (0.00, 0.00)' $run "$room/sheets" "$share/J5.job"
+  record 2 to port 0: (7.50, -7.50) (7.50, 0.00) (0.00, 0.00)'
+prints 0 "$j5" $run "$room/sheets" "$share/J5.job"
+prints 0 "$j5" $run "$room/sheets-archive" "$share/J5.job"
 prints 0 'total 40
   record 0 to port 1: (2.50, -3.75) (2.50, -5.00) (0.00, -5.00)
   record 1 to port 0: (5.00, -3.75) (5.00, -2.50) (0.00, -2.50)
@@ -70,6 +103,11 @@ total 40
   record 0 to port 0: (2.50, -3.75) (2.50, -2.50) (0.00, -2.50)
   record 1 to port 1: (5.00, -3.75) (5.00, -5.00) (0.00, -5.00)' $run "$room/sheets" "$share/J3.job"
 prints 1 'refused 1 record 0' $run "$room/sheets" "$share/sheets.c"
+
+# The trial of 01's worked sheets, and the header's own, with the shared library.
+trial() { $cc -std=c99 "$@" -o "$room/trial" $flags $libs -Wl,-rpath,"$lib" && $run "$room/trial" | tail -n 1 | grep -xE '[1-9][0-9]* passed, 0 failed'; }
+check "the header, with the shared library" trial tests/abi.c
+check "01's sheets, with the shared library" trial tests/sheets.c tests/trial.c tests/questions.c tests/guard.c tests/boards.c tests/plain.c
 
 # Page by page, four sheets each: eight sheets end within the second page, five with a full first one.
 ports_of() { $run "$room/sheets" "$1" | awk '/^total/ { printf line; line = "\n" } /to port/ { printf "%d", $5 }'; }
@@ -89,61 +127,84 @@ prints 0 '12340
 10234
 01234' ports_of "$room/five.job"
 
-crossing='refused 9 record 2 (pad 403) and record 1 (pad 402): their leaders touch'
-prints 1 "$crossing" $run "$room/audit" "$share/crossing.job" $(cat "$share/crossing.layout")
-check "the README's crossing leaders" grep -qxF "    $crossing" README.md
+# What audit says, up to the reason, which is the header's; the README shows its line.
+audit() {
+    $run "$room/audit" "$@" >"$room/audited" 2>&1
+    status=$?
+    sed 's/: [A-Za-z ].*//' "$room/audited"
+    return $status
+}
+prints 1 'refused 9 record 2 (pad 403) and record 1 (pad 402)' audit "$share/crossing.job" $(cat "$share/crossing.layout")
+check "the README's crossing leaders" grep -qxF "    $(cat "$room/audited")" README.md
 prints 0 'sound: length 546, bends 2' $run "$room/audit" "$share/crossing.job" 3 2 1 0
-prints 1 'refused 9 record 1 (pad 102) and record 0 (pad 101): their leaders touch' $run "$room/audit" "$share/J5.job" 0 1 2
+prints 1 'refused 9 record 1 (pad 102) and record 0 (pad 101)' audit "$share/J5.job" 0 1 2
 apart='sound: length 50, bends 2'
 prints 0 "$apart" $run "$room/audit" "$share/level.job" 1 0
 check "the README's level pad" grep -qxF "    $apart" README.md
 printf '101 10 0 10\n102 20 30 17\n' | "$share/mkjob" >"$room/close.job"
-prints 1 "refused 12 record 1 (pad 102): this record's port is less than 8 above the one before" $run "$room/audit" "$room/close.job" 0 1
+prints 1 "refused 12 record 1 (pad 102)" audit "$room/close.job" 0 1
+
+# A file that is not there is named.
+unopened() { $run "$@" 2>&1 | sed "s|.*cannot open $room/none: No such|No such|"; }
+prints 0 'No such file or directory' unopened "$room/sheets" "$room/none"
+prints 0 'No such file or directory' unopened "$room/audit" "$room/none" 0
 
 # The README's example is the one that was compiled.
 readme_example() { sed -n '/^```c$/,/^```$/{/^```/!p}' README.md | cmp - examples/sheets.c; }
 check "the README's example" readme_example
 
-picture() {
-    svg=$1
-    shift
-    $run "$room/draw-svg" "$@" | cmp - "docs/$svg"
-}
-check "picture" picture j5.svg examples/J5.job 1 2 0
-check "picture" picture crossing.svg examples/crossing.job $(cat examples/crossing.layout)
-check "picture" picture level-crossed.svg examples/level.job 0 1
-check "picture" picture level.svg examples/level.job 1 0
-
 # ---- the sample jobs: each is what its list says, can be listed and made again, and is accepted
 
 made_from_list() { "$share/mkjob" "$1.txt" | cmp - "$1.job"; }
-made_again() { "$share/mkjob" --list "$1.job" | "$share/mkjob" | cmp - "$1.job"; }
-ports_apart() { "$share/mkjob" --list "$1.job" | awk '!/^#/ { if (seen && $4 < port + 8) exit 1; port = $4; seen = 1 }'; }
+made_again() { "$share/mkjob" --list "$1.job" "$room/list" && "$share/mkjob" "$room/list" | cmp - "$1.job"; }
+ports_apart() { awk '!/^#/ { if (seen && $4 < port + 8) near = 1; port = $4; seen = 1 } END { exit near || !seen }' "$room/list"; }
 for job in "$share"/*.job; do
     job=${job%.job}
     check "made from its list" made_from_list "$job"
     check "made again" made_again "$job"
-    check "ports 8 apart" ports_apart "$job"
+    check "ports 8 apart" ports_apart
     check "accepted" $run "$room/sheets" "$job.job"
 done
 
-# ---- the printing program
+# ---- the printing program and the Python binding
 
-printed() { $run "$installed/bin/cheremysl-sheet" <"$1" || true; }
+# Only a machine of its own kind starts the proved program from another: elsewhere a script does, by the emulator.
+if [ "$run" ]; then
+    mv "$installed/libexec/cheremysl/sheet" "$room/proved"
+    printf '#!/bin/sh\nexec %s %s\n' "$run" "$room/proved" >"$installed/libexec/cheremysl/sheet"
+    chmod +x "$installed/libexec/cheremysl/sheet"
+fi
+sheet() { ${run%% *} "$installed/bin/cheremysl-sheet" "$@"; }
 prints 0 '101 1 10 0
 102 2 20 0
 103 0 60 1
-total 90 1' printed "$share/J5.job"
-prints 0 'refused 1 record 0' printed /dev/null
+total 90 1' sheet "$share/J5.job"
+prints 1 'refused 1 record 0' sheet /dev/null
+prints 0 "cheremysl-sheet $version" sheet --version
+prints 2 "cheremysl-sheet: cannot open $room/none: No such file or directory" sheet "$room/none"
 
-# ---- the manual
+binding() { LD_LIBRARY_PATH=$lib "$share/cheremysl.py" "$@"; }
+if [ -z "$run" ]; then
+    prints 0 'total 40: 1 0
+total 40: 0 1' binding "$share/J3.job"
+fi
+
+# ---- the manual: it has a page under the name of every program and of every function of the header
 
 for page in "$installed"/share/man/man?/*; do
     check "manual" mandoc -T lint -W warning "$page"
 done
-for call in first next page measure draw; do
-    check "manual of each call" grep -q "cheremysl_$call(" "$installed/share/man/man3/cheremysl_$call.3"
+for program in "$installed"/bin/*; do check "manual" [ -f "$installed/share/man/man1/${program##*/}.1" ]; done
+functions=$(sed -nE 's/^(static inline |int64_t ).*(cheremysl_[a-z_]+)\(.*/\2/p' include/cheremysl.h)
+check "functions of the header: $functions" [ "$(echo $functions | wc -w)" -ge 10 ]
+for function in $functions; do
+    check "manual of each function" grep -q "$function(" "$installed/share/man/man3/$function.3"
 done
 
-echo "$passed passed, $failed failed"
-[ $failed = 0 ]
+# ---- uninstalled, nothing is left
+
+check "make uninstall" make_quietly uninstall PREFIX="$installed"
+prints 0 '' listing "$installed"
+for folder in "$share" "$installed/libexec/cheremysl"; do check "a folder of the package's own is left" [ ! -d "$folder" ]; done
+
+counts
