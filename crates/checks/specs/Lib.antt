@@ -1,3 +1,2 @@
--- Dispatch: what the code's enum of checks stands for. Sound: what a sound verdict tells.
-pub mod Dispatch
+-- What a sound verdict tells.
 pub mod Sound

@@ -1,8 +1,5 @@
 // The checks of each call, in order. A verdict goes from check to check, and a refusal stands.
-use crate::Check;
-use crate::find;
-use crate::pairs;
-use crate::tests;
+use find::Check;
 use paper::Refusal;
 use paper::verdict::Found;
 use paper::verdict::Verdict;
@@ -14,7 +11,7 @@ ghost use Rattle.paper.specs.Layouts.{boardOf, held};
 ghost use Rattle.paper.specs.laws.Search.{first, firstPair};
 ghost use Rattle.paper.specs.laws.Tests.{touch};
 ghost use Rattle.paper.specs.laws.Verdicts.{outcome, next, run, atWhole, jobFindings, layoutFindings, firstFindings, measureFindings, drawFindings};
-ghost use Rattle.checks.specs.Dispatch.{testOf, Ready, Led};
+ghost use Rattle.find.specs.Dispatch.{testOf, Ready, Led};
 
 // What a check found, as a verdict.
 fn verdict(reason: u16, found: Found) -> Verdict
@@ -63,7 +60,7 @@ fn try_touching(v: Verdict, job: &[u8], list: &[u16]) -> Verdict
     ensures { λ r. ⌜ r ≡ next v (9, firstPair (touch (boardOf (now (job .entry))) (held (now (list .entry)))) (count (now (job .entry)))) ⌝ }
 {
     match v {
-        Verdict::Sound => verdict(9, pairs::first_touching(job, list, job::records(job))),
+        Verdict::Sound => verdict(9, find::pairs::first_touching(job, list, job::records(job))),
         Verdict::Refused(r) => Verdict::Refused(r),
     }
 }
@@ -96,8 +93,8 @@ pub fn of_layout(v: Verdict, job: &[u8], list: &[u16]) -> Verdict
 pub fn of_first(job: &[u8], lw: u32, bw: u32, room: usize) -> Verdict
     ensures { λ r. ⌜ r ≡ run Verdict.Sound (firstFindings (now (job .entry)) lw bw room) ⌝ }
 {
-    let v1 = try_whole(Verdict::Sound, 1, tests::bad_size(job));
-    let v2 = try_whole(v1, 2, tests::bad_weight(lw, bw));
+    let v1 = try_whole(Verdict::Sound, 1, faults::bad_size(job));
+    let v2 = try_whole(v1, 2, faults::bad_weight(lw, bw));
     let v3 = try_whole(v2, 3, room < job.len() / 16);
     of_job(v3, job)
 }
@@ -114,8 +111,8 @@ pub fn of_measure(job: &[u8], lw: u32, bw: u32, list: &[u16]) -> Verdict
 pub fn of_draw(job: &[u8], i: u32, q: u32, room: usize) -> Verdict
     ensures { λ r. ⌜ r ≡ run Verdict.Sound (drawFindings (now (job .entry)) i q room) ⌝ }
 {
-    let v1 = try_whole(Verdict::Sound, 1, tests::bad_size(job));
+    let v1 = try_whole(Verdict::Sound, 1, faults::bad_size(job));
     let v3 = try_whole(v1, 3, room < 6);
     let v7 = of_job(v3, job);
-    try_whole(v7, 11, tests::bad_number(job, i, q))
+    try_whole(v7, 11, faults::bad_number(job, i, q))
 }

@@ -1,7 +1,7 @@
 -- `checks::verdicts::of_job` meets its contract. Assumes nothing.
 use mathlib.Core.Path.{_≡_}
 use Rattle.paper.specs.declared.verdict.Verdict.the-variants.{Sound}
-use Rattle.checks.specs.Dispatch.{testOf}
+use Rattle.find.specs.Dispatch.{testOf}
 use Rattle.paper.specs.laws.Verdicts.{jobFindings}
 use Rattle.checks.specs.Sound.{was-sound}
 use borrow.Author.Needs.{needs}

@@ -4,7 +4,7 @@ use Rattle.paper.specs.Job.{count}
 use Rattle.paper.specs.laws.Search.{first}
 use Rattle.paper.specs.laws.Tests.{badEntry}
 use Rattle.paper.specs.laws.Verdicts.{layoutFindings}
-use Rattle.checks.specs.Dispatch.{testOf}
+use Rattle.find.specs.Dispatch.{testOf}
 use Rattle.checks.specs.Sound.{was-sound, entries-below}
 use borrow.Author.Needs.{needs}
 use Rattle.checks.proofs.verdicts.of_layout.Statement.{statement}
