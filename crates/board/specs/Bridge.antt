@@ -11,7 +11,7 @@ use Rattle.strips.specs.Board as strips
 use Rattle.strips.specs.Order.{Same, Earlier, Earliest, earlier-not-same, earlier-asym}
 use Rattle.strips.specs.Places.{Optimal, Later}
 use Rattle.strips.specs.ByPlace.{mem-at, place-mem, free-places, places-free, earlier-differ, differ-earlier, sumTo, sum-order}
-use Rattle.table.specs.Cell.{boardOf}
+use Rattle.totals.specs.Cell.{boardOf}
 use Rattle.steps.specs.Steps.{figureOf}
 use Rattle.choices.specs.Choices as choices
 use Rattle.choices.specs.Lists.{listed}

@@ -8,7 +8,7 @@ use lib.ListN.{length, getD, take, set, length-set}
 use lib.Seq.{getD-set-same, getD-set-other}
 use Rattle.strips.specs.Prefix.{floor-cong, ceil-cong, ceil-le}
 use Rattle.strips.specs.Places.{At}
-use Rattle.table.specs.Cell.{boardOf, Ready}
+use Rattle.totals.specs.Cell.{boardOf, Ready}
 use Rattle.places.specs.Places.{portOf}
 use Rattle.choices.specs.Choices.{Proper, Working, Begun, Chosen}
 use Rattle.choices.specs.Memory.{

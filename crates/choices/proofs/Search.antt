@@ -8,7 +8,8 @@ use lib.ListN.{length, getD, take}
 use Rattle.strips.specs.Board.{Board}
 use Rattle.strips.specs.Prefix.{floor-most, ceil-least, ceil-le}
 use Rattle.strips.specs.Places.{At, extends-choice, extends-full}
-use Rattle.table.specs.Cell.{boardOf, Pads, Ready, Leads, NextPort}
+use Rattle.totals.specs.Cell.{boardOf, Ready, Leads, NextPort}
+use Rattle.pads.specs.Pads.{Pads}
 use Rattle.places.specs.Places.{portOf}
 use Rattle.choices.specs.Choices.{Proper, Working, Begun, Chosen}
 use Rattle.choices.specs.Memory.{firstPort, endPort}

@@ -5,7 +5,8 @@ use Prim.Native.Nat.{ℕ, _*_, _≤_, _<_}
 use lib.ListN.{length, getD}
 use Rattle.strips.specs.Places.{Extends, At}
 use Rattle.numbers.specs.Arrangement.{Arrangement}
-use Rattle.table.specs.Cell.{boardOf, Pads, Table}
+use Rattle.totals.specs.Cell.{boardOf, Table}
+use Rattle.pads.specs.Pads.{Pads}
 use Rattle.places.specs.Places.{portOf}
 
 -- A proper board: 64 pads at most, each listed once; a figure for each pad and port.

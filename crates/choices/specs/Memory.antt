@@ -6,7 +6,7 @@ use Prim.Native.Nat.{ℕ, _+_, _-_, _≤_, _<_}
 use native.Mathlib.Omega.{arith}
 use lib.ListN.{length, getD, take, replicate, getD-replicate}
 use Rattle.strips.specs.Prefix.{floor, ceil}
-use Rattle.table.specs.Cell.{boardOf, Leads}
+use Rattle.totals.specs.Cell.{boardOf, Leads}
 use Rattle.places.specs.Places.{portOf}
 use Rattle.choices.specs.Choices.{Chosen}
 

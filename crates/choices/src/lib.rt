@@ -6,7 +6,8 @@
 ghost use mathlib.Core.Path.{_≡_};
 ghost use Prim.Native.Nat.{_≤_, _<_, max};
 ghost use lib.ListN.{length};
-ghost use Rattle.table.specs.Cell.{boardOf, Pads, Table, Ready};
+ghost use Rattle.totals.specs.Cell.{boardOf, Table, Ready};
+ghost use Rattle.pads.specs.Pads.{Pads};
 ghost use Rattle.places.specs.Places.{Placed};
 ghost use Rattle.choices.specs.Choices.{Working, Begun, LocallyBest, Chosen};
 ghost use Rattle.choices.specs.Memory.{startAt, stopAt, LeadsAt, firstPort, endPort, Known, Current, Noted, Learnt};
@@ -70,7 +71,7 @@ fn choose(
     if b <= start {
         return 64;
     }
-    let q = table::next_port(heads, totals, order, cost, lo, hi, m, a, b, start);
+    let q = totals::next_port(heads, totals, order, cost, lo, hi, m, a, b, start);
     if q < b { q } else { 64 }
 }
 

@@ -5,7 +5,7 @@ use mathlib.Core.List.{List}
 use Prim.Native.Nat.{ℕ, _≤_}
 use native.Mathlib.Omega.{arith}
 use lib.ListN.{length}
-use Rattle.table.specs.Cell.{leastOf}
+use Rattle.totals.specs.Cell.{leastOf}
 use Rattle.steps.specs.Steps.{FirstIs, Told}
 use Rattle.steps.specs.Steps as steps
 use Rattle.choices.specs.Choices as choices

@@ -6,7 +6,7 @@ use Prim.Native.Nat.{ℕ, zero, suc, _+_, _*_, _≤_, _<_}
 use native.Mathlib.Nat.{mul-le-mul-right}
 use native.Mathlib.Omega.{arith}
 use lib.ListN.{length}
-use Rattle.table.specs.Cell.{leastOf}
+use Rattle.totals.specs.Cell.{leastOf}
 use Rattle.paper.specs.Job.{count}
 use Rattle.paper.specs.Layouts.{Board, boardOf, held, Untouching, total, Best, NextBest, LastBest}
 use Rattle.paper.specs.Promises.{Following}

@@ -4,7 +4,7 @@ use mathlib.Core.Bool.{Bool, true, false}
 use mathlib.Core.List.{List}
 use Prim.Native.Nat.{ℕ, _≤_}
 use lib.ListN.{length}
-use Rattle.table.specs.Cell.{Table}
+use Rattle.totals.specs.Cell.{Table}
 use Rattle.paper.specs.Job.{count}
 use Rattle.paper.specs.Layouts.{boardOf, held, weighted, Untouching, Best, FirstBest, NextBest, LastBest}
 use Rattle.paper.specs.Promises.{Kept, inTurn, Following}

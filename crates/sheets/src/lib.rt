@@ -6,7 +6,7 @@ ghost use Rattle.paper.specs.Job.{count};
 ghost use Rattle.paper.specs.Layouts.{boardOf, held, weighted, Untouching, Best};
 ghost use Rattle.paper.specs.laws.Accepted.{Accepted};
 ghost use Rattle.paper.specs.laws.Pages.{Copied};
-ghost use Rattle.table.specs.Cell.{leastOf};
+ghost use Rattle.totals.specs.Cell.{leastOf};
 ghost use Rattle.board.specs.Lists.{Lent};
 ghost use Rattle.sheets.specs.Replies.{Ready, Startable, Begins, Turned, Walks, FirstOn, NextOn, PageOn};
 

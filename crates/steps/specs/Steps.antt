@@ -7,7 +7,7 @@ use lib.ListN.{length, getD, take}
 use Rattle.strips.specs.Board.{Sol, sum}
 use Rattle.strips.specs.Order.{Same, Earliest}
 use Rattle.strips.specs.Places.{Optimal, Later, FilledFrom}
-use Rattle.table.specs.Cell.{boardOf}
+use Rattle.totals.specs.Cell.{boardOf}
 use Rattle.places.specs.Places.{portOf}
 use Rattle.choices.specs.Choices.{Kept}
 

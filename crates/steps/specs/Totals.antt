@@ -4,7 +4,7 @@ use mathlib.Core.List.{List}
 use Prim.Native.Nat.{ℕ}
 use lib.ListN.{length}
 use Rattle.strips.specs.Places.{optimal-best}
-use Rattle.table.specs.Cell.{boardOf, coded, leastOf}
+use Rattle.totals.specs.Cell.{boardOf, coded, leastOf}
 use Rattle.places.specs.Places.{portOf}
 use Rattle.choices.specs.Choices.{Proper}
 use Rattle.choices.specs.Lists.{listed}

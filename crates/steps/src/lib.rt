@@ -3,7 +3,7 @@
 ghost use mathlib.Core.Path.{_≡_};
 ghost use Prim.Native.Nat.{_≤_};
 ghost use lib.ListN.{length};
-ghost use Rattle.table.specs.Cell.{leastOf};
+ghost use Rattle.totals.specs.Cell.{leastOf};
 ghost use Rattle.choices.specs.Choices.{Proper, Working, Begun};
 ghost use Rattle.choices.specs.Memory.{Memory};
 ghost use Rattle.steps.specs.Steps.{total, Measurable, Untouching, Solvable, BestLayout, FilledUp, FirstIs, StepIs, Told};
@@ -88,7 +88,7 @@ fn total_of(order: &[u8], cost: &[u32], w: &[u16]) -> u64
     while 0 < k {
         k -= 1;
         let j = order[k] as usize;
-        sum += table::figure(cost, n, j, places::wide(w[j]));
+        sum += totals::figure(cost, n, j, places::wide(w[j]));
     }
     sum
 }

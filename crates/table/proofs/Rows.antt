@@ -10,11 +10,12 @@ use lib.ListN.{length, getD, set, length-set}
 use lib.Seq.{getD-set-same, getD-set-other}
 use Rattle.strips.specs.Lists.{keep-same}
 use Rattle.strips.specs.Board as strip
-use Rattle.table.specs.Strip.{Sides, fits, bit, count, best}
-use Rattle.table.specs.Cell.{sides, figures, boardOf, cornerOf, place, coded, Pads, Sizes, Cell, Rows, Parts, Copied, Table}
-use Rattle.table.proofs.Counts.{le-or-lt, spans-by}
-use Rattle.table.proofs.Corners.{corner-top, place-start, place-end}
-use Rattle.table.proofs.Cells.{cell-right}
+use Rattle.pads.specs.Pads.{Sides, fits, bit, count, sides, Pads}
+use Rattle.totals.specs.Strip.{best}
+use Rattle.totals.specs.Cell.{figures, boardOf, cornerOf, place, coded, Sizes, Cell, Rows, Parts, Copied, Table}
+use Rattle.pads.specs.Counts.{le-or-lt, spans-by}
+use Rattle.totals.proofs.Corners.{corner-top, place-start, place-end}
+use Rattle.totals.proofs.Cells.{cell-right}
 
 -- the rows after a are right, and the row of a is right before b
 pub record Row (S : Sides) (C : ℕ → ℕ → Least) (order hs ts : List ℕ) (a b : ℕ) : Type 0 where

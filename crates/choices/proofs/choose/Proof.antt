@@ -3,7 +3,7 @@ use Prim.Native.Nat.{_+_}
 use native.Mathlib.Omega.{arith}
 use borrow.Author.Needs.{needs}
 use lib.ListN.{getD}
-use Rattle.table.specs.Cell.{boardOf}
+use Rattle.totals.specs.Cell.{boardOf}
 use Rattle.choices.proofs.Search.{choose-past, choose-none, choose-found}
 use Rattle.choices.proofs.choose.Statement.{statement}
 use Rattle.choices.proofs.choose.Tie as tie

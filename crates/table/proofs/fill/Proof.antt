@@ -3,8 +3,10 @@
 use mathlib.Core.Path.{_≡_, refl, sym, ap, _∙_}
 use Prim.Native.Nat.{ℕ, _+_, _-_, _≤_}
 use lib.ListN.{length, getD}
-use Rattle.table.specs.Cell.{sides, figures, Rooms, Tallies, Rows, Table}
-use Rattle.table.proofs.Tallies.{tallies-none}
+use Rattle.pads.specs.Pads.{sides}
+use Rattle.totals.specs.Cell.{figures, Rows, Table}
+use Rattle.heads.specs.Heads.{Rooms, Tallies}
+use Rattle.heads.proofs.Tallies.{tallies-none}
 use Rattle.table.proofs.Rows.{whole-best}
 use native.Mathlib.Omega.{arith}
 use Rattle.table.proofs.fill.Statement.{statement}

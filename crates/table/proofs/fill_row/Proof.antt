@@ -3,8 +3,10 @@
 use mathlib.Core.Path.{_≡_, _∙_}
 use Prim.Native.Nat.{_+_, _-_, _≤_}
 use lib.ListN.{length, length-set}
-use Rattle.table.specs.Cell.{sides, figures, Tallies, Copied}
-use Rattle.table.proofs.Cells.{figures-cheap, kept-cell}
+use Rattle.pads.specs.Pads.{sides}
+use Rattle.totals.specs.Cell.{figures, Copied}
+use Rattle.heads.specs.Heads.{Tallies}
+use Rattle.totals.proofs.Cells.{figures-cheap, kept-cell}
 use Rattle.table.proofs.Rows.{Row, row-start, row-parts, row-step, row-end, copied-start, copied-step, sizes-with}
 use borrow.Author.Needs.{needs}
 use native.Mathlib.Omega.{arith}

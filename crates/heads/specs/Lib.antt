@@ -1,0 +1,2 @@
+-- Heads: the definitions that the contracts cite.
+pub mod Heads

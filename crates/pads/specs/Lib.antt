@@ -1,0 +1,3 @@
+-- Pads: the definitions. Counts: their laws.
+pub mod Pads
+pub mod Counts

@@ -1,0 +1,3 @@
+-- The definitions that the contracts of `totals` and `table` cite.
+pub mod Strip
+pub mod Cell

@@ -1,0 +1,224 @@
+// The best total of a strip from those of its parts, and the ports that attain it, for as many ports as pads (at most 64).
+//
+// A strip is a run of ports a .. b - 1, and its cell stands at place a of b's column, `corner(b) + a`, in two tables:
+// `heads` has 1 more than the place in `order` of the strip's rightmost pad, or 0 where the strip has too few pads or
+// no layout, and `totals` the best total of the strip's pads, or NONE. While row a is filled, two short lists, `lows`
+// and `sums`, have the cells of its strips at b: the parts below a port are read there.
+ghost use mathlib.Core.Path.{_≡_};
+ghost use mathlib.Core.Bool.{cond};
+ghost use Prim.Native.Nat.{_+_, _-_, _*_, _^_, _≤_, _<_, min};
+ghost use lib.Dec.{eqb};
+ghost use lib.ListN.{length, getD};
+ghost use Rattle.strips.specs.Least.{least};
+ghost use Rattle.pads.specs.Pads.{sides, Pads, Head};
+ghost use Rattle.totals.specs.Cell.{noTotal, figures, boardOf, choice, coded, Sizes, Strip, Ready, Leads, NextPort};
+ghost use Rattle.totals.specs.Cell.{PartsOf, Table, cornerOf, Port, opens, sumAt, portTotal, Valued, Copied};
+
+const NONE: u64 = 18446744073709551615;
+
+// The place in a table of the strip 0 .. b - 1.
+pub fn corner(b: usize) -> usize
+    requires { ⌜ b ≤ 64 ⌝ }
+    ensures { λ r. ⌜ (r ≡ cornerOf b) × (r ≤ 2080) ⌝ }
+{
+    b * (b + 1) / 2
+}
+
+// The figure of pad j on port q, of a table of n × n.
+pub fn figure(cost: &[u32], n: usize, j: usize, q: usize) -> u64
+    requires { ⌜ (j < n) × (q < n) × (n ≤ 64) × (length (now cost) ≡ n * n) ⌝ }
+    ensures { λ r. ⌜ (r ≡ coded (figures (now (cost .entry)) n j q)) × (r < 2 ^ 32) ⌝ }
+{
+    cost[j * n + q] as u64
+}
+
+fn smaller(x: u64, y: u64) -> u64
+    ensures { λ r. ⌜ r ≡ min x y ⌝ }
+{
+    if x < y { x } else { y }
+}
+
+// Whether both strips that a port leaves have a layout of pads after the one that takes it; the lower is read in `lows`.
+fn opened(lows: &[u8], heads: &[u8], past: u8, below: usize, above: usize) -> bool
+    requires { ⌜ (below < length (now lows)) × (above < length (now heads)) ⌝ }
+    ensures { λ r. ⌜ r ≡ opens (now (lows .entry)) (now (heads .entry)) past below above ⌝ }
+{
+    if lows[below] <= past {
+        return false;
+    }
+    past < heads[above]
+}
+
+// The total with a pad, whose row of figures starts at `row`, on port q, which opens the two strips.
+fn sum_at(
+    sums: &[u64],
+    totals: &[u64],
+    cost: &[u32],
+    row: usize,
+    q: usize,
+    below: usize,
+    above: usize,
+) -> u64
+    requires { ⌜ (below < length (now sums)) × (above < length (now totals)) × (row + q < length (now cost)) ⌝ }
+    requires { ⌜ (getD (now sums) below 0 ≤ 2 ^ 38) × (getD (now totals) above 0 ≤ 2 ^ 38) ⌝ }
+    ensures { λ r. ⌜ r ≡ sumAt (now (sums .entry)) (now (totals .entry)) (now (cost .entry)) row q below above ⌝ }
+{
+    cost[row + q] as u64 + (sums[below] + totals[above])
+}
+
+// The least total so far, v, and that of one port more.
+fn better(
+    lows: &[u8],
+    sums: &[u64],
+    heads: &[u8],
+    totals: &[u64],
+    cost: &[u32],
+    v: u64,
+    past: u8,
+    row: usize,
+    q: usize,
+    above: usize,
+) -> u64
+    requires { ⌜ Port (now lows) (now sums) (now heads) (now totals) (now cost) past row q q above ⌝ }
+    ensures { λ r. ⌜ r ≡ min v (portTotal (now (lows .entry)) (now (sums .entry)) (now (heads .entry)) (now (totals .entry))
+        (now (cost .entry)) past row q q above) ⌝ }
+{
+    if opened(lows, heads, past, q, above) {
+        smaller(v, sum_at(sums, totals, cost, row, q, q, above))
+    } else {
+        v
+    }
+}
+
+// Whether port q has the total v.
+fn attains(
+    heads: &[u8],
+    totals: &[u64],
+    cost: &[u32],
+    v: u64,
+    past: u8,
+    row: usize,
+    q: usize,
+    below: usize,
+    above: usize,
+) -> bool
+    requires { ⌜ Port (now heads) (now totals) (now heads) (now totals) (now cost) past row q below above ⌝ }
+    requires { ⌜ (v ≡ noTotal → ⊥) ⌝ }
+    ensures { λ r. ⌜ r ≡ eqb (portTotal (now (heads .entry)) (now (totals .entry)) (now (heads .entry)) (now (totals .entry))
+        (now (cost .entry)) past row q below above) v ⌝ }
+{
+    if opened(heads, heads, past, below, above) {
+        sum_at(totals, totals, cost, row, q, below, above) == v
+    } else {
+        false
+    }
+}
+
+// The best total of the strip a .. b - 1 whose rightmost pad stands at place r: the least over its ports.
+fn least_total(
+    lows: &[u8],
+    sums: &[u64],
+    heads: &[u8],
+    totals: &[u64],
+    order: &[u8],
+    cost: &[u32],
+    lo: &[u8],
+    hi: &[u8],
+    r: usize,
+    a: usize,
+    b: usize,
+) -> u64
+    requires { ⌜ Pads (now order) (now lo) (now hi) ⌝ }
+    requires { ⌜ Sizes (now heads) (now totals) (now order) (now cost) ⌝ }
+    requires { ⌜ Strip (sides (now lo) (now hi)) (now order) a b r ⌝ }
+    requires { ⌜ PartsOf (now order) (now cost) (now lo) (now hi) (now heads) (now totals) a b ⌝ }
+    requires { ⌜ Copied (now lows) (now sums) (now heads) (now totals) a b ⌝ }
+    ensures { λ v. ⌜ v ≡ coded (least (choice (now (order .entry)) (now (cost .entry)) (now (lo .entry)) (now (hi .entry)) r a b) a (b - a)) ⌝ }
+{
+    let row = order[r] as usize * order.len();
+    let past = (r + 1) as u8;
+    let base = corner(b) + 1;
+    let mut v = NONE;
+    let mut q = a;
+    while q < b {
+        v = better(lows, sums, heads, totals, cost, v, past, row, q, base + q);
+        q += 1;
+    }
+    v
+}
+
+// The best total of the strip a .. b - 1 with head h.
+pub fn strip_total(
+    lows: &[u8],
+    sums: &[u64],
+    heads: &[u8],
+    totals: &[u64],
+    order: &[u8],
+    cost: &[u32],
+    lo: &[u8],
+    hi: &[u8],
+    a: usize,
+    b: usize,
+    h: usize,
+) -> u64
+    requires { ⌜ Pads (now order) (now lo) (now hi) ⌝ }
+    requires { ⌜ Sizes (now heads) (now totals) (now order) (now cost) ⌝ }
+    requires { ⌜ (a ≤ b) × (b ≤ length (now order)) × Head (sides (now lo) (now hi)) (now order) a b h ⌝ }
+    requires { ⌜ PartsOf (now order) (now cost) (now lo) (now hi) (now heads) (now totals) a b ⌝ }
+    requires { ⌜ Copied (now lows) (now sums) (now heads) (now totals) a b ⌝ }
+    ensures { λ v. ⌜ Valued (sides (now (lo .entry)) (now (hi .entry))) (figures (now (cost .entry)) (length (now (order .entry)))) (now (order .entry)) a b h v ⌝ }
+{
+    if h == 0 {
+        return NONE;
+    }
+    if a == b {
+        return 0;
+    }
+    least_total(lows, sums, heads, totals, order, cost, lo, hi, h - 1, a, b)
+}
+
+// The head as the table has it: 0 where the strip has no layout.
+pub fn kept(h: usize, v: u64) -> usize
+    ensures { λ r. ⌜ (r ≡ cond (eqb v noTotal) 0 h) × (r ≤ h) ⌝ }
+{
+    if v == NONE { 0 } else { h }
+}
+
+// The smallest port of the strip a .. b - 1, from `from` on, that leads its rightmost pad, at place
+// r, in a best layout of the strip; b where there is none.
+pub fn next_port(
+    heads: &[u8],
+    totals: &[u64],
+    order: &[u8],
+    cost: &[u32],
+    lo: &[u8],
+    hi: &[u8],
+    r: usize,
+    a: usize,
+    b: usize,
+    from: usize,
+) -> usize
+    requires { ⌜ Pads (now order) (now lo) (now hi) ⌝ }
+    requires { ⌜ Table (now order) (now cost) (now lo) (now hi) (now heads) (now totals) ⌝ }
+    requires { ⌜ Ready (boardOf (now order) (now cost) (now lo) (now hi)) (now order) r a b ⌝ }
+    requires { ⌜ (a ≤ from) × (from ≤ b) ⌝ }
+    ensures { λ q. ⌜ NextPort (Leads (boardOf (now (order .entry)) (now (cost .entry)) (now (lo .entry)) (now (hi .entry))) (now (order .entry)) r a b) from b q ⌝ }
+{
+    let row = order[r] as usize * order.len();
+    let past = (r + 1) as u8;
+    let base = corner(b);
+    let best = totals[base + a];
+    if best == NONE {
+        return b;
+    }
+    let mut below = corner(from) + a;
+    let mut q = from;
+    while q < b {
+        if attains(heads, totals, cost, best, past, row, q, below, base + 1 + q) {
+            return q;
+        }
+        q += 1;
+        below += q;
+    }
+    b
+}
