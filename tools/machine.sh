@@ -13,13 +13,16 @@ else
 fi
 cc=${cross}gcc cxx=${cross}g++ nm=${cross}nm
 
+# Two scripts may need packages at once, and apt-get does not wait for another.
+in_turn() { flock "${TMPDIR:-/tmp}/cheremysl-packages" "$@"; }
+
 # need PACKAGES COMMAND_OR_FILE..: installs the packages by apt-get if one of the others is missing
 need() {
     packages=$1
     shift
     for thing; do
         { command -v "$thing" || [ -f "$thing" ]; } >/dev/null && continue
-        { apt-get update && apt-get install -y --no-install-recommends $packages; } >/dev/null 2>&1 && return
+        { in_turn apt-get update && in_turn apt-get install -y --no-install-recommends $packages; } >/dev/null 2>&1 && return
         echo "$0: needs the packages $packages" >&2
         exit 2
     done
