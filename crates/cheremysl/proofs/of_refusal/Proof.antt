@@ -3,6 +3,7 @@ use borrow.Author.Needs.{needs}
 use Prim.Native.Nat.{_+_, _*_, _^_, _<_}
 use native.Mathlib.Omega.{arith}
 use lib.IntN.{ℤ, pos, natAbs}
+use mir.Syntax.{w64}
 use Rattle.numbers.specs.Bits.{minus-fits, minus-back}
 use Rattle.cheremysl.proofs.of_refusal.Statement.{statement}
 use Rattle.cheremysl.proofs.of_refusal.Tie as tie
