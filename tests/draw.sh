@@ -5,24 +5,10 @@
 set -u
 cd "$(dirname "$0")/.." || exit 2
 . tools/machine.sh
+. tests/checks.sh
 need_compilers
 need python3 python3
-room=$(mktemp -d) || exit 2
-trap 'rm -rf "$room"' EXIT
-passed=0 failed=0 archive=${1:-target/staticlib/libcheremysl.a}
-
-# check WHAT COMMAND..: counts a command that must succeed; what it prints is shown if it fails
-check() {
-    what=$1
-    shift
-    if "$@" >"$room/log" 2>&1; then
-        passed=$((passed + 1))
-    else
-        failed=$((failed + 1))
-        echo "FAILED: $what: $*"
-        cat "$room/log"
-    fi
-}
+archive=${1:-target/staticlib/libcheremysl.a}
 
 check "cheremysl-draw.c" $cc -std=c99 -O2 -Wall -Wextra -Werror -pedantic -Iinclude $static -o "$room/cheremysl-draw" \
     programs/cheremysl-draw.c "$archive"
@@ -127,5 +113,4 @@ counts=$(sed -n '$s/^\([0-9]*\) passed, \([0-9]*\) failed$/\1 \2/p' "$room/drawn
 check "tests/draw.py, status $status: $(tail -n 1 "$room/drawn")" [ "$counts" ]
 passed=$((passed + ${counts% *} + 0)) failed=$((failed + ${counts#* } + 0))
 
-echo "$passed passed, $failed failed"
-[ $failed = 0 ] && [ $passed -gt 0 ]
+counts

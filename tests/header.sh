@@ -4,31 +4,17 @@
 # The last line has the counts. What is missing is installed by apt-get (tools/machine.sh).
 set -u
 cd "$(dirname "$0")/.." || exit 2
-archive=${1:-target/staticlib/libcheremysl.a} passed=0 failed=0
+archive=${1:-target/staticlib/libcheremysl.a}
 . tools/machine.sh
+. tests/checks.sh
 need_compilers
 need clang clang
 [ $# -gt 0 ] || rt staticlib cheremysl || exit 1
-room=$(mktemp -d) || exit 2
-trap 'rm -rf "$room"' EXIT
 
 # The compilers, by short names; an emulated machine's headers are not where clang looks for them.
 gcc="$cc -x c" gxx="$cxx -x c++"
 clang="clang --target=x86_64-linux-gnu ${run:+-isystem $headers} -x c" clangxx="$clang++"
 include=-Iinclude
-
-# check WHAT COMMAND..: counts a command that must succeed; the compiler's last words are shown if it fails
-check() {
-    what=$1
-    shift
-    if "$@"; then
-        passed=$((passed + 1))
-    else
-        failed=$((failed + 1))
-        echo "FAILED: $what"
-        cat "$room/log"
-    fi
-}
 
 # compile FILE COMMAND..: what the compiler says of the file is in the log; silent: nothing; says TEXT: this among others;
 # refuses TEXT: this, and there is no object
@@ -206,10 +192,10 @@ macros() { echo "$1" | $gcc -dM -E $include - | LC_ALL=C sort; }
 macros '#include <stddef.h>
 #include <stdint.h>' >"$room/without"
 macros '#include <cheremysl.h>' >"$room/with"
-LC_ALL=C comm -13 "$room/without" "$room/with" >"$room/log"
-check "macros: none" [ -s "$room/log" ]
-check "macros that are not the header's own" [ "$(grep -vc '^#define CHEREMYSL_' "$room/log")" = 0 ]
-check "attributes that stayed" [ "$(grep -c '__attribute__\|_cast\|CHEREMYSL_HAS' "$room/log")" = 0 ]
+LC_ALL=C comm -13 "$room/without" "$room/with" >"$room/left"
+check "macros: none" [ -s "$room/left" ]
+check "macros that are not the header's own" [ "$(grep -vc '^#define CHEREMYSL_' "$room/left")" = 0 ]
+check "attributes that stayed" [ "$(grep -c '__attribute__\|_cast\|CHEREMYSL_HAS' "$room/left")" = 0 ]
 
 # The version is said once, in three lines that a script can read.
 lines=$(sed -En 's/^#define CHEREMYSL_VERSION_(MAJOR|MINOR|PATCH) ([0-9]+)$/\2/p' include/cheremysl.h | paste -sd .)
@@ -241,5 +227,4 @@ optimised $gxx -std=c++11
 optimised $clang -std=c99
 optimised $clangxx -std=c++11
 
-echo "$passed passed, $failed failed"
-[ $failed = 0 ] && [ $passed -gt 0 ]
+counts
