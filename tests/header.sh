@@ -195,7 +195,7 @@ macros '#include <cheremysl.h>' >"$room/with"
 LC_ALL=C comm -13 "$room/without" "$room/with" >"$room/left"
 check "macros: none" [ -s "$room/left" ]
 check "macros that are not the header's own" [ "$(grep -vc '^#define CHEREMYSL_' "$room/left")" = 0 ]
-check "attributes that stayed" [ "$(grep -c '__attribute__\|_cast\|CHEREMYSL_HAS' "$room/left")" = 0 ]
+check "attributes that stayed" [ "$(grep -c '__attribute__\|_cast\|CHEREMYSL_\(HAS\|CAST\|CALL\)' "$room/left")" = 0 ]
 
 # The version is said once, in three lines that a script can read.
 lines=$(sed -En 's/^#define CHEREMYSL_VERSION_(MAJOR|MINOR|PATCH) ([0-9]+)$/\2/p' include/cheremysl.h | paste -sd .)
