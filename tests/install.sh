@@ -141,6 +141,15 @@ prints 1 'refused 9 record 1 (pad 102) and record 0 (pad 101)' audit "$share/J5.
 apart='sound: length 50, bends 2'
 prints 0 "$apart" $run "$room/audit" "$share/level.job" 1 0
 check "the README's level pad" grep -qxF "    $apart" README.md
+# The README's two pads at one x: moved apart in either order, the bends differ, and no other sheet is sound.
+moved() {
+    printf '%s\n' "$1" "$2" | "$share/mkjob" >"$room/moved.job"
+    prints 0 "$3" $run "$room/audit" "$room/moved.job" $4
+    check "the README's pads at one x" grep -qxF "      $3" README.md
+    prints 1 "$6" audit "$room/moved.job" $5
+}
+moved '101 11 20 0' '102 10 10 10' 'sound: length 41, bends 1' '0 1' '1 0' 'refused 9 record 1 (pad 102) and record 0 (pad 101)'
+moved '101 10 20 0' '102 11 10 10' 'sound: length 41, bends 2' '1 0' '0 1' 'refused 9 record 1 (pad 102) and record 0 (pad 101)'
 printf '101 10 0 10\n102 20 30 17\n' | "$share/mkjob" >"$room/close.job"
 prints 1 "refused 12 record 1 (pad 102)" audit "$room/close.job" 0 1
 
