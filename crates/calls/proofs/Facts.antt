@@ -2,8 +2,8 @@
 use mathlib.Core.List.{List}
 use Prim.Native.Nat.{ℕ}
 use lib.ListN.{length}
-use Rattle.sheets.specs.declared.Tally.{Tally}
-use Rattle.sheets.specs.declared.Reply.the-variants.{Walked, NotBest as NotWalked}
+use Rattle.walks.specs.declared.Tally.{Tally}
+use Rattle.walks.specs.declared.Reply.the-variants.{Walked, NotBest as NotWalked}
 use Rattle.sheets.specs.declared.Step.the-variants.{Total, End, NotBest}
 use Rattle.paper.specs.declared.Answer.the-variants.{Total as Sum, End as Last, Refused}
 use Rattle.paper.specs.declared.Paged.the-variants.{Wrote, Refused as NotPaged}

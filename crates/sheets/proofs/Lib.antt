@@ -1,4 +1,2 @@
 -- Laws that belong to no one function.
-pub mod Starts
-pub mod Turning
-pub mod Walks
+pub mod Replied

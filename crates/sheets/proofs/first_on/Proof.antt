@@ -1,7 +1,7 @@
 -- `sheets::first_on` meets its contract (`first-walked`). Assumes nothing.
 use borrow.Author.Needs.{needs}
 use mathlib.Core.Path.{refl}
-use Rattle.sheets.proofs.Walks.{first-walked}
+use Rattle.sheets.proofs.Replied.{first-walked}
 use Rattle.sheets.proofs.first_on.Statement.{statement}
 use Rattle.sheets.proofs.first_on.Tie as tie
 

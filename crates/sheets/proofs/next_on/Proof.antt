@@ -3,7 +3,7 @@ use borrow.Author.Needs.{needs}
 use mathlib.Core.Path.{sym}
 use native.Mathlib.Omega.{arith}
 use lib.Seq.{length-take-le}
-use Rattle.sheets.proofs.Walks.{end-walked, next-walked}
+use Rattle.sheets.proofs.Replied.{end-walked, next-walked}
 use Rattle.sheets.proofs.next_on.Statement.{statement}
 use Rattle.sheets.proofs.next_on.Tie as tie
 

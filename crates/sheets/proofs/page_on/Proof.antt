@@ -1,6 +1,6 @@
 -- `sheets::page_on` meets its contract (`page-walked`). Assumes nothing.
 use borrow.Author.Needs.{needs}
-use Rattle.sheets.proofs.Walks.{copy-startable, page-walked}
+use Rattle.sheets.proofs.Replied.{copy-startable, page-walked}
 use Rattle.sheets.proofs.page_on.Statement.{statement}
 use Rattle.sheets.proofs.page_on.Tie as tie
 

@@ -1,4 +1,4 @@
--- From the start of a walk to its end, and what First, Next and Page make of it.
+-- What First, Next and Page make of a walk.
 use mathlib.Core.Path.{_≡_, refl, sym, _∙_}
 use mathlib.Core.Logic.{⊎-elim}
 use mathlib.Core.List.{List}
@@ -6,7 +6,6 @@ use Prim.Native.Nat.{ℕ, zero, suc, _+_, _*_, _≤_, _<_}
 use native.Mathlib.Nat.{mul-le-mul-right}
 use native.Mathlib.Omega.{arith}
 use lib.ListN.{length}
-use Rattle.totals.specs.Cell.{leastOf}
 use Rattle.paper.specs.Job.{count}
 use Rattle.paper.specs.Layouts.{Board, boardOf, held, Untouching, total, Best, NextBest, LastBest}
 use Rattle.paper.specs.Promises.{Following}
@@ -15,31 +14,14 @@ use Rattle.paper.specs.laws.Boards.{best-same, untouching-same}
 use Rattle.paper.specs.laws.Order.{first-best-same, next-best-same}
 use Rattle.paper.specs.laws.Kept.{kept-trans, kept-one}
 use Rattle.paper.specs.laws.Pages.{Copied, following-same}
-use Rattle.sheets.specs.declared.Start.{Start}
-use Rattle.sheets.specs.declared.Start.the-variants.{First, Given}
-use Rattle.sheets.specs.declared.Tally.{Tally}
-use Rattle.sheets.specs.declared.Reply.{Reply}
-use Rattle.sheets.specs.declared.Reply.the-variants.{Walked, NotBest}
+use Rattle.turns.specs.declared.Start.the-variants.{First, Given}
+use Rattle.turns.specs.Turns.{cost, Startable, Turned}
+use Rattle.walks.specs.declared.Tally.{Tally}
+use Rattle.walks.specs.declared.Reply.{Reply}
+use Rattle.walks.specs.declared.Reply.the-variants.{Walked, NotBest}
+use Rattle.walks.specs.Walks.{Walking, Walks}
 use Rattle.sheets.specs.declared.Step.the-variants.{Total, End}
-use Rattle.sheets.specs.Replies.{Ready, cost, Startable, Began, Turned, Walking, Walks, FirstOn, NextOn, PageOn}
-use Rattle.sheets.proofs.Starts.{total-on}
-
--- ---- the walk
-
-module _ (job : List ℕ) (lw bw : ℕ) where
-  -- A walk goes on from its start.
-  pub began-best : (start : Start) (w l : List ℕ) → Began start job lw bw w l → Best (boardOf job) (cost job lw bw) (held l)
-  began-best First w l s = s .0 .best
-  began-best Given w l s = s .0
-
-  pub began-room : (start : Start) (w l : List ℕ) → Startable start job w → Began start job lw bw w l → count job ≤ length l
-  began-room First w l h s = omega (arith, s .1 .long)
-  began-room Given w l h s = rw (s .1) (h .0)
-
-  pub walked : {order lo hi cs hs ts : List ℕ} → Ready job lw bw order lo hi cs hs ts → (start : Start) (w l page v after : List ℕ)
-      (k least : ℕ) → least ≡ leastOf order cs lo hi
-      → Began start job lw bw w l → Turned job lw bw l page v after k → Walking start job lw bw w page v after (record { count = k; total = least })
-  walked R start w l page v after k least e s t = record { from = l; began = s; turned = t; totals = total-on R least e v (t .best) }
+use Rattle.sheets.specs.Replies.{FirstOn, NextOn, PageOn}
 
 -- ---- First: with room for none
 

@@ -1,14 +1,14 @@
--- `sheets::turn` meets its contract. The loop's invariant: `Turning`, whose laws are in Turning, and what the steps remember is current. Assumes nothing.
+-- `turns::turn` meets its contract. The loop's invariant: `Turning`, whose laws are in Turning, and what the steps remember is current. Assumes nothing.
 use mathlib.Core.Path.{sym}
 use Prim.Native.Nat.{_-_, _≤_, _<_}
 use native.Mathlib.Omega.{arith}
 use lib.ListN.{length}
 use Rattle.choices.specs.Memory.{Memory, memory-none}
-use Rattle.sheets.proofs.Starts.{same-n, working-on}
-use Rattle.sheets.proofs.Turning.{Turning, turning-none, turning-inside, turning-ready, turning-room, turning-count}
-use Rattle.sheets.proofs.Turning.{turning-more, turning-end, turning-full}
-use Rattle.sheets.proofs.turn.Statement.{statement}
-use Rattle.sheets.proofs.turn.Tie as tie
+use Rattle.turns.proofs.Starts.{same-n, working-on}
+use Rattle.turns.proofs.Turning.{Turning, turning-none, turning-inside, turning-ready, turning-room, turning-count}
+use Rattle.turns.proofs.Turning.{turning-more, turning-end, turning-full}
+use Rattle.turns.proofs.turn.Statement.{statement}
+use Rattle.turns.proofs.turn.Tie as tie
 
 abbrev Inv-loop : tie.InvT-loop
 Inv-loop job lw bw order lo hi cost heads totals w₀ page₀ n known₀ at₀ k₀ w page known at k =

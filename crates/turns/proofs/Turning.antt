@@ -16,8 +16,8 @@ use Rattle.paper.specs.laws.Order.{next-of-same, last-of-same}
 use Rattle.paper.specs.laws.Kept.{kept-trans}
 use Rattle.paper.specs.laws.Pages.{one-more, Copied, Paging, paging-none, paging-here, paging-more, page-full, page-ends}
 use Rattle.board.specs.Bridge.{best-is-optimal, next-is, end-is}
-use Rattle.sheets.specs.Replies.{Ready, cost, Turned}
-use Rattle.sheets.proofs.Starts.{same-n, working-on, kept-on}
+use Rattle.turns.specs.Turns.{Ready, cost, Turned}
+use Rattle.turns.proofs.Starts.{same-n, working-on, kept-on}
 
 -- From the layout of l on, k layouts are on the page, up to place `at`, and w holds the last.
 pub record Turning (job : List ℕ) (lw bw : ℕ) (l before w page : List ℕ) (at k : ℕ) : Type 0 where

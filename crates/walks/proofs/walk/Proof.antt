@@ -1,11 +1,11 @@
--- `sheets::walk` meets its contract: the lists lent are arrays and parts of arrays. Assumes nothing.
+-- `walks::walk` meets its contract: the lists lent are arrays and parts of arrays. Assumes nothing.
 use mathlib.Core.Path.{sym, refl}
 use native.Mathlib.Nat.{mul-le-mul}
 use native.Mathlib.Omega.{arith}
 use lib.Seq.{length-take-le}
 use borrow.Author.Needs.{needs}
-use Rattle.sheets.proofs.walk.Statement.{statement}
-use Rattle.sheets.proofs.walk.Tie as tie
+use Rattle.walks.proofs.walk.Statement.{statement}
+use Rattle.walks.proofs.walk.Tie as tie
 
 mul-square : tie.Need-mul-square
 mul-square c = let h = c .before .before .before .pre .0 .few in omega (arith, mul-le-mul h h)
@@ -52,8 +52,8 @@ walk-at-requires c κs =
           highs = length-take-le _ _ few;
           square = length-take-le _ _ (mul-le-mul few few);
         },
-        refl,
-        refl,
+        refl {a = 2145},
+        refl {a = 2145},
       ),
     )
 

@@ -1,11 +1,11 @@
--- `sheets::copy` meets its contract. The loop's invariant: the first i entries are copied. Assumes nothing.
+-- `turns::copy` meets its contract. The loop's invariant: the first i entries are copied. Assumes nothing.
 use mathlib.Core.Path.{_≡_}
 use Prim.Native.Nat.{_-_, _≤_, zero-le}
 use native.Mathlib.Numerals.{add-one}
 use native.Mathlib.Omega.{arith}
 use Rattle.paper.specs.laws.Pages.{Copied, copied-none, copied-more}
-use Rattle.sheets.proofs.copy.Statement.{statement}
-use Rattle.sheets.proofs.copy.Tie as tie
+use Rattle.turns.proofs.copy.Statement.{statement}
+use Rattle.turns.proofs.copy.Tie as tie
 
 abbrev Inv-loop : tie.InvT-loop
 Inv-loop from n to₀ at i₀ to i = (i ≤ n) × Copied i at from to₀ to

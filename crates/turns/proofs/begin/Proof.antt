@@ -1,8 +1,8 @@
--- `sheets::begin` meets its contract. Assumes nothing.
+-- `turns::begin` meets its contract. Assumes nothing.
 use borrow.Author.Needs.{needs}
-use Rattle.sheets.proofs.Starts.{proper-on, working-on, solvable-on, untouching-on, first-on, given-on}
-use Rattle.sheets.proofs.begin.Statement.{statement}
-use Rattle.sheets.proofs.begin.Tie as tie
+use Rattle.turns.proofs.Starts.{proper-on, working-on, solvable-on, untouching-on, first-on, given-on}
+use Rattle.turns.proofs.begin.Statement.{statement}
+use Rattle.turns.proofs.begin.Tie as tie
 
 enum-told : tie.Need-enum-told
 enum-told c = search needs

@@ -1,9 +1,9 @@
--- `sheets::walk_on` meets its contract: the start, then turn by turn. Assumes nothing.
+-- `walks::walk_on` meets its contract: the start, then turn by turn. Assumes nothing.
 use borrow.Author.Needs.{needs}
 use mathlib.Core.Path.{refl}
-use Rattle.sheets.proofs.Walks.{began-best, began-room, walked}
-use Rattle.sheets.proofs.walk_on.Statement.{statement}
-use Rattle.sheets.proofs.walk_on.Tie as tie
+use Rattle.walks.proofs.Walked.{began-best, began-room, walked}
+use Rattle.walks.proofs.walk_on.Statement.{statement}
+use Rattle.walks.proofs.walk_on.Tie as tie
 
 begin-requires : tie.Need-begin-requires
 begin-requires c κs = search needs

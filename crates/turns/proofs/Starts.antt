@@ -1,24 +1,21 @@
 -- How a walk starts: what the search over the work lists replies, in the paper's words.
-use mathlib.Core.Path.{_≡_, refl, _∙_}
+use mathlib.Core.Path.{_≡_, refl}
 use mathlib.Core.Bool.{Bool, true, false}
 use mathlib.Core.List.{List}
 use Prim.Native.Nat.{ℕ, _≤_}
 use native.Mathlib.Omega.{arith}
 use lib.ListN.{length}
-use Rattle.totals.specs.Cell.{leastOf}
 use Rattle.steps.specs.Steps.{FirstIs, Told}
 use Rattle.steps.specs.Steps as steps
 use Rattle.choices.specs.Choices as choices
-use Rattle.steps.specs.Totals.{best-total}
 use Rattle.paper.specs.Job.{count}
-use Rattle.paper.specs.Layouts.{boardOf, held, Untouching, Best}
+use Rattle.paper.specs.Layouts.{boardOf, held, Untouching}
 use Rattle.paper.specs.Promises.{Kept}
-use Rattle.paper.specs.laws.Totals.{totalOf}
 use Rattle.paper.specs.laws.Existence.{untouching-exists}
 use Rattle.board.specs.Lists.{WorkOn}
-use Rattle.board.specs.Bridge.{proper, untouching-sol, sum-total, optimal-is-best, best-is-optimal, earliest-is}
-use Rattle.sheets.specs.declared.Start.the-variants.{First, Given}
-use Rattle.sheets.specs.Replies.{Ready, cost, Began, Begins}
+use Rattle.board.specs.Bridge.{proper, untouching-sol, optimal-is-best, best-is-optimal, earliest-is}
+use Rattle.turns.specs.declared.Start.the-variants.{First, Given}
+use Rattle.turns.specs.Turns.{Ready, Began, Begins}
 
 -- The work lists are what the search asks for,
 pub proper-on : (job : List ℕ) (lw bw : ℕ) {order lo hi cs : List ℕ} → WorkOn job lw bw order lo hi cs → choices.Proper order cs lo hi
@@ -48,7 +45,3 @@ module _ {job : List ℕ} {lw bw : ℕ} {order lo hi cs hs ts : List ℕ} (R : R
   pub given-on : (w : List ℕ) (r : Bool) → Told r (steps.BestLayout order cs lo hi w) → Begins Given job lw bw w w r
   given-on w true t = (optimal-is-best (R .work) (held w) t, refl)
   given-on w false t = (λ s. t (best-is-optimal (R .work) (held w) s), refl)
-
-  -- The least total is that of each best layout.
-  pub total-on : (t : ℕ) → t ≡ leastOf order cs lo hi → (v : List ℕ) → Best (boardOf job) (cost job lw bw) (held v) → t ≡ totalOf job lw bw v
-  total-on t e v s = best-total (proper (R .work)) t e v (best-is-optimal (R .work) (held v) s) ∙ sum-total (R .work) (held v) (s .untouching)
