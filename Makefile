@@ -36,11 +36,14 @@ sources := crates.txt $(shell find crates -name '*.rt' -o -name '*.antt')
 
 all: $(archive) $(program) $(shared) $(commands)
 
+# rt check proves crates that do not need each other side by side, rt staticlib one after the other.
 $(archive): $(sources)
+	rt check cheremysl sheet
 	rt staticlib cheremysl
 
-$(program): $(sources)
+$(program): $(archive)
 	rt check sheet
+	@touch $@
 
 # The code that is in the archive, linked so that nothing is left to bind later and nothing runs when it is loaded.
 $(shared): $(archive) tools/exports.map include/cheremysl.h

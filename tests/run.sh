@@ -1,16 +1,20 @@
 #!/bin/sh
-# tests/run.sh [--no-search] [ARCHIVE]: builds the library's archive, or takes the one given, then compiles and runs
-# the C tests, once as they are and once more under the sanitizers. Fails on any failure; the last line has the counts.
+# tests/run.sh [--no-search] [--fuzz | --no-fuzz] [ARCHIVE]: builds the library's archive, or takes the one given, then
+# compiles and runs the C tests, once as they are and once more under the sanitizers. Fails on any failure; the last line
+# has the counts.
 #   --no-search  only what needs Measure and Draw alone
+#   --fuzz, --no-fuzz  the fuzz trial alone; all but that. Two such runs may go on side by side
 #   SEED, TIMES  in the environment: another seed; so many times the usual number of random trials
 # What is missing is installed by apt-get (tools/machine.sh).
 set -u
 cd "$(dirname "$0")/.." || exit 2
-flags= archive= search=yes seed=${SEED:-1} times=${TIMES:-1} passed=0 failed=0
+flags= archive= search=yes part=all seed=${SEED:-1} times=${TIMES:-1} passed=0 failed=0
 for word; do
     case $word in
     --no-search) search= flags=-DNO_SEARCH ;;
-    -*) echo "usage: tests/run.sh [--no-search] [ARCHIVE]" >&2; exit 2 ;;
+    --fuzz) part=fuzz ;;
+    --no-fuzz) part=rest ;;
+    -*) echo "usage: tests/run.sh [--no-search] [--fuzz | --no-fuzz] [ARCHIVE]" >&2; exit 2 ;;
     *) archive=$word ;;
     esac
 done
@@ -22,7 +26,7 @@ if [ -z "$archive" ]; then
     archive=target/staticlib/libcheremysl.a
     rt staticlib cheremysl || exit 1
 fi
-out=target/tests
+out=target/tests/$part
 rm -rf $out && mkdir -p $out || exit 2
 
 # The sanitizers' own library does not run under the emulator: there, bad arithmetic traps.
@@ -77,6 +81,15 @@ both() {
         try "$1, sanitized" $out/$1-sanitized ${3:+$(($3 * times)) $((seed + 1))}
 }
 
+finish() {
+    echo "$passed passed, $failed failed"
+    [ $failed = 0 ]
+    exit
+}
+
+[ $part = rest ] || both fuzz 250000 25000
+[ $part != fuzz ] || finish
+
 # The archive exports nothing but the calls, has no variables, and needs nothing but memcpy and its kin.
 exports=$($nm -g --defined-only "$archive" | sed -En '/ cheremysl_(first|next|page|measure|draw)$/!s/.* . //p')
 others=$($nm "$archive" | sed -En '/ [BbCDdGgSs] | U /{/ U (mem(cpy|set|move|cmp)|_GLOBAL_OFFSET_TABLE_)$/!s/.* //p}')
@@ -95,7 +108,6 @@ both sheets
 both refusals
 both touching 100 10
 both random 250000 25000
-both fuzz 250000 25000
 if [ $search ]; then
     both every 20000 2000
     both large 100 10
@@ -117,5 +129,4 @@ for figure in $figures; do
     fi
 done
 
-echo "$passed passed, $failed failed"
-[ $failed = 0 ]
+finish
