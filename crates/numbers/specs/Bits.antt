@@ -1,5 +1,5 @@
--- Signed numbers as the machine has them. An `i64` local holds bits, so each value that is passed on, returned or computed with comes back as
--- `toZ w64 (ofZ w64 z)`, which is z where z fits. Assumes nothing.
+-- Signed numbers as the machine has them. A local of width w holds bits, so each value that is passed on, returned or computed with comes back as
+-- `toZ w (ofZ w z)`, which is z where z fits. Assumes nothing.
 use mathlib.Core.Path.{_≡_, sym, ap, _∙_, subst}
 use Prim.Native.Nat.{suc, _^_, _≤_, _<_}
 use native.Mathlib.Nat.{le-suc, le-refl, lt-of-le-of-lt, le-of-eq}
@@ -26,7 +26,7 @@ fits-neg w z h = fits w (negℤ z) (lt-of-le-of-lt (le-of-eq (natAbs-neg z)) h)
 pub read-back : (z : ℤ) → mag z < 2 ^ 63 → toZ w64 (ofZ w64 z) ≡ z
 read-back z h = toZ-ofZ {w = w64} (record { sfits = h })
 
--- The same for any width.
+-- So is one whose size fits a width, from the bits of that width.
 pub back : (w : Width) (z : ℤ) → natAbs z < 2 ^ hbits w → toZ w (ofZ w z) ≡ z
 back w z h = toZ-ofZ (fits w z h)
 
