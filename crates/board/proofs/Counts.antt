@@ -8,7 +8,7 @@ use lib.IntN.{ℤ}
 use lib.Signed.{_≤ℤ_, _<ℤ_}
 use Rattle.numbers.specs.Whole.{whole, up, dn, num-lt, num-eq, nlt-num}
 use Rattle.paper.specs.Layouts.{Board}
-use Rattle.paper.specs.laws.Proper.{Rising}
+use Rattle.paper.specs.Layouts.{Rising}
 use Rattle.board.specs.Lists.{Under, Upto}
 
 -- While they are counted: the ports before s are below h, those from t on are not.

@@ -9,7 +9,7 @@ use lib.Signed.{_≤ℤ_, _<ℤ_}
 use Rattle.numbers.specs.Filled.{Filled}
 use Rattle.order.specs.Falling.{OrderOf}
 use Rattle.paper.specs.Layouts.{Board, boardOf, weighted}
-use Rattle.paper.specs.laws.Proper.{Proper}
+use Rattle.paper.specs.Layouts.{Proper}
 
 -- Of n ports P holds of the first c, and of no other.
 pub record FirstOnes (n : ℕ) (P : ℕ → Type 0) (c : ℕ) : Type 0 where

@@ -9,7 +9,7 @@ use lib.Signed.{_<ℤ_}
 use Rattle.numbers.specs.Whole.{whole, nlt-num}
 use Rattle.paper.specs.Leaders.{Between}
 use Rattle.paper.specs.Layouts.{Board}
-use Rattle.paper.specs.laws.Proper.{Rising}
+use Rattle.paper.specs.Layouts.{Rising}
 use Rattle.paper.specs.laws.Touching.{between-end}
 use Rattle.board.specs.Lists.{Under, Upto}
 

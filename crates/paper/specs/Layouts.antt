@@ -1,4 +1,4 @@
--- DEFINITIONS. 01, "Leaders, touching and totals": layouts, their totals and their order, and the best ones, over a board of pads and ports.
+-- DEFINITIONS. 01, "Leaders, touching and totals": layouts and their totals, over a board of pads and ports.
 -- A layout f gives the pad of record i the port number f i.
 use mathlib.Core.Path.{_≡_}
 use mathlib.Core.Logic.{_≢_}
@@ -6,6 +6,7 @@ use mathlib.Core.List.{List}
 use Prim.Native.Nat.{ℕ, zero, suc, _+_, _*_, _≤_, _<_}
 use lib.ListN.{getD}
 use lib.IntN.{ℤ}
+use lib.Signed.{_<ℤ_}
 use Rattle.paper.specs.Job.{count, xOf, yOf, portOf}
 use Rattle.paper.specs.Leaders.{Leader, Touch, lengthOf, bendsOf}
 
@@ -50,6 +51,23 @@ pub record Untouching (b : Board) (f : ℕ → ℕ) : Type 0 where
   pub layout : Layout b f
   pub apart : (i j : ℕ) → j < i → i < b .pads → ¬ Touching b f i j
 
+-- f and g give every pad the same port.
+abbrev pub Same : Board → (ℕ → ℕ) → (ℕ → ℕ) → Type 0
+Same b f g = (i : ℕ) → i < b .pads → f i ≡ g i
+
+-- The x of all pads differ; port heights rise strictly.
+abbrev pub Differ : Board → Type 0
+Differ b = (i j : ℕ) → j < i → i < b .pads → b .x i ≢ b .x j
+
+abbrev pub Rising : Board → Type 0
+Rising b = (a c : ℕ) → a < c → c < b .ports → b .port a <ℤ b .port c
+
+-- Such a board, with at least as many ports as pads: that of every accepted job.
+pub record Proper (b : Board) : Type 0 where
+  pub enough : b .pads ≤ b .ports
+  pub differ : Differ b
+  pub rising : Rising b
+
 -- c 0 + c 1 + .. + c (n - 1)
 unfoldable pub sum : ℕ → (ℕ → ℕ) → ℕ
 sum zero c = 0
@@ -62,28 +80,3 @@ weighted b lw bw i q = lw * lengthOf (leader b i q) + bw * bendsOf (leader b i q
 -- The total of a layout, for any such cost. (With the weighted cost it is (length weight × sum of lengths) + (bend weight × sum of bends): `total-is`.)
 abbrev pub total : Board → (ℕ → ℕ → ℕ) → (ℕ → ℕ) → ℕ
 total b cost f = sum (b .pads) (λ i. cost i (f i))
-
--- A best layout has no touching pair, and no layout without a touching pair has a smaller total.
-pub record Best (b : Board) (cost : ℕ → ℕ → ℕ) (f : ℕ → ℕ) : Type 0 where
-  pub untouching : Untouching b f
-  pub least : (g : ℕ → ℕ) → Untouching b g → total b cost f ≤ total b cost g
-
--- 01's order. f comes before g: at some pad f has the smaller port number, and at every pad to the right of it they have the same.
-pub record Before (b : Board) (f g : ℕ → ℕ) : Type 0 where
-  pub pad : ℕ
-  pub inside : pad < b .pads
-  pub smaller : f pad < g pad
-  pub alike : (j : ℕ) → j < b .pads → b .x pad < b .x j → f j ≡ g j
-
--- The earliest best layout; the earliest best layout after l; and l has no best layout after it.
-pub record FirstBest (b : Board) (cost : ℕ → ℕ → ℕ) (f : ℕ → ℕ) : Type 0 where
-  pub best : Best b cost f
-  pub earliest : (g : ℕ → ℕ) → Best b cost g → ¬ Before b g f
-
-pub record NextBest (b : Board) (cost : ℕ → ℕ → ℕ) (l f : ℕ → ℕ) : Type 0 where
-  pub best : Best b cost f
-  pub later : Before b l f
-  pub earliest : (g : ℕ → ℕ) → Best b cost g → Before b l g → ¬ Before b g f
-
-abbrev pub LastBest : Board → (ℕ → ℕ → ℕ) → (ℕ → ℕ) → Type 0
-LastBest b cost l = (g : ℕ → ℕ) → Best b cost g → ¬ Before b l g

@@ -2,6 +2,7 @@
 pub mod Job
 pub mod Leaders
 pub mod Layouts
+pub mod Problem
 pub mod Refusals
 pub mod Canvas
 pub mod Promises

@@ -3,9 +3,9 @@
 use mathlib.Core.Path.{_≡_}
 use mathlib.Core.Logic.{_⊎_}
 use mathlib.Core.List.{List, [], _∷_, _++_}
-use Prim.Native.Nat.{ℕ, zero, suc, _+_, _*_, _≤_, _<_}
+use Prim.Native.Nat.{ℕ, zero, suc, _+_, _*_, _/_, _%_, _≤_, _<_}
 use lib.ListN.{length, getD, drop}
-use lib.IntN.{ℤ, pos, negsuc, negℤ}
+use lib.IntN.{ℤ, pos, negsuc, negℤ, natAbs}
 use lib.Ieee.{Float}
 use Rattle.paper.specs.declared.Refusal.{Refusal}
 use Rattle.paper.specs.declared.Answer.{Answer}
@@ -14,8 +14,9 @@ use Rattle.paper.specs.declared.Paged.{Paged}
 use Rattle.paper.specs.declared.Paged.the-variants.{Wrote, Refused as NotPaged}
 use Rattle.paper.specs.declared.Drawn.{Drawn}
 use Rattle.paper.specs.declared.Drawn.the-variants.{Straight, Bent, Refused as NotDrawn}
-use Rattle.paper.specs.Layouts.{Board, boardOf, held, leader, weighted, total, FirstBest, NextBest, LastBest}
-use Rattle.paper.specs.Refusals.{Trial, Passed, RefusedBy, firstTrials, measureTrials, nextTrials, drawTrials}
+use Rattle.paper.specs.Layouts.{boardOf, held, leader}
+use Rattle.paper.specs.Problem.{Problem, FirstBest, NextBest, LastBest}
+use Rattle.paper.specs.Refusals.{Passed, RefusedBy, refusal, drawTrials, Calls, entries, callsOf}
 use Rattle.paper.specs.Canvas.{DrawnStraight, DrawnBent}
 
 -- ---- C's number for each answer
@@ -23,6 +24,10 @@ use Rattle.paper.specs.Canvas.{DrawnStraight, DrawnBent}
 -- refusal r with record i and the earlier record j as -(4,294,967,296 × j + 65,536 × r + i)
 abbrev pub refusalNumber : Refusal → ℤ
 refusalNumber r = negℤ (pos (4294967296 * r .earlier + 65536 * r .reason + r .at))
+
+-- what a caller takes out of such a number again: the header's functions
+abbrev pub refusalIn : ℤ → Refusal
+refusalIn c = refusal (natAbs c / 65536 % 65536) (natAbs c % 65536) (natAbs c / 4294967296)
 
 -- the total as itself, end as -1
 abbrev pub number : Answer → ℤ
@@ -65,53 +70,81 @@ overwritten cs before = cs ++ drop (length cs) before
 
 -- ---- the promises
 
--- Each is said for any trials, board and cost, and then for 01's: lw and bw are the length weight and the bend weight.
+-- Each is said for any calls, by their problem and their trials, and then for 01's.
 
--- FIRST: the earliest best layout fills the first n entries, and the answer is its total.
-abbrev pub FirstOver : List Trial → Board → (ℕ → ℕ → ℕ) → List ℕ → Answer → List ℕ → Type 0
-FirstOver trials b cost before (Total t) after =
-    Passed trials × FirstBest b cost (held after) × (t ≡ total b cost (held after)) × Kept (b .pads) before after
-FirstOver trials b cost before End after = ⊥
-FirstOver trials b cost before (Refused r) after = RefusedBy trials r × (after ≡ before)
+-- FIRST: the earliest best layout fills the first n entries, and the answer is its value: for 01, its total.
+abbrev pub FirstOver : Calls → List ℕ → Answer → List ℕ → Type 0
+FirstOver c before (Total t) after =
+    Passed (c .first (length before)) × FirstBest (c .problem) (held after) × (t ≡ c .problem .value (held after)) × Kept (entries c) before after
+FirstOver c before End after = ⊥
+FirstOver c before (Refused r) after = RefusedBy (c .first (length before)) r × (after ≡ before)
 
-abbrev pub FirstAnswers : List ℕ → ℕ → ℕ → List ℕ → Answer → List ℕ → Type 0
-FirstAnswers job lw bw before = FirstOver (firstTrials job lw bw (length before)) (boardOf job) (weighted (boardOf job) lw bw) before
-
--- NEXT: the earliest best layout after the given one replaces it, and the answer is its total; or no best layout comes after the given one, and
+-- NEXT: the earliest best layout after the given one replaces it, and the answer is its value; or no best layout comes after the given one, and
 -- the answer is end.
-abbrev pub NextOver : List Trial → Board → (ℕ → ℕ → ℕ) → List ℕ → Answer → List ℕ → Type 0
-NextOver trials b cost before (Total t) after =
-    Passed trials × NextBest b cost (held before) (held after) × (t ≡ total b cost (held after)) × Kept (b .pads) before after
-NextOver trials b cost before End after = Passed trials × LastBest b cost (held before) × (after ≡ before)
-NextOver trials b cost before (Refused r) after = RefusedBy trials r × (after ≡ before)
-
-abbrev pub NextAnswers : List ℕ → ℕ → ℕ → List ℕ → Answer → List ℕ → Type 0
-NextAnswers job lw bw before = NextOver (nextTrials job lw bw before) (boardOf job) (weighted (boardOf job) lw bw) before
+abbrev pub NextOver : Calls → List ℕ → Answer → List ℕ → Type 0
+NextOver c before (Total t) after =
+    Passed (c .next before) × NextBest (c .problem) (held before) (held after) × (t ≡ c .problem .value (held after)) × Kept (entries c) before after
+NextOver c before End after = Passed (c .next before) × LastBest (c .problem) (held before) × (after ≡ before)
+NextOver c before (Refused r) after = RefusedBy (c .next before) r × (after ≡ before)
 
 -- PAGE: k layouts stand on the page, each the earliest best layout after the one before it, the first of them after the given one. They are as many
 -- as fit, or fewer where the end comes: no best layout comes after the last of them. Whatever part of the page is not filled is unchanged.
-pub record Following (b : Board) (cost : ℕ → ℕ → ℕ) (given before : List ℕ) (k : ℕ) (after : List ℕ) : Type 0 where
-  pub fit : k * b .pads ≤ length before
-  pub follow : (j : ℕ) → j < k → NextBest b cost (inTurn (b .pads) given after j) (inTurn (b .pads) given after (suc j))
-  pub all : (length before < suc k * b .pads) ⊎ LastBest b cost (inTurn (b .pads) given after k)
-  pub kept : Kept (k * b .pads) before after
-
-abbrev pub PageOver : List Trial → Board → (ℕ → ℕ → ℕ) → List ℕ → List ℕ → Paged → List ℕ → Type 0
-PageOver trials b cost given before (Wrote k) after = Passed trials × Following b cost given before k after
-PageOver trials b cost given before (NotPaged r) after = RefusedBy trials r × (after ≡ before)
+pub record Following (p : Problem) (given before : List ℕ) (k : ℕ) (after : List ℕ) : Type 0 where
+  pub fit : k * p .board .pads ≤ length before
+  pub follow : (j : ℕ) → j < k → NextBest p (inTurn (p .board .pads) given after j) (inTurn (p .board .pads) given after (suc j))
+  pub all : (length before < suc k * p .board .pads) ⊎ LastBest p (inTurn (p .board .pads) given after k)
+  pub kept : Kept (k * p .board .pads) before after
 
 -- Its trials are Next's, of the given layout: none speaks of the page.
-abbrev pub PageAnswers : List ℕ → ℕ → ℕ → List ℕ → List ℕ → Paged → List ℕ → Type 0
-PageAnswers job lw bw given before = PageOver (nextTrials job lw bw given) (boardOf job) (weighted (boardOf job) lw bw) given before
+abbrev pub PageOver : Calls → List ℕ → List ℕ → Paged → List ℕ → Type 0
+PageOver c given before (Wrote k) after = Passed (c .next given) × Following (c .problem) given before k after
+PageOver c given before (NotPaged r) after = RefusedBy (c .next given) r × (after ≡ before)
 
--- MEASURE: the total of an untouching layout, best or not. Its list is only read.
-abbrev pub MeasureOver : List Trial → Board → (ℕ → ℕ → ℕ) → List ℕ → Answer → Type 0
-MeasureOver trials b cost list (Total t) = Passed trials × (t ≡ total b cost (held list))
-MeasureOver trials b cost list End = ⊥
-MeasureOver trials b cost list (Refused r) = RefusedBy trials r
+-- MEASURE: the value of a layout that counts, best or not. Its list is only read.
+abbrev pub MeasureOver : Calls → List ℕ → Answer → Type 0
+MeasureOver c list (Total t) = Passed (c .measure list) × (t ≡ c .problem .value (held list))
+MeasureOver c list End = ⊥
+MeasureOver c list (Refused r) = RefusedBy (c .measure list) r
+
+-- ---- what C sees: the number m of such an answer, and the list
+
+abbrev pub FirstReplies : Calls → List ℕ → ℤ → List ℕ → Type 0
+FirstReplies c before m after = (a : Answer) × FirstOver c before a after × (m ≡ number a)
+
+abbrev pub NextReplies : Calls → List ℕ → ℤ → List ℕ → Type 0
+NextReplies c before m after = (a : Answer) × NextOver c before a after × (m ≡ number a)
+
+abbrev pub PageReplies : Calls → List ℕ → List ℕ → ℤ → List ℕ → Type 0
+PageReplies c given before m after = (a : Paged) × PageOver c given before a after × (m ≡ pagedNumber a)
+
+abbrev pub MeasureReplies : Calls → List ℕ → ℤ → Type 0
+MeasureReplies c list m = (a : Answer) × MeasureOver c list a × (m ≡ number a)
+
+-- ---- 01's calls: their answers in the language, and their promises to C
+
+abbrev pub FirstAnswers : List ℕ → ℕ → ℕ → List ℕ → Answer → List ℕ → Type 0
+FirstAnswers job lw bw = FirstOver (callsOf job lw bw)
+
+abbrev pub NextAnswers : List ℕ → ℕ → ℕ → List ℕ → Answer → List ℕ → Type 0
+NextAnswers job lw bw = NextOver (callsOf job lw bw)
+
+abbrev pub PageAnswers : List ℕ → ℕ → ℕ → List ℕ → List ℕ → Paged → List ℕ → Type 0
+PageAnswers job lw bw = PageOver (callsOf job lw bw)
 
 abbrev pub MeasureAnswers : List ℕ → ℕ → ℕ → List ℕ → Answer → Type 0
-MeasureAnswers job lw bw list = MeasureOver (measureTrials job lw bw list) (boardOf job) (weighted (boardOf job) lw bw) list
+MeasureAnswers job lw bw = MeasureOver (callsOf job lw bw)
+
+abbrev pub FirstPromise : List ℕ → ℕ → ℕ → List ℕ → ℤ → List ℕ → Type 0
+FirstPromise job lw bw = FirstReplies (callsOf job lw bw)
+
+abbrev pub NextPromise : List ℕ → ℕ → ℕ → List ℕ → ℤ → List ℕ → Type 0
+NextPromise job lw bw = NextReplies (callsOf job lw bw)
+
+abbrev pub PagePromise : List ℕ → ℕ → ℕ → List ℕ → List ℕ → ℤ → List ℕ → Type 0
+PagePromise job lw bw = PageReplies (callsOf job lw bw)
+
+abbrev pub MeasurePromise : List ℕ → ℕ → ℕ → List ℕ → ℤ → Type 0
+MeasurePromise job lw bw = MeasureReplies (callsOf job lw bw)
 
 -- DRAW: the leader of the pad of record i to port q.
 abbrev pub DrawAnswers : List ℕ → ℕ → ℕ → List Float → Drawn → List Float → Type 0
@@ -120,20 +153,6 @@ DrawAnswers job i q before (Straight d) after =
 DrawAnswers job i q before (Bent d) after =
     Passed (drawTrials job i q (length before)) × DrawnBent (leader (boardOf job) i q) d × (after ≡ overwritten (coordinates (Bent d)) before)
 DrawAnswers job i q before (NotDrawn r) after = RefusedBy (drawTrials job i q (length before)) r × (after ≡ before)
-
--- ---- what C sees: the number c of such an answer, and the list
-
-abbrev pub FirstPromise : List ℕ → ℕ → ℕ → List ℕ → ℤ → List ℕ → Type 0
-FirstPromise job lw bw before c after = (a : Answer) × FirstAnswers job lw bw before a after × (c ≡ number a)
-
-abbrev pub NextPromise : List ℕ → ℕ → ℕ → List ℕ → ℤ → List ℕ → Type 0
-NextPromise job lw bw before c after = (a : Answer) × NextAnswers job lw bw before a after × (c ≡ number a)
-
-abbrev pub PagePromise : List ℕ → ℕ → ℕ → List ℕ → List ℕ → ℤ → List ℕ → Type 0
-PagePromise job lw bw given before c after = (a : Paged) × PageAnswers job lw bw given before a after × (c ≡ pagedNumber a)
-
-abbrev pub MeasurePromise : List ℕ → ℕ → ℕ → List ℕ → ℤ → Type 0
-MeasurePromise job lw bw list c = (a : Answer) × MeasureAnswers job lw bw list a × (c ≡ number a)
 
 abbrev pub DrawPromise : List ℕ → ℕ → ℕ → List Float → ℤ → List Float → Type 0
 DrawPromise job i q before c after = (d : Drawn) × DrawAnswers job i q before d after × (c ≡ drawnNumber d)

@@ -8,7 +8,8 @@ use lib.IntN.{ℤ, pos, natAbs, _-ℤ_}
 use lib.Signed.{_≤ℤ_, _<ℤ_}
 use Rattle.paper.specs.declared.Refusal.{Refusal}
 use Rattle.paper.specs.Job.{count, nameOf, reservedOf, xOf, yOf, portOf}
-use Rattle.paper.specs.Layouts.{Board, boardOf, held, Touching, Untouching, weighted, Best}
+use Rattle.paper.specs.Layouts.{Board, boardOf, held, Touching}
+use Rattle.paper.specs.Problem.{Problem, Best, labelingOf}
 
 -- ---- trials
 
@@ -118,9 +119,9 @@ layoutTrials b list =
     ofPairs 9 (b .pads) (Touching b (held list)) ∷
     []
 
--- 10: the given layout has no touching pair but isn't best
-abbrev pub bestTrial : Board → (ℕ → ℕ → ℕ) → List ℕ → Trial
-bestTrial b cost list = ofWhole 10 (Untouching b (held list) × ¬ Best b cost (held list))
+-- 10: the given layout counts, for 01 it has no touching pair, but isn't best
+abbrev pub bestTrial : Problem → List ℕ → Trial
+bestTrial p list = ofWhole 10 (p .Counts (held list) × ¬ Best p (held list))
 
 -- 11: Draw's record or port number is n or more
 abbrev pub numberTrial : List ℕ → ℕ → ℕ → Trial
@@ -136,8 +137,48 @@ measureTrials job lw bw list = firstTrials job lw bw (length list) ++ layoutTria
 
 -- Next: Measure's and 10
 abbrev pub nextTrials : List ℕ → ℕ → ℕ → List ℕ → List Trial
-nextTrials job lw bw list = measureTrials job lw bw list ++ (bestTrial (boardOf job) (weighted (boardOf job) lw bw) list ∷ [])
+nextTrials job lw bw list = measureTrials job lw bw list ++ (bestTrial (labelingOf job lw bw) list ∷ [])
 
 -- Draw, of record i to port q with room for so many floats: 1, 3, the job's and 11. 3: the float list has fewer than six
 abbrev pub drawTrials : List ℕ → ℕ → ℕ → ℕ → List Trial
 drawTrials job i q room = ofWhole 1 (BadSize job) ∷ ofWhole 3 (room < 6) ∷ jobTrials job ++ (numberTrial job i q ∷ [])
+
+-- ---- calls
+
+-- The calls on a problem, by their trials: those of First, with room for so many entries, and those of Measure and of Next, with the list.
+pub record Calls : Type 1 where
+  pub problem : Problem
+  pub first : ℕ → List Trial
+  pub measure : List ℕ → List Trial
+  pub next : List ℕ → List Trial
+
+-- How many entries a layout has: one a pad.
+abbrev pub entries : Calls → ℕ
+entries c = c .problem .board .pads
+
+-- 01's, on a job with its weights.
+abbrev pub callsOf : List ℕ → ℕ → ℕ → Calls
+callsOf job lw bw = record {
+  problem = labelingOf job lw bw;
+  first = firstTrials job lw bw;
+  measure = measureTrials job lw bw;
+  next = nextTrials job lw bw;
+}
+
+-- ---- which records a refusal names
+
+-- A refusal that names one record.
+abbrev pub Alone : Refusal → Type 0
+Alone r = (r .reason ≢ 9) × (r .earlier ≡ 0)
+
+-- 02: "the smallest record that touches an earlier one, and with it the smallest such earlier record".
+pub record FirstPair (b : Board) (f : ℕ → ℕ) (i j : ℕ) : Type 0 where
+  pub inside : i < b .pads
+  pub before : j < i
+  pub touch : Touching b f i j
+  pub smallest : (k m : ℕ) → k < i → m < k → ¬ Touching b f k m
+  pub smallest-earlier : (m : ℕ) → m < j → ¬ Touching b f i m
+
+-- One record, or by 9 the first touching pair.
+abbrev pub Named : Board → (ℕ → ℕ) → Refusal → Type 0
+Named b f r = Alone r ⊎ ((r .reason ≡ 9) × FirstPair b f (r .at) (r .earlier))

@@ -4,7 +4,6 @@ pub mod Search
 pub mod Tests
 pub mod Verdicts
 -- Touching, totals, layouts and their order:
-pub mod Proper
 pub mod Touching
 pub mod Plane
 pub mod Totals
@@ -13,6 +12,7 @@ pub mod Order
 -- The refusals:
 pub mod Trials
 pub mod Judged
+pub mod Decided
 pub mod Accepted
 pub mod Named
 pub mod Numbers
@@ -29,6 +29,7 @@ pub mod Rank
 pub mod Earliest
 pub mod Kept
 pub mod Pages
+pub mod Regular
 -- THE THEOREMS: determinacy, each promise can be met, demand 3, a page is what calls of Next give, straightening costs no length, the worked sheets.
 pub mod Determined
 pub mod Met

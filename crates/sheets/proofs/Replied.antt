@@ -9,7 +9,7 @@ use lib.ListN.{length}
 use Rattle.paper.specs.Job.{count}
 use Rattle.paper.specs.Layouts.{Board, boardOf, held, Untouching, total, Best, NextBest, LastBest}
 use Rattle.paper.specs.Promises.{Following}
-use Rattle.paper.specs.laws.Proper.{Same}
+use Rattle.paper.specs.Layouts.{Same}
 use Rattle.paper.specs.laws.Boards.{best-same, untouching-same}
 use Rattle.paper.specs.laws.Order.{first-best-same, next-best-same}
 use Rattle.paper.specs.laws.Kept.{kept-trans, kept-one}

@@ -11,7 +11,7 @@ use Rattle.choices.specs.Choices.{Working}
 use Rattle.paper.specs.Job.{count}
 use Rattle.paper.specs.Layouts.{boardOf, held, Best}
 use Rattle.paper.specs.Promises.{Kept, inTurn}
-use Rattle.paper.specs.laws.Proper.{Same}
+use Rattle.paper.specs.Layouts.{Same}
 use Rattle.paper.specs.laws.Order.{next-of-same, last-of-same}
 use Rattle.paper.specs.laws.Kept.{kept-trans}
 use Rattle.paper.specs.laws.Pages.{one-more, Copied, Paging, paging-none, paging-here, paging-more, page-full, page-ends}

@@ -8,7 +8,7 @@ use Rattle.totals.specs.Cell.{Table}
 use Rattle.paper.specs.Job.{count}
 use Rattle.paper.specs.Layouts.{boardOf, held, weighted, Untouching, Best, FirstBest}
 use Rattle.paper.specs.Promises.{Kept, inTurn, Following}
-use Rattle.paper.specs.laws.Proper.{Same}
+use Rattle.paper.specs.Layouts.{Same}
 use Rattle.board.specs.Lists.{WorkOn}
 use Rattle.turns.specs.declared.Start.{Start}
 use Rattle.turns.specs.declared.Start.the-variants.{First, Given}

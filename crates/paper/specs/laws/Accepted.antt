@@ -1,6 +1,6 @@
 -- What a call may go by once its trials are passed.
 use mathlib.Core.Path.{_≡_, refl, ap}
-use mathlib.Core.Logic.{_≢_, inl, inr, ⊎-elim, Dec·not-not}
+use mathlib.Core.Logic.{_≢_, inl, inr, ⊎-elim, _↔_, Dec·not-not}
 use mathlib.Core.List.{List, [], _∷_}
 use Prim.Native.Nat.{ℕ, zero, suc, _*_, _%_, _-_, _≤_, _<_}
 use native.Mathlib.Nat.{lt-of-not-le, le-of-suc-le-suc, not-suc-le-zero, eq-or-lt-of-le}
@@ -12,10 +12,11 @@ use lib.Signed.{_≤ℤ_}
 use Rattle.numbers.specs.Whole.{whole, nlt-num, plus-num, less-num}
 use Rattle.paper.specs.declared.Refusal.{Refusal}
 use Rattle.paper.specs.Job.{count, reservedOf, xOf, yOf, portOf}
-use Rattle.paper.specs.Layouts.{boardOf, held, weighted, total, Layout, Untouching, Best}
+use Rattle.paper.specs.Layouts.{Board, boardOf, held, weighted, total, Layout, Untouching}
+use Rattle.paper.specs.Problem.{Best, labelingOf}
 use Rattle.paper.specs.Refusals.{BadSize, BadEntry, Passed, RefusedBy, refusal}
 use Rattle.paper.specs.Refusals.{jobTrials, firstTrials, measureTrials, nextTrials, drawTrials, layoutTrials, bestTrial, numberTrial}
-use Rattle.paper.specs.laws.Proper.{Differ, Rising, Proper}
+use Rattle.paper.specs.Layouts.{Differ, Rising, Proper}
 use Rattle.paper.specs.laws.Trials.{alone, passed-append, append-passed, refused-left, refused-right}
 use Rattle.paper.specs.laws.Judged.{passed-differ}
 use Rattle.paper.specs.laws.Totals.{total-bound}
@@ -101,17 +102,26 @@ pub accepted-bound : (job : List ℕ) (lw bw : ℕ) → Accepted job → lw ≤ 
     → total (boardOf job) (weighted (boardOf job) lw bw) f ≤ 192000064000
 accepted-bound job lw bw a h k f l = total-bound (boardOf job) lw bw h k (a .width) (a .pad) (a .port) f (a .few) (l .inside)
 
+-- 8 and 9 are passed exactly if the list holds an untouching layout, on any board.
+pub layout-passed : (b : Board) (list : List ℕ) → Passed (layoutTrials b list) ↔ Untouching b (held list)
+layout-passed b list = (
+  (λ (c8, (c9, _)). record {
+    layout = record { inside = λ i l. lt-of-not-le (λ h. c8 i l (inl h)); own = λ i j l k e. c8 i k (inr (j, l, e)) };
+    apart = λ i j l k t. c9 i k (j, l, t);
+  }),
+  (λ u. (entries u, ((λ i l (j, k, t). u .apart i j k l t), tt))),
+)
+  where
+    entries : Untouching b (held list) → (i : ℕ) → i < b .pads → ¬ BadEntry (b .ports) list i
+    entries u i l (inl h) = omega (arith, u .layout .inside i l)
+    entries u i l (inr (j, k, e)) = u .layout .own i j k l e
+
 module _ (job : List ℕ) (lw bw : ℕ) (list : List ℕ) where
   -- Measure's are passed: First's are, and the list holds an untouching layout.
   pub measure-accepted : Passed (measureTrials job lw bw list) → Passed (firstTrials job lw bw (length list)) × Untouching (boardOf job) (held list)
   measure-accepted p =
-      let (passed, (c8, (c9, _))) = append-passed (firstTrials job lw bw (length list)) (layoutTrials (boardOf job) list) p in (
-        passed,
-        record {
-          layout = record { inside = λ i l. lt-of-not-le (λ h. c8 i l (inl h)); own = λ i j l k e. c8 i k (inr (j, l, e)) };
-          apart = λ i j l k t. c9 i k (j, l, t);
-        },
-      )
+      let (passed, rest) = append-passed (firstTrials job lw bw (length list)) (layoutTrials (boardOf job) list) p in
+      (passed, layout-passed (boardOf job) list .0 rest)
 
   -- So then the job is accepted, with weights in range and room for the layout, and the entries are port numbers.
   pub measure-facts : Passed (measureTrials job lw bw list) → Accepted job × (lw ≤ 1000) × (bw ≤ 1000) × (count job ≤ length list)
@@ -122,31 +132,26 @@ module _ (job : List ℕ) (lw bw : ℕ) (list : List ℕ) where
 
   -- And the other way round.
   pub untouching-passed : Passed (firstTrials job lw bw (length list)) → Untouching (boardOf job) (held list) → Passed (measureTrials job lw bw list)
-  untouching-passed p u =
-      passed-append (firstTrials job lw bw (length list)) (layoutTrials (boardOf job) list) p (entries, ((λ i l (j, k, t). u .apart i j k l t), tt))
-    where
-      entries : (i : ℕ) → i < count job → ¬ BadEntry (count job) list i
-      entries i l (inl h) = omega (arith, u .layout .inside i l)
-      entries i l (inr (j, k, e)) = u .layout .own i j k l e
+  untouching-passed p u = passed-append (firstTrials job lw bw (length list)) (layoutTrials (boardOf job) list) p (layout-passed (boardOf job) list .1 u)
 
   -- Next's are if Measure's are and the list holds a best layout;
-  pub best-passed : Passed (measureTrials job lw bw list) → Best (boardOf job) (weighted (boardOf job) lw bw) (held list) → Passed (nextTrials job lw bw list)
-  best-passed p b = passed-append (measureTrials job lw bw list) (bestTrial (boardOf job) (weighted (boardOf job) lw bw) list ∷ []) p ((λ i l (u, n). n b), tt)
+  pub best-passed : Passed (measureTrials job lw bw list) → Best (labelingOf job lw bw) (held list) → Passed (nextTrials job lw bw list)
+  best-passed p b = passed-append (measureTrials job lw bw list) (bestTrial (labelingOf job lw bw) list ∷ []) p ((λ i l (u, n). n b), tt)
 
   -- if the layout is not a best one, Next refuses by 10.
-  pub not-best-refused : Passed (measureTrials job lw bw list) → ¬ Best (boardOf job) (weighted (boardOf job) lw bw) (held list)
+  pub not-best-refused : Passed (measureTrials job lw bw list) → ¬ Best (labelingOf job lw bw) (held list)
       → RefusedBy (nextTrials job lw bw list) (refusal 10 0 0)
   not-best-refused p n =
-      refused-right (measureTrials job lw bw list) (bestTrial (boardOf job) (weighted (boardOf job) lw bw) list ∷ []) (refusal 10 0 0) p
+      refused-right (measureTrials job lw bw list) (bestTrial (labelingOf job lw bw) list ∷ []) (refusal 10 0 0) p
       (inl (refl, record { inside = omega arith; first = record { here = (measure-accepted p .1, n); none-below = λ j l. absurd (omega arith) }; named = alone }))
 
   -- What Measure refuses, Next refuses alike.
   pub measure-refused : (r : Refusal) → RefusedBy (measureTrials job lw bw list) r → RefusedBy (nextTrials job lw bw list) r
-  measure-refused r = refused-left (measureTrials job lw bw list) (bestTrial (boardOf job) (weighted (boardOf job) lw bw) list ∷ []) r
+  measure-refused r = refused-left (measureTrials job lw bw list) (bestTrial (labelingOf job lw bw) list ∷ []) r
 
   -- Where Next's trials are passed, so are Measure's, and the x of all pads differ.
   pub next-measured : Passed (nextTrials job lw bw list) → Passed (measureTrials job lw bw list)
-  next-measured p = append-passed (measureTrials job lw bw list) (bestTrial (boardOf job) (weighted (boardOf job) lw bw) list ∷ []) p .0
+  next-measured p = append-passed (measureTrials job lw bw list) (bestTrial (labelingOf job lw bw) list ∷ []) p .0
 
   pub next-differ : Passed (nextTrials job lw bw list) → Differ (boardOf job)
   next-differ p = measure-facts (next-measured p) .0 .proper .differ

@@ -5,8 +5,8 @@ use Prim.Native.Nat.{ℕ, zero, suc, _<_}
 use native.Mathlib.Decide.{decLt, ℕ-discrete}
 use native.Mathlib.Omega.{arith}
 use Rattle.paper.specs.Leaders.{Between}
-use Rattle.paper.specs.Layouts.{Board, leader, Touching, Layout, StandsOnce, EachOnce, Untouching, weighted, total, Best}
-use Rattle.paper.specs.laws.Proper.{Differ, Same}
+use Rattle.paper.specs.Layouts.{Board, leader, Touching, Layout, StandsOnce, EachOnce, Untouching, weighted, total, Differ, Same}
+use Rattle.paper.specs.Problem.{Best, labeling}
 use Rattle.paper.specs.laws.Touching.{touch-sym, touch-iff}
 use Rattle.paper.specs.laws.Totals.{sum-same, total-is}
 
@@ -27,16 +27,9 @@ module _ (b : Board) (f g : ℕ → ℕ) (same : Same b f g) where
     apart = λ i j l k t. u .apart i j l k (rw (same i k, same j (omega arith)) t);
   }
 
--- The total depends only on the pads' ports,
+-- The total depends only on the pads' ports.
 pub total-same : (b : Board) (cost : ℕ → ℕ → ℕ) (f g : ℕ → ℕ) → Same b f g → total b cost f ≡ total b cost g
 total-same b cost f g same = sum-same (b .pads) (λ i. cost i (f i)) (λ i. cost i (g i)) (λ i l. rw (same i l))
-
--- and so does being best.
-pub best-same : (b : Board) (cost : ℕ → ℕ → ℕ) (f g : ℕ → ℕ) → Same b f g → Best b cost f → Best b cost g
-best-same b cost f g same s = record {
-  untouching = untouching-same b f g same (s .untouching);
-  least = λ h u. omega (arith, s .least h u, total-same b cost f g same);
-}
 
 -- ---- 01's criterion
 
@@ -185,5 +178,5 @@ module _ (b : Board) (f : ℕ → ℕ) (same : b .ports ≡ b .pads) where
   layout-iff = (each-once, once-layout)
 
 -- THEOREM: with both weights 0 every untouching layout is best.
-pub zero-weights : (b : Board) (f : ℕ → ℕ) → Untouching b f → Best b (weighted b 0 0) f
-zero-weights b f u = record { untouching = u; least = λ g v. omega (arith, total-is b 0 0 f, total-is b 0 0 g) }
+pub zero-weights : (b : Board) (f : ℕ → ℕ) → Untouching b f → Best (labeling b (weighted b 0 0)) f
+zero-weights b f u = record { counts = u; least = λ g v. omega (arith, total-is b 0 0 f, total-is b 0 0 g) }

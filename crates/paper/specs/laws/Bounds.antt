@@ -27,14 +27,14 @@ total-bounded job lw bw room t list p l e = let a = first-accepted job lw bw roo
 
 module _ (job : List ℕ) (lw bw : ℕ) (before : List ℕ) where
   pub first-bounded : (a : Answer) (after : List ℕ) → FirstAnswers job lw bw before a after → Bounded a
-  first-bounded (Total t) after f = total-bounded job lw bw (length before) t after (f .0) (f .1 .best .untouching .layout) (f .2)
+  first-bounded (Total t) after f = total-bounded job lw bw (length before) t after (f .0) (f .1 .best .counts .layout) (f .2)
   first-bounded End after f = tt
   first-bounded (Refused r) after f = tt
 
   pub next-bounded : (a : Answer) (after : List ℕ) → NextAnswers job lw bw before a after → Bounded a
   next-bounded (Total t) after n =
       let p = measure-accepted job lw bw before (next-measured job lw bw before (n .0)) .0 in
-      total-bounded job lw bw (length before) t after p (n .1 .best .untouching .layout) (n .2)
+      total-bounded job lw bw (length before) t after p (n .1 .best .counts .layout) (n .2)
   next-bounded End after n = tt
   next-bounded (Refused r) after n = tt
 

@@ -9,7 +9,7 @@ use Rattle.numbers.specs.Whole.{whole, apart-num}
 use Rattle.numbers.specs.Tests.{dec-iff}
 use Rattle.paper.specs.Leaders.{Between, distance, lengthOf}
 use Rattle.paper.specs.Layouts.{Board, leader, Layout, Untouching, sum}
-use Rattle.paper.specs.laws.Proper.{Proper}
+use Rattle.paper.specs.Layouts.{Proper}
 use Rattle.paper.specs.laws.Tests.{between}
 use Rattle.paper.specs.laws.Touching.{between-iff}
 use Rattle.paper.specs.laws.Boards.{untouched-iff, untouching-of}

@@ -19,7 +19,7 @@ use Rattle.paper.specs.laws.Search.{earlier}
 use Rattle.paper.specs.laws.Tests.{badSize, badWeight, outside, badField, notAbove, tooClose, sameName, sameX, sameEntry, badEntry, touch, badNumber}
 use Rattle.paper.specs.laws.Verdicts.{run, jobFindings, layoutFindings, firstFindings, measureFindings, drawFindings}
 use Rattle.paper.specs.laws.Trials.{Judged, Tried, earlier-iff, finds-first, finds-whole, finds-pairs, tried-none, tried-more, tried-append}
-use Rattle.paper.specs.laws.Proper.{Differ}
+use Rattle.paper.specs.Layouts.{Differ}
 use Rattle.paper.specs.laws.Touching.{touching-iff}
 
 -- ---- what each fault's test says

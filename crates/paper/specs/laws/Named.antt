@@ -9,9 +9,10 @@ use lib.ListN.{length}
 use lib.IntN.{pos, negℤ}
 use Rattle.paper.specs.declared.Refusal.{Refusal}
 use Rattle.paper.specs.Job.{count}
-use Rattle.paper.specs.Layouts.{Board, boardOf, held, weighted, Touching}
+use Rattle.paper.specs.Layouts.{Board, boardOf, held, Touching}
+use Rattle.paper.specs.Problem.{labelingOf}
 use Rattle.paper.specs.Refusals.{Trial, FirstFault, RefusedBy, refusal, ofEach, ofPairs, jobTrials, layoutTrials, bestTrial, numberTrial}
-use Rattle.paper.specs.Refusals.{firstTrials, measureTrials, nextTrials, drawTrials}
+use Rattle.paper.specs.Refusals.{firstTrials, measureTrials, nextTrials, drawTrials, Alone, Named}
 use Rattle.paper.specs.Promises.{refusalNumber}
 
 -- ---- a refusal by some trial
@@ -34,22 +35,6 @@ refused-is P (t ∷ ts) r e (inl a) =
 refused-is P (t ∷ ts) r e (inr a) = refused-is P ts r (e .1) (a .1)
 
 -- ---- one record, or the first touching pair
-
--- A refusal that names one record.
-abbrev pub Alone : Refusal → Type 0
-Alone r = (r .reason ≢ 9) × (r .earlier ≡ 0)
-
--- 02: "the smallest record that touches an earlier one, and with it the smallest such earlier record".
-pub record FirstPair (b : Board) (f : ℕ → ℕ) (i j : ℕ) : Type 0 where
-  pub inside : i < b .pads
-  pub before : j < i
-  pub touch : Touching b f i j
-  pub smallest : (k m : ℕ) → k < i → m < k → ¬ Touching b f k m
-  pub smallest-earlier : (m : ℕ) → m < j → ¬ Touching b f i m
-
--- One record, or by 9 the first touching pair.
-abbrev pub Named : Board → (ℕ → ℕ) → Refusal → Type 0
-Named b f r = Alone r ⊎ ((r .reason ≡ 9) × FirstPair b f (r .at) (r .earlier))
 
 -- A refusal by a trial of each record, or of the whole input, names one record.
 module _ (P : Refusal → Type 0) (says : (r : Refusal) → Alone r → P r) where
@@ -115,7 +100,7 @@ module _ (job : List ℕ) (lw bw : ℕ) (list : List ℕ) where
   pub next-named : (r : Refusal) → RefusedBy (nextTrials job lw bw list) r → Told r
   next-named r =
       refused-is Told (nextTrials job lw bw list) r
-      (each-append Told (measureTrials job lw bw list) (bestTrial (boardOf job) (weighted (boardOf job) lw bw) list ∷ []) of-measure
+      (each-append Told (measureTrials job lw bw list) (bestTrial (labelingOf job lw bw) list ∷ []) of-measure
       (one Told (λ r a. inl a) 10 _ _ (λ e. omega arith), tt))
 
 -- ---- C's number

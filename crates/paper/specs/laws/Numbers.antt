@@ -16,10 +16,10 @@ use Rattle.paper.specs.declared.Paged.the-variants.{Wrote, Refused as No
 use Rattle.paper.specs.declared.Two.{Two}
 use Rattle.paper.specs.declared.Three.{Three}
 use Rattle.paper.specs.declared.Drawn.the-variants.{Straight, Bent, Refused as NotDrawn}
-use Rattle.paper.specs.Layouts.{boardOf, weighted}
-use Rattle.paper.specs.Refusals.{Trial, Clean, RefusedBy, refusal, firstTrials, measureTrials, nextTrials, drawTrials, bestTrial}
-use Rattle.paper.specs.Promises.{refusalNumber, number, FirstAnswers, NextAnswers, PageAnswers, MeasureAnswers, DrawAnswers}
-use Rattle.paper.specs.Promises.{FirstPromise, NextPromise, PagePromise, MeasurePromise, DrawPromise}
+use Rattle.paper.specs.Problem.{labelingOf}
+use Rattle.paper.specs.Refusals.{Trial, Clean, RefusedBy, firstTrials, measureTrials, nextTrials, drawTrials, bestTrial, Calls, callsOf}
+use Rattle.paper.specs.Promises.{refusalNumber, refusalIn, number, FirstOver, NextOver, PageOver, MeasureOver, DrawAnswers}
+use Rattle.paper.specs.Promises.{FirstReplies, NextReplies, PageReplies, MeasureReplies, DrawPromise}
 use Rattle.paper.specs.laws.Trials.{refused-left}
 use Rattle.paper.specs.laws.Accepted.{few-records}
 
@@ -32,10 +32,6 @@ abs-neg (suc n) = refl
 -- A refusal with a number of 1 or more, and this and its record number of 16 bits. C's number of it is -65,536 or less,
 abbrev pub SmallRefusal : Refusal → Type 0
 SmallRefusal r = (1 ≤ r .reason) × (r .reason < 65536) × (r .at < 65536)
-
--- what a caller takes out of a number again: the header's functions
-abbrev pub refusalIn : ℤ → Refusal
-refusalIn c = refusal (natAbs c / 65536 % 65536) (natAbs c % 65536) (natAbs c / 4294967296)
 
 abbrev sizeOf : Refusal → ℕ
 sizeOf r = 4294967296 * r .earlier + 65536 * r .reason + r .at
@@ -69,45 +65,27 @@ refusal-back r s = λ i. record { reason = reason i; at = at i; earlier = earlie
 refusal-told : (r s : Refusal) → SmallRefusal r → SmallRefusal s → refusalNumber r ≡ refusalNumber s → r ≡ s
 refusal-told r s a b e = sym (refusal-back r a) ∙ ap refusalIn e ∙ refusal-back s b
 
--- ---- the calls' refusals are such
+-- ---- refusals by trials are such
 
--- Each trial has a number from 1 to 12, and is tried at 64 records at most if the trials before it are clean.
-abbrev Narrow : List Trial → Type 0
+-- Each trial has a number of 1 or more, of 16 bits, and is tried at 65,536 records at most if the trials before it are clean.
+abbrev pub Narrow : List Trial → Type 0
 Narrow [] = Unit {0}
-Narrow (t ∷ ts) = (1 ≤ t .reason) × (t .reason ≤ 12) × (t .among ≤ 64) × (Clean t → Narrow ts)
+Narrow (t ∷ ts) = (1 ≤ t .reason) × (t .reason < 65536) × (t .among ≤ 65536) × (Clean t → Narrow ts)
 
--- A refusal by a number from 1 to 12, of one of 64 records.
-abbrev pub Within : Refusal → Type 0
-Within r = (1 ≤ r .reason) × (r .reason ≤ 12) × (r .at < 64)
+pub refused-small : (ts : List Trial) (r : Refusal) → Narrow ts → RefusedBy ts r → SmallRefusal r
+refused-small [] r n a = absurd a
+refused-small (t ∷ ts) r n (inl a) = omega (arith, a .0, a .1 .inside)
+refused-small (t ∷ ts) r n (inr a) = refused-small ts r (n .3 (a .0)) (a .1)
 
-refused-within : (ts : List Trial) (r : Refusal) → Narrow ts → RefusedBy ts r → Within r
-refused-within [] r n a = absurd a
-refused-within (t ∷ ts) r n (inl a) = omega (arith, a .0, a .1 .inside)
-refused-within (t ∷ ts) r n (inr a) = refused-within ts r (n .3 (a .0)) (a .1)
-
--- So are the refusals of each call, for every input.
-pub first-within : (job : List ℕ) (lw bw room : ℕ) (r : Refusal) → RefusedBy (firstTrials job lw bw room) r → Within r
-first-within job lw bw room r =
-    refused-within (firstTrials job lw bw room) r
-    (omega arith, omega arith, omega arith, λ c. let few = few-records job (c 0 (omega arith)) in omega arith)
-
-pub next-within : (job : List ℕ) (lw bw : ℕ) (list : List ℕ) (r : Refusal) → RefusedBy (nextTrials job lw bw list) r → Within r
-next-within job lw bw list r =
-    refused-within (nextTrials job lw bw list) r
-    (omega arith, omega arith, omega arith, λ c. let few = few-records job (c 0 (omega arith)) in omega arith)
-
-pub measure-within : (job : List ℕ) (lw bw : ℕ) (list : List ℕ) (r : Refusal) → RefusedBy (measureTrials job lw bw list) r → Within r
-measure-within job lw bw list r a =
-    next-within job lw bw list r (refused-left (measureTrials job lw bw list) (bestTrial (boardOf job) (weighted (boardOf job) lw bw) list ∷ []) r a)
-
-pub draw-within : (job : List ℕ) (i q room : ℕ) (r : Refusal) → RefusedBy (drawTrials job i q room) r → Within r
-draw-within job i q room r =
-    refused-within (drawTrials job i q room) r
-    (omega arith, omega arith, omega arith, λ c. let few = few-records job (c 0 (omega arith)) in omega arith)
+-- Calls with such refusals.
+pub record Numbered (c : Calls) : Type 0 where
+  pub first : (room : ℕ) (r : Refusal) → RefusedBy (c .first room) r → SmallRefusal r
+  pub measure : (list : List ℕ) (r : Refusal) → RefusedBy (c .measure list) r → SmallRefusal r
+  pub next : (list : List ℕ) (r : Refusal) → RefusedBy (c .next list) r → SmallRefusal r
 
 -- A number that is such a refusal's gives it back.
-within-back : (r : Refusal) (c : ℤ) → Within r → c ≡ refusalNumber r → r ≡ refusalIn c
-within-back r c w e = sym (refusal-back r (omega (arith, w))) ∙ ap refusalIn (sym e)
+small-back : (r : Refusal) (c : ℤ) → SmallRefusal r → c ≡ refusalNumber r → r ≡ refusalIn c
+small-back r c w e = sym (refusal-back r w) ∙ ap refusalIn (sym e)
 
 -- -65,536 or less is no number of 0 or more.
 low-apart : (t : ℕ) (c : ℤ) → c ≡ pos t → c ≤ℤ negℤ (pos 65536) → ⊥
@@ -133,11 +111,11 @@ number-tells (Refused r) (Total u) s w e = absurd (refusal-apart r u s (sym e))
 number-tells (Refused r) End s w e = absurd (refusal-not-end r s (sym e))
 number-tells (Refused r) (Refused q) s w e = ap Refused (refusal-told r q s w e)
 
-module _ (P : Answer → Type 0) (refused : (r : Refusal) → P (Refused r) → Within r) where
+module _ (P : Answer → Type 0) (refused : (r : Refusal) → P (Refused r) → SmallRefusal r) where
   small : (a : Answer) → P a → Small a
   small (Total t) p = tt
   small End p = tt
-  small (Refused r) p = omega (arith, refused r p)
+  small (Refused r) p = refused r p
 
   told : (a : Answer) → Small a → ((b : Answer) × P b × (number a ≡ number b)) → P a
   told a s (b, p, e) = subst P (number-tells b a (small b p) s (sym e)) p
@@ -145,72 +123,62 @@ module _ (P : Answer → Type 0) (refused : (r : Refusal) → P (Refused r) → 
   back : (c : ℤ) → ((a : Answer) × P a × (c ≡ number a)) → c ≤ℤ negℤ (pos 65536) → P (Refused (refusalIn c))
   back c (Total t, p, e) l = absurd (low-apart t c e l)
   back c (End, p, e) l = absurd (omega (whole, eq-num c (negsuc 0) e, neg-nums (pos 65536)))
-  back c (Refused r, p, e) l = subst (λ (r : Refusal). P (Refused r)) (within-back r c (refused r p) e) p
+  back c (Refused r, p, e) l = subst (λ (r : Refusal). P (Refused r)) (small-back r c (refused r p) e) p
 
--- THEOREM: a call that keeps its promise with the number of an answer gives that answer.
-pub first-told : (job : List ℕ) (lw bw : ℕ) (before : List ℕ) (a : Answer) (after : List ℕ) → Small a
-    → FirstPromise job lw bw before (number a) after → FirstAnswers job lw bw before a after
-first-told job lw bw before a after =
-    told (λ a. FirstAnswers job lw bw before a after) (λ r p. first-within job lw bw (length before) r (p .0)) a
+module _ (c : Calls) (N : Numbered c) where
+  module _ (before after : List ℕ) where
+    -- A number of 0 or more is the total, and -1 is the end;
+    pub total-told : (t : ℕ) → FirstReplies c before (pos t) after → FirstOver c before (Total t) after
+    total-told t = told (λ a. FirstOver c before a after) (λ r p. N .first (length before) r (p .0)) (Total t) tt
 
-pub next-told : (job : List ℕ) (lw bw : ℕ) (before : List ℕ) (a : Answer) (after : List ℕ) → Small a
-    → NextPromise job lw bw before (number a) after → NextAnswers job lw bw before a after
-next-told job lw bw before a after = told (λ a. NextAnswers job lw bw before a after) (λ r p. next-within job lw bw before r (p .0)) a
+    pub next-total-told : (t : ℕ) → NextReplies c before (pos t) after → NextOver c before (Total t) after
+    next-total-told t = told (λ a. NextOver c before a after) (λ r p. N .next before r (p .0)) (Total t) tt
 
-pub measure-told : (job : List ℕ) (lw bw : ℕ) (list : List ℕ) (a : Answer) → Small a
-    → MeasurePromise job lw bw list (number a) → MeasureAnswers job lw bw list a
-measure-told job lw bw list a = told (MeasureAnswers job lw bw list) (measure-within job lw bw list) a
+    pub end-told : NextReplies c before (negsuc 0) after → NextOver c before End after
+    end-told = told (λ a. NextOver c before a after) (λ r p. N .next before r (p .0)) End tt
 
--- THEOREM: a number of -65,536 or less is a refusal, and the caller gets its number and both its records back from it.
-pub first-back : (job : List ℕ) (lw bw : ℕ) (before : List ℕ) (c : ℤ) (after : List ℕ) → FirstPromise job lw bw before c after
-    → c ≤ℤ negℤ (pos 65536) → FirstAnswers job lw bw before (Refused (refusalIn c)) after
-first-back job lw bw before c after =
-    back (λ a. FirstAnswers job lw bw before a after) (λ r p. first-within job lw bw (length before) r (p .0)) c
+    -- one of -65,536 or less is a refusal, and the caller gets its number and both its records back from it.
+    pub first-back : (m : ℤ) → FirstReplies c before m after → m ≤ℤ negℤ (pos 65536) → FirstOver c before (Refused (refusalIn m)) after
+    first-back = back (λ a. FirstOver c before a after) (λ r p. N .first (length before) r (p .0))
 
-pub next-back : (job : List ℕ) (lw bw : ℕ) (before : List ℕ) (c : ℤ) (after : List ℕ) → NextPromise job lw bw before c after
-    → c ≤ℤ negℤ (pos 65536) → NextAnswers job lw bw before (Refused (refusalIn c)) after
-next-back job lw bw before c after = back (λ a. NextAnswers job lw bw before a after) (λ r p. next-within job lw bw before r (p .0)) c
+    pub next-back : (m : ℤ) → NextReplies c before m after → m ≤ℤ negℤ (pos 65536) → NextOver c before (Refused (refusalIn m)) after
+    next-back = back (λ a. NextOver c before a after) (λ r p. N .next before r (p .0))
 
-pub measure-back : (job : List ℕ) (lw bw : ℕ) (list : List ℕ) (c : ℤ) → MeasurePromise job lw bw list c
-    → c ≤ℤ negℤ (pos 65536) → MeasureAnswers job lw bw list (Refused (refusalIn c))
-measure-back job lw bw list c = back (MeasureAnswers job lw bw list) (measure-within job lw bw list) c
+  pub measure-told : (list : List ℕ) (t : ℕ) → MeasureReplies c list (pos t) → MeasureOver c list (Total t)
+  measure-told list t = told (MeasureOver c list) (N .measure list) (Total t) tt
 
--- In particular a number of 0 or more is the total, and -1 is the end.
-pub total-told : (job : List ℕ) (lw bw : ℕ) (before : List ℕ) (t : ℕ) (after : List ℕ)
-    → FirstPromise job lw bw before (pos t) after → FirstAnswers job lw bw before (Total t) after
-total-told job lw bw before t after = first-told job lw bw before (Total t) after tt
+  pub measure-back : (list : List ℕ) (m : ℤ) → MeasureReplies c list m → m ≤ℤ negℤ (pos 65536) → MeasureOver c list (Refused (refusalIn m))
+  measure-back list = back (MeasureOver c list) (N .measure list)
 
-pub next-total-told : (job : List ℕ) (lw bw : ℕ) (before : List ℕ) (t : ℕ) (after : List ℕ)
-    → NextPromise job lw bw before (pos t) after → NextAnswers job lw bw before (Total t) after
-next-total-told job lw bw before t after = next-told job lw bw before (Total t) after tt
+  -- Page's number is that of the layouts written, or such a refusal's.
+  module _ (given before after : List ℕ) where
+    pub wrote-told : (k : ℕ) → PageReplies c given before (pos k) after → PageOver c given before (Wrote k) after
+    wrote-told k (Wrote m, p, e) = let n : m ≡ k = cc in rw n at p
+    wrote-told k (NotPaged r, p, e) = absurd (refusal-apart r k (N .next given r (p .0)) e)
 
-pub end-told : (job : List ℕ) (lw bw : ℕ) (before after : List ℕ)
-    → NextPromise job lw bw before (negsuc 0) after → NextAnswers job lw bw before End after
-end-told job lw bw before after = next-told job lw bw before End after tt
+    pub page-back : (m : ℤ) → PageReplies c given before m after → m ≤ℤ negℤ (pos 65536) → PageOver c given before (NotPaged (refusalIn m)) after
+    page-back m (Wrote k, p, e) l = absurd (low-apart k m e l)
+    page-back m (NotPaged r, p, e) l = subst (λ (r : Refusal). PageOver c given before (NotPaged r) after) (small-back r m (N .next given r (p .0)) e) p
 
--- ---- Page
+-- ---- 01's
 
-module _ (job : List ℕ) (lw bw : ℕ) (given before after : List ℕ) where
-  paged-small : (r : Refusal) → PageAnswers job lw bw given before (NotPaged r) after → SmallRefusal r
-  paged-small r p = omega (arith, next-within job lw bw given r (p .0))
-
-  -- A number of 0 or more is that of the layouts written,
-  pub wrote-told : (k : ℕ) → PagePromise job lw bw given before (pos k) after → PageAnswers job lw bw given before (Wrote k) after
-  wrote-told k (Wrote m, p, e) = let n : m ≡ k = cc in rw n at p
-  wrote-told k (NotPaged r, p, e) = absurd (refusal-apart r k (paged-small r p) e)
-
-  -- and one of -65,536 or less is a refusal, which the caller gets back.
-  pub page-back : (c : ℤ) → PagePromise job lw bw given before c after → c ≤ℤ negℤ (pos 65536)
-      → PageAnswers job lw bw given before (NotPaged (refusalIn c)) after
-  page-back c (Wrote k, p, e) l = absurd (low-apart k c e l)
-  page-back c (NotPaged r, p, e) l =
-      subst (λ (r : Refusal). PageAnswers job lw bw given before (NotPaged r) after) (within-back r c (next-within job lw bw given r (p .0)) e) p
+pub numbered : (job : List ℕ) (lw bw : ℕ) → Numbered (callsOf job lw bw)
+numbered job lw bw = record {
+  first = λ room r. refused-small (firstTrials job lw bw room) r (omega arith, omega arith, omega arith, λ c. let few = few-records job (c 0 (omega arith)) in omega arith);
+  measure = λ list r a. next list r (refused-left (measureTrials job lw bw list) (bestTrial (labelingOf job lw bw) list ∷ []) r a);
+  next = next;
+}
+  where
+    next : (list : List ℕ) (r : Refusal) → RefusedBy (nextTrials job lw bw list) r → SmallRefusal r
+    next list r = refused-small (nextTrials job lw bw list) r (omega arith, omega arith, omega arith, λ c. let few = few-records job (c 0 (omega arith)) in omega arith)
 
 -- ---- Draw
 
 module _ (job : List ℕ) (i q : ℕ) (before after : List Float) where
   drawn-small : (r : Refusal) → DrawAnswers job i q before (NotDrawn r) after → SmallRefusal r
-  drawn-small r p = omega (arith, draw-within job i q (length before) r (p .0))
+  drawn-small r p =
+      refused-small (drawTrials job i q (length before)) r
+      (omega arith, omega arith, omega arith, λ c. let few = few-records job (c 0 (omega arith)) in omega arith) (p .0)
 
   -- 2 points are a leader without a bend,
   pub straight-told : DrawPromise job i q before (pos 2) after → (d : Two) × DrawAnswers job i q before (Straight d) after
@@ -229,4 +197,4 @@ module _ (job : List ℕ) (i q : ℕ) (before after : List Float) where
   draw-back c (Straight d, p, e) l = absurd (low-apart 2 c e l)
   draw-back c (Bent d, p, e) l = absurd (low-apart 3 c e l)
   draw-back c (NotDrawn r, p, e) l =
-      subst (λ (r : Refusal). DrawAnswers job i q before (NotDrawn r) after) (within-back r c (draw-within job i q (length before) r (p .0)) e) p
+      subst (λ (r : Refusal). DrawAnswers job i q before (NotDrawn r) after) (small-back r c (drawn-small r p) e) p

@@ -4,9 +4,9 @@ use mathlib.Core.Logic.{_≢_, _⊎_, inl, inr}
 use Prim.Native.Nat.{ℕ, zero, suc, _<_}
 use native.Mathlib.Decide.{decLt, ℕ-discrete}
 use native.Mathlib.Omega.{arith}
-use Rattle.paper.specs.Layouts.{Board, Before, FirstBest, NextBest, LastBest}
-use Rattle.paper.specs.laws.Proper.{Differ, Same}
-use Rattle.paper.specs.laws.Boards.{own-number, best-same}
+use Rattle.paper.specs.Layouts.{Board, Differ, Same}
+use Rattle.paper.specs.Problem.{Problem, Best, Before, FirstBest, NextBest, LastBest}
+use Rattle.paper.specs.laws.Boards.{own-number}
 
 -- No layout comes before itself.
 pub before-irrefl : (b : Board) (f : ℕ → ℕ) → ¬ Before b f f
@@ -106,44 +106,58 @@ neither-before b f g m n = go (before-total b f g)
     go (inr (inl h)) = h
     go (inr (inr h)) = absurd (n h)
 
-module _ (b : Board) (cost : ℕ → ℕ → ℕ) where
+-- ---- the earliest, the next and the last of a problem's best layouts
+
+-- Whether a layout counts, and its value, depend only on the pads' ports.
+pub record Steady (p : Problem) : Type 0 where
+  pub counts-same : (f g : ℕ → ℕ) → Same (p .board) f g → p .Counts f → p .Counts g
+  pub value-same : (f g : ℕ → ℕ) → Same (p .board) f g → p .value f ≡ p .value g
+
+module _ (p : Problem) where
   -- There is one earliest best layout,
-  pub first-best-one : (f g : ℕ → ℕ) → FirstBest b cost f → FirstBest b cost g → Same b f g
-  first-best-one f g s t = neither-before b f g (t .earliest f (s .best)) (s .earliest g (t .best))
+  pub first-best-one : (f g : ℕ → ℕ) → FirstBest p f → FirstBest p g → Same (p .board) f g
+  first-best-one f g s t = neither-before (p .board) f g (t .earliest f (s .best)) (s .earliest g (t .best))
 
   -- one earliest best layout after a given one,
-  pub next-best-one : (l f g : ℕ → ℕ) → NextBest b cost l f → NextBest b cost l g → Same b f g
-  next-best-one l f g s t = neither-before b f g (t .earliest f (s .best) (s .later)) (s .earliest g (t .best) (t .later))
+  pub next-best-one : (l f g : ℕ → ℕ) → NextBest p l f → NextBest p l g → Same (p .board) f g
+  next-best-one l f g s t = neither-before (p .board) f g (t .earliest f (s .best) (s .later)) (s .earliest g (t .best) (t .later))
 
   -- and none after the last.
-  pub next-not-last : (l f : ℕ → ℕ) → NextBest b cost l f → LastBest b cost l → ⊥
+  pub next-not-last : (l f : ℕ → ℕ) → NextBest p l f → LastBest p l → ⊥
   next-not-last l f s last = last f (s .best) (s .later)
 
-  -- Being the earliest, or the earliest after l, depends only on the pads' ports.
-  pub first-best-same : (f g : ℕ → ℕ) → Same b f g → FirstBest b cost f → FirstBest b cost g
-  first-best-same f g same s = record {
-    best = best-same b cost f g same (s .best);
-    earliest = λ h t k. s .earliest h t (before-same b h g h f (λ i l. refl) (λ i l. sym (same i l)) k);
-  }
+  pub last-of-same : (l m : ℕ → ℕ) → Same (p .board) l m → LastBest p l → LastBest p m
+  last-of-same l m same s g t k = s g t (before-same (p .board) m g l g (λ i h. sym (same i h)) (λ i h. refl) k)
 
-  pub next-best-same : (l f g : ℕ → ℕ) → Same b f g → NextBest b cost l f → NextBest b cost l g
-  next-best-same l f g same s = record {
-    best = best-same b cost f g same (s .best);
-    later = before-same b l f l g (λ i k. refl) same (s .later);
-    earliest = λ h t u k. s .earliest h t u (before-same b h g h f (λ i l. refl) (λ i l. sym (same i l)) k);
-  }
-
-  -- Being the next, or the last, depends only on the ports of the layout before.
-  pub next-of-same : (l m f : ℕ → ℕ) → Same b l m → NextBest b cost l f → NextBest b cost m f
+  -- The next of the same layout is the same.
+  pub next-of-same : (l m f : ℕ → ℕ) → Same (p .board) l m → NextBest p l f → NextBest p m f
   next-of-same l m f same s = record {
     best = s .best;
-    later = before-same b l f m f same (λ i k. refl) (s .later);
-    earliest = λ h t u. s .earliest h t (before-same b m h l h (λ i k. sym (same i k)) (λ i k. refl) u);
+    later = before-same (p .board) l f m f same (λ i k. refl) (s .later);
+    earliest = λ h t u. s .earliest h t (before-same (p .board) m h l h (λ i k. sym (same i k)) (λ i k. refl) u);
   }
 
-  pub last-of-same : (l m : ℕ → ℕ) → Same b l m → LastBest b cost l → LastBest b cost m
-  last-of-same l m same s g t k = s g t (before-same b m g l g (λ i h. sym (same i h)) (λ i h. refl) k)
+  module _ (steady : Steady p) where
+    -- Being best, the earliest or the next depends only on the pads' ports.
+    pub best-same : (f g : ℕ → ℕ) → Same (p .board) f g → Best p f → Best p g
+    best-same f g same s = record {
+      counts = steady .counts-same f g same (s .counts);
+      least = λ h u. omega (arith, s .least h u, steady .value-same f g same);
+    }
 
-  -- Both at once: the layout before and the next.
-  pub next-same : (l m f g : ℕ → ℕ) → Same b l m → Same b f g → NextBest b cost l f → NextBest b cost m g
-  next-same l m f g s t n = next-of-same l m g s (next-best-same l f g t n)
+    pub first-best-same : (f g : ℕ → ℕ) → Same (p .board) f g → FirstBest p f → FirstBest p g
+    first-best-same f g same s = record {
+      best = best-same f g same (s .best);
+      earliest = λ h t k. s .earliest h t (before-same (p .board) h g h f (λ i l. refl) (λ i l. sym (same i l)) k);
+    }
+
+    pub next-best-same : (l f g : ℕ → ℕ) → Same (p .board) f g → NextBest p l f → NextBest p l g
+    next-best-same l f g same s = record {
+      best = best-same f g same (s .best);
+      later = before-same (p .board) l f l g (λ i k. refl) same (s .later);
+      earliest = λ h t u k. s .earliest h t u (before-same (p .board) h g h f (λ i l. refl) (λ i l. sym (same i l)) k);
+    }
+
+    -- Both at once: the layout before and the next.
+    pub next-same : (l m f g : ℕ → ℕ) → Same (p .board) l m → Same (p .board) f g → NextBest p l f → NextBest p m g
+    next-same l m f g s t n = next-of-same l m g s (next-best-same l f g t n)

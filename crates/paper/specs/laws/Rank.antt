@@ -7,8 +7,8 @@ use Prim.Native.Nat.{ℕ, _+_, _<_, _≤_}
 use native.Mathlib.Omega.{arith}
 use lib.Dec.{T}
 use lib.ListN.{length}
-use Rattle.paper.specs.Layouts.{Board, held, Before}
-use Rattle.paper.specs.laws.Proper.{Differ}
+use Rattle.paper.specs.Layouts.{Board, held, Differ}
+use Rattle.paper.specs.Problem.{Before}
 use Rattle.paper.specs.laws.Order.{before-irrefl, before-trans, before-same}
 use Rattle.paper.specs.laws.Trying.{words, words-all, row, row-at, beforeTest, before-iff}
 

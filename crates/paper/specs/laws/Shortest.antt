@@ -13,43 +13,36 @@ use Rattle.numbers.specs.Whole.{whole}
 use Rattle.paper.specs.declared.Answer.the-variants.{Total}
 use Rattle.paper.specs.Job.{twos, nameOf, reservedOf, xOf, yOf, portOf}
 use Rattle.paper.specs.Leaders.{lengthOf, bendsOf}
-use Rattle.paper.specs.Layouts.{Board, boardOf, held, Touching, EachOnce, Untouching, sum, weighted, total, Best}
-use Rattle.paper.specs.Refusals.{Trial, Passed, firstTrials}
-use Rattle.paper.specs.Promises.{FirstOver}
+use Rattle.paper.specs.Layouts.{Board, boardOf, held, Touching, EachOnce, Untouching, sum, weighted, total, Proper, Same}
+use Rattle.paper.specs.Problem.{Best, labeling}
+use Rattle.paper.specs.Refusals.{Passed, firstTrials, callsOf}
 use Rattle.paper.specs.Straightening.{LeastOfAll, CostsNothing, levelPad, BendsCanCost}
 use Rattle.paper.specs.laws.Search.{first, some}
 use Rattle.paper.specs.laws.Tests.{outside}
 use Rattle.paper.specs.laws.Verdicts.{firstFindings, jobFindings}
-use Rattle.paper.specs.laws.Proper.{Proper, Same}
 use Rattle.paper.specs.laws.Totals.{total-is}
 use Rattle.paper.specs.laws.Boards.{layout-iff, layout-same, untouching-same, total-same}
 use Rattle.paper.specs.laws.Judged.{first-judged}
 use Rattle.paper.specs.laws.Existence.{straight-total}
 use Rattle.paper.specs.laws.Accepted.{first-accepted}
-use Rattle.paper.specs.laws.Numbers.{total-told}
+use Rattle.paper.specs.laws.Numbers.{total-told, numbered}
+use Rattle.paper.specs.laws.Regular.{regular}
 use Rattle.paper.specs.laws.Met.{first-made}
 
 -- THEOREM. For bend weight 0 no layout at all has a smaller total than a best one: on every board whose pads differ in x and whose ports rise, and are at least
 -- as many as the pads.
-pub best-of-all : (b : Board) → Proper b → (lw : ℕ) (f : ℕ → ℕ) → Best b (weighted b lw 0) f
+pub best-of-all : (b : Board) → Proper b → (lw : ℕ) (f : ℕ → ℕ) → Best (labeling b (weighted b lw 0)) f
     → LeastOfAll b (weighted b lw 0) (total b (weighted b lw 0) f)
 best-of-all b proper lw f best g layout =
     let (h, untouching, shorter) = straight-total b proper g layout in
     omega (arith, best .least h untouching, total-is b lw 0 h, total-is b lw 0 g, mul-le-mul-left lw shorter)
 
--- THEOREM. Nor than First answers on such a board, whatever its trials are.
-pub first-of-all : (trials : List Trial) (b : Board) → Proper b → (lw t : ℕ) (before after : List ℕ)
-    → FirstOver trials b (weighted b lw 0) before (Total t) after → LeastOfAll b (weighted b lw 0) t
-first-of-all trials b proper lw t before after (passed, first, is, kept) f layout =
-    omega (arith, is, best-of-all b proper lw (held after) (first .best) f layout)
-
 -- THEOREM. For every accepted job and length weight, with bend weight 0, no list in which each port number stands once has a smaller total than First answers.
 pub straightening-costs-no-length : (job : List ℕ) (lw : ℕ) → CostsNothing job lw 0
 straightening-costs-no-length job lw before after t promise list once =
-    let answers = total-told job lw 0 before t after promise in
-    let accepted = first-accepted job lw 0 (length before) (answers .0) .0 in
-    first-of-all (firstTrials job lw 0 (length before)) (boardOf job) (accepted .proper) lw t before after answers (held list)
-    (layout-iff (boardOf job) (held list) refl .1 once)
+    let (passed, first, is, kept) = total-told (callsOf job lw 0) (numbered job lw 0) before after t promise in
+    let accepted = first-accepted job lw 0 (length before) passed .0 in
+    omega (arith, is, best-of-all (boardOf job) (accepted .proper) lw (held after) (first .best) (held list) (layout-iff (boardOf job) (held list) refl .1 once))
 
 -- ---- with a bend weight
 
@@ -107,9 +100,9 @@ sound = first-judged levelPad 0 0 2
 pub bends-can-cost : BendsCanCost
 bends-can-cost lw bw h k bends =
     let passed : Passed (firstTrials levelPad lw bw 2) = (sound .0, ((λ i l. ⊎-elim (λ m. omega arith) (λ m. omega arith)), sound .1 .1)) in
-    let (t, after, answers) = first-made levelPad lw bw (9 ∷ 9 ∷ []) passed in
+    let (t, after, answers) = first-made (callsOf levelPad lw bw) (regular levelPad lw bw) (9 ∷ 9 ∷ []) passed in
     let cost = weighted b lw bw in
-    let is = answers .2 ∙ total-same b cost (held after) (held uncrossed) (only-uncrossed (held after) (answers .1 .best .untouching)) in
+    let is = answers .2 ∙ total-same b cost (held after) (held uncrossed) (only-uncrossed (held after) (answers .1 .best .counts)) in
     record {
       first = (9 ∷ 9 ∷ [], after, (Total t, answers, ap pos (omega (arith, is, uncrossed-total lw bw))));
       once = crossed-once;

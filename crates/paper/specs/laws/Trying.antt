@@ -11,15 +11,15 @@ use native.Mathlib.Omega.{arith}
 use lib.Dec.{T, leb, ltb, eqb}
 use lib.ListN.{length}
 use Rattle.numbers.specs.Tests.{either, dec-iff, and-iff, or-iff, not-iff, leb-iff, ltb-iff, eqb-iff}
-use Rattle.paper.specs.Layouts.{Board, held, leader, Touching, Untouching, total, Best, Before, FirstBest, NextBest, LastBest}
+use Rattle.paper.specs.Layouts.{Board, held, leader, Touching, Untouching, Differ, Same}
+use Rattle.paper.specs.Problem.{Problem, Best, Before, FirstBest, NextBest, LastBest, labeling}
 use Rattle.paper.specs.Refusals.{Earlier}
-use Rattle.paper.specs.laws.Proper.{Differ, Same}
 use Rattle.paper.specs.laws.Search.{some, earlier}
 use Rattle.paper.specs.laws.Tests.{touch}
-use Rattle.paper.specs.laws.Boards.{untouching-of, untouching-same, total-same, best-same}
+use Rattle.paper.specs.laws.Boards.{untouching-of, untouching-same, total-same}
 use Rattle.paper.specs.laws.Trials.{some-iff, earlier-iff}
 use Rattle.paper.specs.laws.Touching.{touching-iff}
-use Rattle.paper.specs.laws.Order.{before-same}
+use Rattle.paper.specs.laws.Order.{Steady, before-same, best-same}
 
 -- ---- all assignments
 
@@ -96,8 +96,12 @@ and-tells b {s} {t} p q =
 unfoldable pub someWord : Board → ((ℕ → ℕ) → Bool) → Bool
 someWord b t = any (λ w. t (held w)) (words (b .pads) (b .ports))
 
--- THEOREM. Where only untouching layouts pass, some assignment passes exactly if some function at all has the property; so one is found, or none has it.
-module _ (b : Board) {t : (ℕ → ℕ) → Bool} {P : (ℕ → ℕ) → Type 0} (tells : Tells b t P) (only : (f : ℕ → ℕ) → P f → Untouching b f) where
+-- Every pad has a port of the board.
+abbrev pub Inside : Board → (ℕ → ℕ) → Type 0
+Inside b f = (i : ℕ) → i < b .pads → f i < b .ports
+
+-- THEOREM. Where only ports of the board pass, some assignment passes exactly if some function at all has the property; so one is found, or none has it.
+module _ (b : Board) {t : (ℕ → ℕ) → Bool} {P : (ℕ → ℕ) → Type 0} (tells : Tells b t P) (only : (f : ℕ → ℕ) → P f → Inside b f) where
   pub some-word-iff : T (someWord b t) ↔ ((f : ℕ → ℕ) × P f)
   unfolding someWord
   some-word-iff = (there, back)
@@ -111,7 +115,7 @@ module _ (b : Board) {t : (ℕ → ℕ) → Bool} {P : (ℕ → ℕ) → Type 0}
       back : (f : ℕ → ℕ) × P f → T (any (λ w. t (held w)) all)
       back (f, h) =
           let w = row (b .pads) f in
-          any-here (λ w. t (held w)) all w (words-all (b .pads) (b .ports) f (only f h .layout .inside))
+          any-here (λ w. t (held w)) all w (words-all (b .pads) (b .ports) f (only f h))
           (tells .iff (held w) .1 (tells .same f (held w) (λ i l. sym (row-at (b .pads) f i l)) h))
 
   pub some-word-dec : Dec ((f : ℕ → ℕ) × P f)
@@ -122,7 +126,7 @@ unfoldable pub leastTest : Board → ((ℕ → ℕ) → (ℕ → ℕ) → Bool) 
 leastTest b less t f = t f && not (someWord b (λ g. less g f && t g))
 
 module _ (b : Board) {less : (ℕ → ℕ) → (ℕ → ℕ) → Bool} {Less : (ℕ → ℕ) → (ℕ → ℕ) → Type 0} {t : (ℕ → ℕ) → Bool} {P : (ℕ → ℕ) → Type 0}
-    (smaller : (f : ℕ → ℕ) → Tells b (λ g. less g f) (λ g. Less g f)) (tells : Tells b t P) (only : (f : ℕ → ℕ) → P f → Untouching b f) where
+    (smaller : (f : ℕ → ℕ) → Tells b (λ g. less g f) (λ g. Less g f)) (tells : Tells b t P) (only : (f : ℕ → ℕ) → P f → Inside b f) where
   -- A lesser one is found, or there is none.
   pub some-less-dec : (f : ℕ → ℕ) → Dec ((g : ℕ → ℕ) × (Less g f × P g))
   some-less-dec f = some-word-dec b (and-tells b (smaller f) tells) (λ g h. only g (h .1))
@@ -170,9 +174,6 @@ module _ (b : Board) (differ : Differ b) where
       back u (i, l, inl k) = omega (arith, u .layout .inside i l)
       back u (i, l, inr (j, k, t)) = u .apart i j k l t
 
-  pub untouching-tells : Tells b (untouchingTest b) (Untouching b)
-  untouching-tells = record { iff = untouching-iff; same = untouching-same b }
-
 -- At some pad f has the smaller port number, and at no pad to the right of it do f and g differ.
 unfoldable pub differRight : Board → (ℕ → ℕ) → (ℕ → ℕ) → ℕ → ℕ → Bool
 differRight b f g i j = ltb (b .x i) (b .x j) && not (eqb (f j) (g j))
@@ -215,70 +216,98 @@ after-tells b l = record { iff = before-iff b l; same = λ g h e. before-same b 
 
 -- ---- best, first, next and last
 
--- g's total is smaller than f's.
-unfoldable pub cheaper : Board → (ℕ → ℕ → ℕ) → (ℕ → ℕ) → (ℕ → ℕ) → Bool
-cheaper b cost g f = ltb (total b cost g) (total b cost f)
+-- A problem whose best layouts trying finds: a test tells which layouts count, and only ports of the board do.
+pub record Searchable (p : Problem) : Type 0 where
+  pub differ : Differ (p .board)
+  pub steady : Steady p
+  pub test : (ℕ → ℕ) → Bool
+  pub tells : (f : ℕ → ℕ) → T (test f) ↔ p .Counts f
+  pub inside : (f : ℕ → ℕ) → p .Counts f → Inside (p .board) f
 
-pub cheaper-tells : (b : Board) (cost : ℕ → ℕ → ℕ) (f : ℕ → ℕ) → Tells b (λ g. cheaper b cost g f) (λ g. total b cost g < total b cost f)
-unfolding cheaper
-cheaper-tells b cost f = record { iff = λ g. ltb-iff (total b cost g) (total b cost f); same = λ g h e l. omega (arith, total-same b cost g h e) }
+-- g's value is smaller than f's.
+unfoldable pub cheaper : Problem → (ℕ → ℕ) → (ℕ → ℕ) → Bool
+cheaper p g f = ltb (p .value g) (p .value f)
 
--- Untouching and of the least total; the earliest such.
-unfoldable pub bestTest : Board → (ℕ → ℕ → ℕ) → (ℕ → ℕ) → Bool
-bestTest b cost = leastTest b (cheaper b cost) (untouchingTest b)
+-- It counts and has the least value; it is the earliest such.
+unfoldable pub bestTest : Problem → ((ℕ → ℕ) → Bool) → (ℕ → ℕ) → Bool
+bestTest p counts = leastTest (p .board) (cheaper p) counts
 
-unfoldable pub firstTest : Board → (ℕ → ℕ → ℕ) → (ℕ → ℕ) → Bool
-firstTest b cost = leastTest b (beforeTest b) (bestTest b cost)
+unfoldable pub firstTest : Problem → ((ℕ → ℕ) → Bool) → (ℕ → ℕ) → Bool
+firstTest p counts = leastTest (p .board) (beforeTest (p .board)) (bestTest p counts)
 
 -- Best and after l; the earliest such; there is none such.
-unfoldable pub laterTest : Board → (ℕ → ℕ → ℕ) → (ℕ → ℕ) → (ℕ → ℕ) → Bool
-laterTest b cost l f = beforeTest b l f && bestTest b cost f
+unfoldable pub laterTest : Problem → ((ℕ → ℕ) → Bool) → (ℕ → ℕ) → (ℕ → ℕ) → Bool
+laterTest p counts l f = beforeTest (p .board) l f && bestTest p counts f
 
-unfoldable pub nextTest : Board → (ℕ → ℕ → ℕ) → (ℕ → ℕ) → (ℕ → ℕ) → Bool
-nextTest b cost l = leastTest b (beforeTest b) (laterTest b cost l)
+unfoldable pub nextTest : Problem → ((ℕ → ℕ) → Bool) → (ℕ → ℕ) → (ℕ → ℕ) → Bool
+nextTest p counts l = leastTest (p .board) (beforeTest (p .board)) (laterTest p counts l)
 
-unfoldable pub lastTest : Board → (ℕ → ℕ → ℕ) → (ℕ → ℕ) → Bool
-lastTest b cost l = not (someWord b (laterTest b cost l))
+unfoldable pub lastTest : Problem → ((ℕ → ℕ) → Bool) → (ℕ → ℕ) → Bool
+lastTest p counts l = not (someWord (p .board) (laterTest p counts l))
 
-module _ (b : Board) (cost : ℕ → ℕ → ℕ) (differ : Differ b) where
+module _ (p : Problem) (S : Searchable p) where
+  pub counts-tells : Tells (p .board) (S .test) (p .Counts)
+  counts-tells = record { iff = S .tells; same = S .steady .counts-same }
+
+  pub cheaper-tells : (f : ℕ → ℕ) → Tells (p .board) (λ g. cheaper p g f) (λ g. p .value g < p .value f)
+  unfolding cheaper
+  cheaper-tells f = record { iff = λ g. ltb-iff (p .value g) (p .value f); same = λ g h e l. omega (arith, S .steady .value-same g h e) }
+
+  -- A best layout has ports of the board.
+  pub best-inside : (f : ℕ → ℕ) → Best p f → Inside (p .board) f
+  best-inside f s = S .inside f (s .counts)
+
   -- THEOREM. The tests tell whether a layout is best,
-  pub best-iff : (f : ℕ → ℕ) → T (bestTest b cost f) ↔ Best b cost f
+  pub best-iff : (f : ℕ → ℕ) → T (bestTest p (S .test) f) ↔ Best p f
   unfolding bestTest
   best-iff f =
-      let parts = least-iff b (cheaper-tells b cost) (untouching-tells b differ) (λ g u. u) f in (
-        (λ e. let r = parts .0 e in record { untouching = r .0; least = λ g u. omega (arith, r .1 g u) }),
-        (λ s. parts .1 (s .untouching, λ g u. omega (arith, s .least g u))),
+      let parts = least-iff (p .board) cheaper-tells counts-tells (S .inside) f in (
+        (λ e. let r = parts .0 e in record { counts = r .0; least = λ g u. omega (arith, r .1 g u) }),
+        (λ s. parts .1 (s .counts, λ g u. omega (arith, s .least g u))),
       )
 
-  pub best-dec : (f : ℕ → ℕ) → Dec (Best b cost f)
-  best-dec f = dec-iff (bestTest b cost f) (best-iff f)
+  pub best-dec : (f : ℕ → ℕ) → Dec (Best p f)
+  best-dec f = dec-iff (bestTest p (S .test) f) (best-iff f)
 
-  pub best-tells : Tells b (bestTest b cost) (Best b cost)
-  best-tells = record { iff = best-iff; same = λ f g e. best-same b cost f g e }
+  pub best-tells : Tells (p .board) (bestTest p (S .test)) (Best p)
+  best-tells = record { iff = best-iff; same = best-same p (S .steady) }
 
-  pub later-tells : (l : ℕ → ℕ) → Tells b (laterTest b cost l) (λ g. Before b l g × Best b cost g)
+  pub later-tells : (l : ℕ → ℕ) → Tells (p .board) (laterTest p (S .test) l) (λ g. Before (p .board) l g × Best p g)
   unfolding laterTest
-  later-tells l = and-tells b (after-tells b l) best-tells
+  later-tells l = and-tells (p .board) (after-tells (p .board) l) best-tells
 
   -- whether it is the earliest best one,
-  pub first-iff : (f : ℕ → ℕ) → T (firstTest b cost f) ↔ FirstBest b cost f
+  pub first-iff : (f : ℕ → ℕ) → T (firstTest p (S .test) f) ↔ FirstBest p f
   unfolding firstTest
   first-iff f =
-      let parts = least-iff b (before-tells b) best-tells (λ g s. s .untouching) f in
+      let parts = least-iff (p .board) (before-tells (p .board)) best-tells best-inside f in
       ((λ e. let r = parts .0 e in record { best = r .0; earliest = r .1 }), (λ s. parts .1 (s .best, s .earliest)))
 
   -- whether it is the earliest best one after l,
-  pub next-iff : (l f : ℕ → ℕ) → T (nextTest b cost l f) ↔ NextBest b cost l f
+  pub next-iff : (l f : ℕ → ℕ) → T (nextTest p (S .test) l f) ↔ NextBest p l f
   unfolding nextTest
   next-iff l f =
-      let parts = least-iff b (before-tells b) (later-tells l) (λ g s. s .1 .untouching) f in (
+      let parts = least-iff (p .board) (before-tells (p .board)) (later-tells l) (λ g s. best-inside g (s .1)) f in (
         (λ e. let r = parts .0 e in record { best = r .0 .1; later = r .0 .0; earliest = λ g s k. r .1 g (k, s) }),
         (λ s. parts .1 ((s .later, s .best), λ g (k, t). s .earliest g t k)),
       )
 
   -- and whether no best one comes after l.
-  pub last-iff : (l : ℕ → ℕ) → T (lastTest b cost l) ↔ LastBest b cost l
+  pub last-iff : (l : ℕ → ℕ) → T (lastTest p (S .test) l) ↔ LastBest p l
   unfolding lastTest
   last-iff l =
-      let none = not-iff (someWord b (laterTest b cost l)) (some-word-iff b (later-tells l) (λ g s. s .1 .untouching)) in
+      let none = not-iff (someWord (p .board) (laterTest p (S .test) l)) (some-word-iff (p .board) (later-tells l) (λ g s. best-inside g (s .1))) in
       ((λ e g s k. none .0 e (g, (k, s))), (λ n. none .1 (λ (g, (k, s)). n g s k)))
+
+-- One-sided labeling is such a problem, on every board whose pads differ in x.
+pub labeling-steady : (b : Board) (cost : ℕ → ℕ → ℕ) → Steady (labeling b cost)
+labeling-steady b cost = record { counts-same = untouching-same b; value-same = total-same b cost }
+
+abbrev pub labeling-searchable : (b : Board) (cost : ℕ → ℕ → ℕ) → Differ b → Searchable (labeling b cost)
+labeling-searchable b cost differ = record {
+  differ = differ;
+  steady = labeling-steady b cost;
+  test = untouchingTest b;
+  tells = untouching-iff b differ;
+  inside = λ f u. u .layout .inside;
+}

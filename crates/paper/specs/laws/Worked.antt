@@ -17,7 +17,8 @@ use Rattle.paper.specs.declared.Answer.the-variants.{Total, End, Refused
 use Rattle.paper.specs.declared.Paged.{Paged}
 use Rattle.paper.specs.declared.Paged.the-variants.{Wrote, Refused as NotPaged}
 use Rattle.paper.specs.Job.{count, twos, nameOf, reservedOf, xOf, yOf, portOf}
-use Rattle.paper.specs.Layouts.{Board, boardOf, held, weighted, Best, sum}
+use Rattle.paper.specs.Layouts.{Board, boardOf, held, weighted, sum, Differ}
+use Rattle.paper.specs.Problem.{Problem, Best, labelingOf}
 use Rattle.paper.specs.Refusals.{Trial, Passed, firstTrials, measureTrials, nextTrials}
 use Rattle.paper.specs.Promises.{Kept, inTurn, Following, FirstAnswers, NextAnswers, PageAnswers, MeasureAnswers}
 use Rattle.paper.specs.laws.Totals.{totalOf}
@@ -26,13 +27,12 @@ use Rattle.paper.specs.laws.Search.{first, some, firstPair}
 use Rattle.paper.specs.laws.Tests.{outside, between, touching}
 use Rattle.paper.specs.Leaders.{lengthOf, bendsOf}
 use Rattle.paper.specs.laws.Verdicts.{Finding, run, run-append, atWhole, firstFindings, measureFindings, jobFindings, layoutFindings}
-use Rattle.paper.specs.laws.Proper.{Differ}
 use Rattle.paper.specs.laws.Order.{below-suc}
 use Rattle.paper.specs.laws.Trials.{Judged}
 use Rattle.paper.specs.laws.Judged.{first-judged, measure-judged}
 use Rattle.paper.specs.laws.Accepted.{first-accepted, measure-facts, measure-refused, best-passed, not-best-refused, next-differ}
 use Rattle.paper.specs.laws.Pages.{Follow}
-use Rattle.paper.specs.laws.Trying.{bestTest, firstTest, nextTest, lastTest, best-iff, first-iff, next-iff, last-iff}
+use Rattle.paper.specs.laws.Trying.{bestTest, firstTest, nextTest, lastTest, best-iff, first-iff, next-iff, last-iff, Searchable, labeling-searchable}
 use Rattle.paper.specs.laws.Trying.{heads, words, any, someWord, leastTest, misled, untouchingTest, differRight, decidedAt, beforeTest, cheaper, laterTest}
 
 -- ---- the tests
@@ -58,21 +58,21 @@ sameRest n l m = eqb (length m) (length l) && sameList (drop n m) (drop n l)
 
 -- 10 is tried by trying every assignment
 nextFindings : List ℕ → ℕ → ℕ → List ℕ → List Finding
-nextFindings job lw bw list = measureFindings job lw bw list ++ ((10, atWhole (not (bestTest (boardOf job) (weighted (boardOf job) lw bw) (held list)))) ∷ [])
+nextFindings job lw bw list = measureFindings job lw bw list ++ ((10, atWhole (not (bestTest (labelingOf job lw bw) (untouchingTest (boardOf job)) (held list)))) ∷ [])
 
 abbrev firstHolds : List ℕ → ℕ → ℕ → List ℕ → Answer → List ℕ → Bool
 firstHolds job lw bw l (Total t) m =
     sameVerdict (run Sound (firstFindings job lw bw (length l))) Sound
-    && (firstTest (boardOf job) (weighted (boardOf job) lw bw) (held m) && (eqb t (totalOf job lw bw m) && sameRest (count job) l m))
+    && (firstTest (labelingOf job lw bw) (untouchingTest (boardOf job)) (held m) && (eqb t (totalOf job lw bw m) && sameRest (count job) l m))
 firstHolds job lw bw l End m = false
 firstHolds job lw bw l (Refused r) m = sameVerdict (run Sound (firstFindings job lw bw (length l))) (Stopped r) && sameList m l
 
 abbrev nextHolds : List ℕ → ℕ → ℕ → List ℕ → Answer → List ℕ → Bool
 nextHolds job lw bw l (Total t) m =
     sameVerdict (run Sound (nextFindings job lw bw l)) Sound
-    && (nextTest (boardOf job) (weighted (boardOf job) lw bw) (held l) (held m) && (eqb t (totalOf job lw bw m) && sameRest (count job) l m))
+    && (nextTest (labelingOf job lw bw) (untouchingTest (boardOf job)) (held l) (held m) && (eqb t (totalOf job lw bw m) && sameRest (count job) l m))
 nextHolds job lw bw l End m =
-    sameVerdict (run Sound (nextFindings job lw bw l)) Sound && (lastTest (boardOf job) (weighted (boardOf job) lw bw) (held l) && sameList m l)
+    sameVerdict (run Sound (nextFindings job lw bw l)) Sound && (lastTest (labelingOf job lw bw) (untouchingTest (boardOf job)) (held l) && sameList m l)
 nextHolds job lw bw l (Refused r) m = sameVerdict (run Sound (nextFindings job lw bw l)) (Stopped r) && sameList m l
 
 abbrev measureHolds : List ℕ → ℕ → ℕ → List ℕ → Answer → Bool
@@ -81,19 +81,19 @@ measureHolds job lw bw l End = false
 measureHolds job lw bw l (Refused r) = sameVerdict (run Sound (measureFindings job lw bw l)) (Stopped r)
 
 -- k layouts that follow f 0
-abbrev followTest : Board → (ℕ → ℕ → ℕ) → (ℕ → ℕ → ℕ) → ℕ → Bool
-followTest b cost f zero = true
-followTest b cost f (suc k) = followTest b cost f k && nextTest b cost (f k) (f (suc k))
+abbrev followTest : Problem → ((ℕ → ℕ) → Bool) → (ℕ → ℕ → ℕ) → ℕ → Bool
+followTest p counts f zero = true
+followTest p counts f (suc k) = followTest p counts f k && nextTest p counts (f k) (f (suc k))
 
 -- there is room for them; and for no more, or none comes after them
-abbrev pageTest : Board → (ℕ → ℕ → ℕ) → List ℕ → List ℕ → ℕ → List ℕ → Bool
-pageTest b cost given l k m =
-    (leb (k * b .pads) (length l) && followTest b cost (inTurn (b .pads) given m) k)
-    && ((ltb (length l) (suc k * b .pads) || lastTest b cost (inTurn (b .pads) given m k)) && sameRest (k * b .pads) l m)
+abbrev pageTest : Problem → ((ℕ → ℕ) → Bool) → List ℕ → List ℕ → ℕ → List ℕ → Bool
+pageTest p counts given l k m =
+    (leb (k * p .board .pads) (length l) && followTest p counts (inTurn (p .board .pads) given m) k)
+    && ((ltb (length l) (suc k * p .board .pads) || lastTest p counts (inTurn (p .board .pads) given m k)) && sameRest (k * p .board .pads) l m)
 
 abbrev pageHolds : List ℕ → ℕ → ℕ → List ℕ → List ℕ → Paged → List ℕ → Bool
 pageHolds job lw bw given l (Wrote k) m =
-    sameVerdict (run Sound (nextFindings job lw bw given)) Sound && pageTest (boardOf job) (weighted (boardOf job) lw bw) given l k m
+    sameVerdict (run Sound (nextFindings job lw bw given)) Sound && pageTest (labelingOf job lw bw) (untouchingTest (boardOf job)) given l k m
 pageHolds job lw bw given l (NotPaged r) m = sameVerdict (run Sound (nextFindings job lw bw given)) (Stopped r) && sameList m l
 
 abbrev holdsFor : Call → Sheet → Bool
@@ -151,19 +151,25 @@ module _ (job : List ℕ) (lw bw : ℕ) (l : List ℕ) where
   abbrev b : Board
   b = boardOf job
 
-  abbrev cost : ℕ → ℕ → ℕ
-  cost = weighted b lw bw
+  abbrev p : Problem
+  p = labelingOf job lw bw
+
+  abbrev counts : (ℕ → ℕ) → Bool
+  counts = untouchingTest b
+
+  abbrev searchable : Differ b → Searchable p
+  searchable = labeling-searchable b (weighted b lw bw)
 
   next-judged : Judged (run Sound (nextFindings job lw bw l)) (nextTrials job lw bw l)
   unfolding nextFindings
-  next-judged = rw (run-append Sound (measureFindings job lw bw l) ((10, atWhole (not (bestTest b cost (held l)))) ∷ []))
-      (go (run Sound (measureFindings job lw bw l)) (measure-judged job lw bw l) (bestTest b cost (held l))
-      (λ d. best-iff b cost d (held l) .0) (λ d. best-iff b cost d (held l) .1))
+  next-judged = rw (run-append Sound (measureFindings job lw bw l) ((10, atWhole (not (bestTest p counts (held l)))) ∷ []))
+      (go (run Sound (measureFindings job lw bw l)) (measure-judged job lw bw l) (bestTest p counts (held l))
+      (λ d. best-iff p (searchable d) (held l) .0) (λ d. best-iff p (searchable d) (held l) .1))
     where
       differ : Passed (measureTrials job lw bw l) → Differ b
       differ p = measure-facts job lw bw l p .0 .proper .differ
 
-      go : (v : Verdict) → Judged v (measureTrials job lw bw l) → (t : Bool) → (Differ b → T t → Best b cost (held l)) → (Differ b → Best b cost (held l) → T t)
+      go : (v : Verdict) → Judged v (measureTrials job lw bw l) → (t : Bool) → (Differ b → T t → Best p (held l)) → (Differ b → Best p (held l) → T t)
           → Judged (run v ((10, atWhole (not t)) ∷ [])) (nextTrials job lw bw l)
       go Sound p true f g = best-passed job lw bw l p (f (differ p) tt)
       go Sound p false f g = not-best-refused job lw bw l p (λ h. g (differ p) h)
@@ -173,67 +179,67 @@ module _ (job : List ℕ) (lw bw : ℕ) (l : List ℕ) where
   first-holds (Total t) m h =
       let c = eqb t (totalOf job lw bw m) in
       let d = sameRest (count job) l m in
-      let e = firstTest b cost (held m) in
+      let e = firstTest p counts (held m) in
       let u = both (sameVerdict (run Sound (firstFindings job lw bw (length l))) Sound) (e && (c && d)) .0 h in
       let w = both e (c && d) .0 (u .1) in
       let x = both c d .0 (w .1) in
-      let p = judged-as (run Sound (firstFindings job lw bw (length l))) Sound (firstTrials job lw bw (length l)) (first-judged job lw bw (length l)) (u .0) in
-      let differ = first-accepted job lw bw (length l) p .0 .proper .differ in
-      (p, first-iff b cost differ (held m) .0 (w .0), eqb→eq t (totalOf job lw bw m) (x .0), same-rest (count job) l m (x .1))
+      let q = judged-as (run Sound (firstFindings job lw bw (length l))) Sound (firstTrials job lw bw (length l)) (first-judged job lw bw (length l)) (u .0) in
+      let differ = first-accepted job lw bw (length l) q .0 .proper .differ in
+      (q, first-iff p (searchable differ) (held m) .0 (w .0), eqb→eq t (totalOf job lw bw m) (x .0), same-rest (count job) l m (x .1))
   first-holds End m h = absurd h
   first-holds (Refused r) m h =
       let u = both (sameVerdict (run Sound (firstFindings job lw bw (length l))) (Stopped r)) (sameList m l) .0 h in
-      let p = judged-as (run Sound (firstFindings job lw bw (length l))) (Stopped r) (firstTrials job lw bw (length l)) (first-judged job lw bw (length l)) (u .0) in
-      (p, same-list m l (u .1))
+      let q = judged-as (run Sound (firstFindings job lw bw (length l))) (Stopped r) (firstTrials job lw bw (length l)) (first-judged job lw bw (length l)) (u .0) in
+      (q, same-list m l (u .1))
 
   next-holds : (a : Answer) (m : List ℕ) → T (nextHolds job lw bw l a m) → NextAnswers job lw bw l a m
   next-holds (Total t) m h =
       let c = eqb t (totalOf job lw bw m) in
       let d = sameRest (count job) l m in
-      let e = nextTest b cost (held l) (held m) in
+      let e = nextTest p counts (held l) (held m) in
       let u = both (sameVerdict (run Sound (nextFindings job lw bw l)) Sound) (e && (c && d)) .0 h in
       let w = both e (c && d) .0 (u .1) in
       let x = both c d .0 (w .1) in
-      let p = judged-as (run Sound (nextFindings job lw bw l)) Sound (nextTrials job lw bw l) next-judged (u .0) in
-      (p, next-iff b cost (next-differ job lw bw l p) (held l) (held m) .0 (w .0), eqb→eq t (totalOf job lw bw m) (x .0), same-rest (count job) l m (x .1))
+      let q = judged-as (run Sound (nextFindings job lw bw l)) Sound (nextTrials job lw bw l) next-judged (u .0) in
+      (q, next-iff p (searchable (next-differ job lw bw l q)) (held l) (held m) .0 (w .0), eqb→eq t (totalOf job lw bw m) (x .0), same-rest (count job) l m (x .1))
   next-holds End m h =
-      let e = lastTest b cost (held l) in
+      let e = lastTest p counts (held l) in
       let u = both (sameVerdict (run Sound (nextFindings job lw bw l)) Sound) (e && sameList m l) .0 h in
       let w = both e (sameList m l) .0 (u .1) in
-      let p = judged-as (run Sound (nextFindings job lw bw l)) Sound (nextTrials job lw bw l) next-judged (u .0) in
-      (p, last-iff b cost (next-differ job lw bw l p) (held l) .0 (w .0), same-list m l (w .1))
+      let q = judged-as (run Sound (nextFindings job lw bw l)) Sound (nextTrials job lw bw l) next-judged (u .0) in
+      (q, last-iff p (searchable (next-differ job lw bw l q)) (held l) .0 (w .0), same-list m l (w .1))
   next-holds (Refused r) m h =
       let u = both (sameVerdict (run Sound (nextFindings job lw bw l)) (Stopped r)) (sameList m l) .0 h in
       (judged-as (run Sound (nextFindings job lw bw l)) (Stopped r) (nextTrials job lw bw l) next-judged (u .0), same-list m l (u .1))
 
   module _ (differ : Differ b) where
-    follow-told : (f : ℕ → ℕ → ℕ) (k : ℕ) → T (followTest b cost f k) → Follow b cost k f
+    follow-told : (f : ℕ → ℕ → ℕ) (k : ℕ) → T (followTest p counts f k) → Follow p k f
     follow-told f zero h = λ j i. absurd (omega arith)
     follow-told f (suc k) h =
-        let u = both (followTest b cost f k) (nextTest b cost (f k) (f (suc k))) .0 h in
-        below-suc k (follow-told f k (u .0)) (next-iff b cost differ (f k) (f (suc k)) .0 (u .1))
+        let u = both (followTest p counts f k) (nextTest p counts (f k) (f (suc k))) .0 h in
+        below-suc k (follow-told f k (u .0)) (next-iff p (searchable differ) (f k) (f (suc k)) .0 (u .1))
 
-    page-told : (before : List ℕ) (k : ℕ) (m : List ℕ) → T (pageTest b cost l before k m) → Following b cost l before k m
+    page-told : (before : List ℕ) (k : ℕ) (m : List ℕ) → T (pageTest p counts l before k m) → Following p l before k m
     page-told before k m h =
         let f = inTurn (count job) l m in
         let c = leb (k * count job) (length before) in
         let d = ltb (length before) (suc k * count job) in
         let e = sameRest (k * count job) before m in
-        let u = both (c && followTest b cost f k) ((d || lastTest b cost (f k)) && e) .0 h in
-        let w = both c (followTest b cost f k) .0 (u .0) in
-        let x = both (d || lastTest b cost (f k)) e .0 (u .1) in
+        let u = both (c && followTest p counts f k) ((d || lastTest p counts (f k)) && e) .0 h in
+        let w = both c (followTest p counts f k) .0 (u .0) in
+        let x = both (d || lastTest p counts (f k)) e .0 (u .1) in
         record {
           fit = leb→le (k * count job) (length before) (w .0);
           follow = follow-told f k (w .1);
-          all = or-iff d (lastTest b cost (f k)) (ltb-iff (length before) (suc k * count job)) (last-iff b cost differ (f k)) .0 (x .0);
+          all = or-iff d (lastTest p counts (f k)) (ltb-iff (length before) (suc k * count job)) (last-iff p (searchable differ) (f k)) .0 (x .0);
           kept = same-rest (k * count job) before m (x .1);
         }
 
   page-holds : (before : List ℕ) (a : Paged) (m : List ℕ) → T (pageHolds job lw bw l before a m) → PageAnswers job lw bw l before a m
   page-holds before (Wrote k) m h =
-      let u = both (sameVerdict (run Sound (nextFindings job lw bw l)) Sound) (pageTest b cost l before k m) .0 h in
-      let p = judged-as (run Sound (nextFindings job lw bw l)) Sound (nextTrials job lw bw l) next-judged (u .0) in
-      (p, page-told (next-differ job lw bw l p) before k m (u .1))
+      let u = both (sameVerdict (run Sound (nextFindings job lw bw l)) Sound) (pageTest p counts l before k m) .0 h in
+      let q = judged-as (run Sound (nextFindings job lw bw l)) Sound (nextTrials job lw bw l) next-judged (u .0) in
+      (q, page-told (next-differ job lw bw l q) before k m (u .1))
   page-holds before (NotPaged r) m h =
       let u = both (sameVerdict (run Sound (nextFindings job lw bw l)) (Stopped r)) (sameList m before) .0 h in
       (judged-as (run Sound (nextFindings job lw bw l)) (Stopped r) (nextTrials job lw bw l) next-judged (u .0), same-list m before (u .1))

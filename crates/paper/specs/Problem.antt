@@ -1,0 +1,44 @@
+-- DEFINITIONS. One problem, of which all calls that seek layouts are instances: a board, which layouts count, and the value of a layout. 01's is
+-- Benkert's one-sided labeling: a layout counts if no two leaders touch, and its value is its total.
+use mathlib.Core.Path.{_≡_}
+use mathlib.Core.List.{List}
+use Prim.Native.Nat.{ℕ, _≤_, _<_}
+use Rattle.paper.specs.Layouts.{Board, boardOf, Untouching, weighted, total}
+
+pub record Problem : Type 1 where
+  pub board : Board
+  pub Counts : (ℕ → ℕ) → Type 0
+  pub value : (ℕ → ℕ) → ℕ
+
+-- A best layout counts, and none that counts has a smaller value.
+pub record Best (p : Problem) (f : ℕ → ℕ) : Type 0 where
+  pub counts : p .Counts f
+  pub least : (g : ℕ → ℕ) → p .Counts g → p .value f ≤ p .value g
+
+-- 01's order. f comes before g: at some pad f has the smaller port number, and at every pad to the right of it they have the same.
+pub record Before (b : Board) (f g : ℕ → ℕ) : Type 0 where
+  pub pad : ℕ
+  pub inside : pad < b .pads
+  pub smaller : f pad < g pad
+  pub alike : (j : ℕ) → j < b .pads → b .x pad < b .x j → f j ≡ g j
+
+-- The earliest best layout; the earliest best layout after l; and l has no best layout after it.
+pub record FirstBest (p : Problem) (f : ℕ → ℕ) : Type 0 where
+  pub best : Best p f
+  pub earliest : (g : ℕ → ℕ) → Best p g → ¬ Before (p .board) g f
+
+pub record NextBest (p : Problem) (l f : ℕ → ℕ) : Type 0 where
+  pub best : Best p f
+  pub later : Before (p .board) l f
+  pub earliest : (g : ℕ → ℕ) → Best p g → Before (p .board) l g → ¬ Before (p .board) g f
+
+abbrev pub LastBest : Problem → (ℕ → ℕ) → Type 0
+LastBest p l = (g : ℕ → ℕ) → Best p g → ¬ Before (p .board) l g
+
+-- One-sided labeling, for any cost of leading a pad to a port: a best layout has no touching pair, and no layout without a touching pair has a smaller total.
+abbrev pub labeling : Board → (ℕ → ℕ → ℕ) → Problem
+labeling b cost = record { board = b; Counts = Untouching b; value = total b cost }
+
+-- 01's: the board of a job, and the weighted cost; lw and bw are the length weight and the bend weight.
+abbrev pub labelingOf : List ℕ → ℕ → ℕ → Problem
+labelingOf job lw bw = labeling (boardOf job) (weighted (boardOf job) lw bw)
