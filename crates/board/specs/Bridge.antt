@@ -16,7 +16,8 @@ use Rattle.steps.specs.Steps.{figureOf}
 use Rattle.choices.specs.Choices as choices
 use Rattle.choices.specs.Lists.{listed}
 use Rattle.paper.specs.Leaders.{Between}
-use Rattle.paper.specs.Layouts.{Board, Untouching, sum, total, Best, Before, FirstBest, NextBest, LastBest}
+use Rattle.paper.specs.Layouts.{Board, Untouching, sum, total}
+use Rattle.paper.specs.Problem.{Best, Before, FirstBest, NextBest, LastBest, labeling}
 use Rattle.paper.specs.laws.Totals.{sum-same}
 use Rattle.paper.specs.laws.Boards.{untouched-iff, untouching-of}
 use Rattle.board.specs.Lists.{WorkOf}
@@ -126,16 +127,16 @@ module _ {b : Board} {cost : ℕ → ℕ → ℕ} {order lo hi cs : List ℕ} (W
   -- ---- best layouts and their order
 
   -- The search's best layouts are the best layouts,
-  pub optimal-is-best : (f : ℕ → ℕ) → Optimal (boardOf order cs lo hi) order (length order) f → Best b cost f
+  pub optimal-is-best : (f : ℕ → ℕ) → Optimal (boardOf order cs lo hi) order (length order) f → Best (labeling b cost) f
   optimal-is-best f o = let u = sol-untouching f (o .layout) in record {
-    untouching = u;
+    counts = u;
     least = λ g v. rw (← sum-total f u, ← sum-total g v) (o .least g (untouching-sol g v));
   }
 
-  pub best-is-optimal : (f : ℕ → ℕ) → Best b cost f → Optimal (boardOf order cs lo hi) order (length order) f
+  pub best-is-optimal : (f : ℕ → ℕ) → Best (labeling b cost) f → Optimal (boardOf order cs lo hi) order (length order) f
   best-is-optimal f s = record {
-    layout = untouching-sol f (s .untouching);
-    least = λ g t. rw (sum-total f (s .untouching), sum-total g (sol-untouching g t)) (s .least g (sol-untouching g t));
+    layout = untouching-sol f (s .counts);
+    least = λ g t. rw (sum-total f (s .counts), sum-total g (sol-untouching g t)) (s .least g (sol-untouching g t));
   }
 
   -- its order is the order of layouts,
@@ -158,15 +159,15 @@ module _ {b : Board} {cost : ℕ → ℕ → ℕ} {order lo hi cs : List ℕ} (W
   last f g (inr e) c = earlier-asym f g order e (before-earlier g f c)
 
   -- THEOREMS: the search's first, next and last best layouts are those of the paper.
-  pub earliest-is : (f : ℕ → ℕ) → Earliest order (Optimal (boardOf order cs lo hi) order (length order)) f → FirstBest b cost f
+  pub earliest-is : (f : ℕ → ℕ) → Earliest order (Optimal (boardOf order cs lo hi) order (length order)) f → FirstBest (labeling b cost) f
   earliest-is f e = record { best = optimal-is-best f (e .has); earliest = λ g s. last f g (e .first g (best-is-optimal g s)) }
 
-  pub next-is : (l f : ℕ → ℕ) → Earliest order (Later (boardOf order cs lo hi) order (length order) l) f → NextBest b cost l f
+  pub next-is : (l f : ℕ → ℕ) → Earliest order (Later (boardOf order cs lo hi) order (length order) l) f → NextBest (labeling b cost) l f
   next-is l f e = record {
     best = optimal-is-best f (e .has .best);
     later = earlier-before l f (e .has .later);
     earliest = λ g s k. last f g (e .first g (record { best = best-is-optimal g s; later = before-earlier l g k }));
   }
 
-  pub end-is : (l : ℕ → ℕ) → ((g : ℕ → ℕ) → ¬ Later (boardOf order cs lo hi) order (length order) l g) → LastBest b cost l
+  pub end-is : (l : ℕ → ℕ) → ((g : ℕ → ℕ) → ¬ Later (boardOf order cs lo hi) order (length order) l g) → LastBest (labeling b cost) l
   end-is l e g s k = e g (record { best = best-is-optimal g s; later = before-earlier l g k })

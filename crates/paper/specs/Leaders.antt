@@ -1,7 +1,7 @@
 -- DEFINITIONS. 01, "Leaders, touching and totals": a leader is a set of points of the sheet.
 -- A point is (x, y): x counts from the label edge to the right, y is a height. No leader has a point left of the edge.
 -- Whole points are enough: the sides lie along the axes and the corners are whole, so that leaders of pads with different x that share any point
--- of the plane share a whole one (laws/Plane, `touch-plane`).
+-- of the plane share a whole one (`touch-plane`).
 use mathlib.Core.Path.{_≡_}
 use mathlib.Core.Logic.{_⊎_}
 use mathlib.Core.Bool.{cond}

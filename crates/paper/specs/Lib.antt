@@ -1,6 +1,7 @@
--- The definitions, in the order in which to read them; then what follows from them.
+-- The definitions, in the order in which to read them; what follows from them; and the theorems.
 pub mod Job
 pub mod Leaders
+pub mod Plane
 pub mod Layouts
 pub mod Problem
 pub mod Refusals
@@ -10,3 +11,4 @@ pub mod Runs
 pub mod Sheets
 pub mod Straightening
 pub mod laws
+pub mod Theorems

@@ -1,11 +1,12 @@
 -- DEFINITIONS. 01, "The calls": what each call promises for every input, by cases of its answer, and the number that C gets.
 -- A call is given a job, numbers, and a lent list that holds `before` at entry and `after` at exit. Page is given a layout besides, which is only read.
 use mathlib.Core.Path.{_≡_}
-use mathlib.Core.Logic.{_⊎_}
+use mathlib.Core.Logic.{_⊎_, _↔_}
 use mathlib.Core.List.{List, [], _∷_, _++_}
 use Prim.Native.Nat.{ℕ, zero, suc, _+_, _*_, _/_, _%_, _≤_, _<_}
 use lib.ListN.{length, getD, drop}
 use lib.IntN.{ℤ, pos, negsuc, negℤ, natAbs}
+use lib.Signed.{_≤ℤ_}
 use lib.Ieee.{Float}
 use Rattle.paper.specs.declared.Refusal.{Refusal}
 use Rattle.paper.specs.declared.Answer.{Answer}
@@ -16,7 +17,7 @@ use Rattle.paper.specs.declared.Drawn.{Drawn}
 use Rattle.paper.specs.declared.Drawn.the-variants.{Straight, Bent, Refused as NotDrawn}
 use Rattle.paper.specs.Layouts.{boardOf, held, leader}
 use Rattle.paper.specs.Problem.{Problem, FirstBest, NextBest, LastBest}
-use Rattle.paper.specs.Refusals.{Passed, RefusedBy, refusal, drawTrials, Calls, entries, callsOf}
+use Rattle.paper.specs.Refusals.{Trial, Passed, RefusedBy, refusal, drawTrials, Calls, entries, callsOf}
 use Rattle.paper.specs.Canvas.{DrawnStraight, DrawnBent}
 
 -- ---- C's number for each answer
@@ -156,3 +157,15 @@ DrawAnswers job i q before (NotDrawn r) after = RefusedBy (drawTrials job i q (l
 
 abbrev pub DrawPromise : List ℕ → ℕ → ℕ → List Float → ℤ → List Float → Type 0
 DrawPromise job i q before c after = (d : Drawn) × DrawAnswers job i q before d after × (c ≡ drawnNumber d)
+
+-- ---- what is asked of a promise
+
+-- It allows one reply, and one only: a number, and what the lent list then holds.
+abbrev pub OneReply : {L : Type 0} → (ℤ → L → Type 0) → Type 0
+OneReply {L} P = ((m : ℤ) × (l : L) × P m l) × ((m n : ℤ) (l k : L) → P m l → P n k → (m ≡ n) × (l ≡ k))
+
+-- The number m is a refusal, -65,536 or less, exactly if the trials are not all passed; and then it is that of the first trial that is not, with its records,
+-- and nothing is written.
+pub record RefusesBy (ts : List Trial) (m : ℤ) (Unchanged : Type 0) : Type 0 where
+  pub exactly : (m ≤ℤ negℤ (pos 65536)) ↔ (¬ Passed ts)
+  pub named : m ≤ℤ negℤ (pos 65536) → RefusedBy ts (refusalIn m) × Unchanged

@@ -8,7 +8,8 @@ use Rattle.paper.specs.declared.Answer.the-variants.{Total}
 use Rattle.paper.specs.declared.verdict.Verdict.the-variants.{Sound}
 use Rattle.paper.specs.Job.{twos, nameOf, reservedOf, xOf, yOf, portOf}
 use Rattle.paper.specs.Leaders.{lengthOf, bendsOf}
-use Rattle.paper.specs.Layouts.{boardOf, held, weighted, sum, FirstBest}
+use Rattle.paper.specs.Layouts.{boardOf, held, weighted, sum}
+use Rattle.paper.specs.Problem.{FirstBest, labelingOf}
 use Rattle.paper.specs.Refusals.{Passed, firstTrials}
 use Rattle.paper.specs.Promises.{Kept}
 use Rattle.paper.specs.laws.Totals.{totalOf}
@@ -19,7 +20,7 @@ use Rattle.paper.specs.laws.Verdicts.{run, jobFindings, firstFindings}
 use Rattle.paper.specs.laws.Trials.{judged-sound}
 use Rattle.paper.specs.laws.Judged.{first-judged}
 use Rattle.paper.specs.laws.Accepted.{first-accepted}
-use Rattle.paper.specs.laws.Trying.{firstTest, bestTest, first-iff, heads, words, any, someWord, leastTest}
+use Rattle.paper.specs.laws.Trying.{firstTest, bestTest, first-iff, labeling-searchable, heads, words, any, someWord, leastTest}
 use Rattle.paper.specs.laws.Trying.{misled, untouchingTest, differRight, decidedAt, beforeTest, cheaper}
 use Rattle.text.specs.Text.{bytes, digits, decimal}
 use Rattle.print.specs.Printed.{line, lines, Printed}
@@ -32,10 +33,10 @@ passed : Passed (firstTrials J5 1 0 64)
 unfolding first some outside jobFindings firstFindings twos nameOf reservedOf xOf yOf portOf
 passed = judged-sound (run Sound (firstFindings J5 1 0 64)) (firstTrials J5 1 0 64) (first-judged J5 1 0 64) refl
 
-earliest : FirstBest (boardOf J5) (weighted (boardOf J5) 1 0) (held list)
+earliest : FirstBest (labelingOf J5 1 0) (held list)
 unfolding firstTest bestTest heads words any someWord leastTest misled untouchingTest differRight decidedAt beforeTest cheaper first some between touching
     twos xOf yOf portOf lengthOf bendsOf sum weighted
-earliest = first-iff (boardOf J5) (weighted (boardOf J5) 1 0) (first-accepted J5 1 0 64 passed .0 .proper .differ) (held list) .0 tt
+earliest = first-iff (labelingOf J5 1 0) (labeling-searchable (boardOf J5) (weighted (boardOf J5) 1 0) (first-accepted J5 1 0 64 passed .0 .proper .differ)) (held list) .0 tt
 
 total : 90 ≡ totalOf J5 1 0 list
 unfolding twos xOf yOf portOf lengthOf bendsOf sum weighted

@@ -14,7 +14,7 @@ use Rattle.paper.specs.declared.Answer.the-variants.{Total, End, Refused}
 use Rattle.paper.specs.Job.{count, nameOf}
 use Rattle.paper.specs.Leaders.{lengthOf, bendsOf}
 use Rattle.paper.specs.Layouts.{boardOf, leader, held}
-use Rattle.paper.specs.Refusals.{BadWeight, Passed, measureTrials}
+use Rattle.paper.specs.Refusals.{BadWeight, Passed, measureTrials, callsOf}
 use Rattle.paper.specs.Promises.{FirstAnswers}
 use Rattle.paper.specs.laws.Totals.{totalOf, total-is}
 use Rattle.paper.specs.laws.Accepted.{untouching-passed}
@@ -26,7 +26,7 @@ use Rattle.print.specs.Printed.{field, line, lines, lengths, bends, shee
 -- THEOREM: what is printed for a job is determined.
 pub printed-one : (job s t : List ℕ) → Printed job s → Printed job t → s ≡ t
 printed-one job s t p q =
-    let (a, l) = first-answer job 1 0 (replicate 64 0) (p .answer) (q .answer) (p .list) (q .list) (p .first) (q .first) in
+    let (a, l) = first-answer (callsOf job 1 0) (replicate 64 0) (p .answer) (q .answer) (p .list) (q .list) (p .first) (q .first) in
     p .says ∙ ap (λ (m : List ℕ). told job m (p .answer)) l ∙ ap (told job (q .list)) a ∙ sym (q .says)
 
 -- THEOREM: so are its length and every byte of the list that it is printed into.

@@ -3,7 +3,8 @@ use mathlib.Core.Path.{_≡_}
 use mathlib.Core.List.{List}
 use Prim.Native.Nat.{ℕ}
 use Rattle.paper.specs.Job.{count}
-use Rattle.paper.specs.Layouts.{boardOf, held, Best, FirstBest, NextBest, LastBest}
+use Rattle.paper.specs.Layouts.{boardOf, held}
+use Rattle.paper.specs.Problem.{Best, FirstBest, NextBest, LastBest, labelingOf}
 use Rattle.paper.specs.Promises.{Kept, Following}
 use Rattle.paper.specs.laws.Totals.{totalOf}
 use Rattle.walks.specs.declared.Reply.{Reply}
@@ -15,26 +16,26 @@ use Rattle.turns.specs.Turns.{cost}
 -- FIRST: the list holds the earliest best layout, t is its total, and the entries from n on are kept.
 abbrev pub FirstOn : List ℕ → ℕ → ℕ → List ℕ → List ℕ → ℕ → Type 0
 FirstOn job lw bw before after t =
-    FirstBest (boardOf job) (cost job lw bw) (held after) × (t ≡ totalOf job lw bw after) × Kept (count job) before after
+    FirstBest (labelingOf job lw bw) (held after) × (t ≡ totalOf job lw bw after) × Kept (count job) before after
 
 -- NEXT, asked of an untouching layout: it is best, and the earliest best layout after it has replaced it; or it is the last best one, and is kept; or it
 -- is not best, and is kept.
 abbrev pub NextOn : List ℕ → ℕ → ℕ → List ℕ → List ℕ → Step → Type 0
 NextOn job lw bw before after (Total t) =
-    Best (boardOf job) (cost job lw bw) (held before)
-    × NextBest (boardOf job) (cost job lw bw) (held before) (held after)
+    Best (labelingOf job lw bw) (held before)
+    × NextBest (labelingOf job lw bw) (held before) (held after)
     × (t ≡ totalOf job lw bw after)
     × Kept (count job) before after
 NextOn job lw bw before after End =
-    Best (boardOf job) (cost job lw bw) (held before)
-    × LastBest (boardOf job) (cost job lw bw) (held before)
+    Best (labelingOf job lw bw) (held before)
+    × LastBest (labelingOf job lw bw) (held before)
     × (after ≡ before)
-NextOn job lw bw before after Worse = (¬ Best (boardOf job) (cost job lw bw) (held before)) × (after ≡ before)
+NextOn job lw bw before after Worse = (¬ Best (labelingOf job lw bw) (held before)) × (after ≡ before)
 
 -- PAGE, asked of an untouching layout: it is best, and those that follow stand on the page; or it is not best, and the page is kept.
 abbrev pub PageOn : List ℕ → ℕ → ℕ → List ℕ → List ℕ → List ℕ → Reply → Type 0
 PageOn job lw bw given before after (Walked r) =
-    Best (boardOf job) (cost job lw bw) (held given)
-    × Following (boardOf job) (cost job lw bw) given before (r .count) after
+    Best (labelingOf job lw bw) (held given)
+    × Following (labelingOf job lw bw) given before (r .count) after
     × (r .total ≡ totalOf job lw bw given)
-PageOn job lw bw given before after NotBest = (¬ Best (boardOf job) (cost job lw bw) (held given)) × (after ≡ before)
+PageOn job lw bw given before after NotBest = (¬ Best (labelingOf job lw bw) (held given)) × (after ≡ before)

@@ -9,9 +9,11 @@ use lib.ListN.{length}
 use Rattle.steps.specs.Steps.{BestLayout, NextIs, EndIs}
 use Rattle.choices.specs.Choices.{Working}
 use Rattle.paper.specs.Job.{count}
-use Rattle.paper.specs.Layouts.{boardOf, held, Best}
+use Rattle.paper.specs.Layouts.{boardOf, held, weighted}
+use Rattle.paper.specs.Problem.{Best, labelingOf}
 use Rattle.paper.specs.Promises.{Kept, inTurn}
 use Rattle.paper.specs.Layouts.{Same}
+use Rattle.paper.specs.laws.Trying.{labeling-steady}
 use Rattle.paper.specs.laws.Order.{next-of-same, last-of-same}
 use Rattle.paper.specs.laws.Kept.{kept-trans}
 use Rattle.paper.specs.laws.Pages.{one-more, Copied, Paging, paging-none, paging-here, paging-more, page-full, page-ends}
@@ -21,15 +23,15 @@ use Rattle.turns.proofs.Starts.{same-n, working-on, kept-on}
 
 -- From the layout of l on, k layouts are on the page, up to place `at`, and w holds the last.
 pub record Turning (job : List ℕ) (lw bw : ℕ) (l before w page : List ℕ) (at k : ℕ) : Type 0 where
-  pub paging : Paging (boardOf job) (cost job lw bw) l before k page
+  pub paging : Paging (labelingOf job lw bw) l before k page
   pub reached : Same (boardOf job) (inTurn (count job) l page k) (held w)
-  pub best : Best (boardOf job) (cost job lw bw) (held w)
+  pub best : Best (labelingOf job lw bw) (held w)
   pub kept : Kept (count job) l w
   pub place : at ≡ k * count job
 
-pub turning-none : {job : List ℕ} {lw bw : ℕ} (l before : List ℕ) → Best (boardOf job) (cost job lw bw) (held l) → Turning job lw bw l before l before 0 0
+pub turning-none : {job : List ℕ} {lw bw : ℕ} (l before : List ℕ) → Best (labelingOf job lw bw) (held l) → Turning job lw bw l before l before 0 0
 turning-none {job} {lw} {bw} l before s = record {
-  paging = paging-none (boardOf job) (cost job lw bw) l before;
+  paging = paging-none (labelingOf job lw bw) l before;
   reached = λ i h. refl;
   best = s;
   kept = record { long = refl; rest = λ i h. refl };
@@ -62,10 +64,10 @@ module _ {job : List ℕ} {lw bw : ℕ} {order lo hi cs hs ts : List ℕ} (R : R
   pub turning-more : (v after : List ℕ) → length order ≤ length page - at → NextIs order cs lo hi w v → Copied (length order) at v page after
       → Turning job lw bw l before v after (at + length order) (k + 1)
   turning-more v after room N C = rw (add-one k) (record {
-    paging = paging-more (boardOf job) (cost job lw bw) l before k page (T .paging) v after D
+    paging = paging-more (labelingOf job lw bw) l before k page (T .paging) v after D (labeling-steady (boardOf job) (weighted (boardOf job) lw bw))
         (omega (arith, one-more k (count job), T .place, same-n R, turning-inside, T .paging .kept .long))
-        (next-of-same (boardOf job) (cost job lw bw) (held w) (inTurn (count job) l page k) (held v) back (next-is (R .work) (held w) (held v) (N .earliest)));
-    reached = paging-here (boardOf job) (cost job lw bw) l before k page (T .paging) v after D;
+        (next-of-same (labelingOf job lw bw) (held w) (inTurn (count job) l page k) (held v) back (next-is (R .work) (held w) (held v) (N .earliest)));
+    reached = paging-here (labelingOf job lw bw) l before k page (T .paging) v after D;
     best = next-is (R .work) (held w) (held v) (N .earliest) .best;
     kept = kept-trans (count job) l w v (T .kept) (kept-on R (N .kept));
     place = omega (arith, one-more k (count job), T .place, same-n R);
@@ -77,8 +79,8 @@ module _ {job : List ℕ} {lw bw : ℕ} {order lo hi cs hs ts : List ℕ} (R : R
   -- No step is left, or no room.
   pub turning-end : (v : List ℕ) → EndIs order cs lo hi w v → Turned job lw bw l before v page k
   turning-end v E = rw (E .same) (record {
-    following = page-ends (boardOf job) (cost job lw bw) l before k page (T .paging)
-        (last-of-same (boardOf job) (cost job lw bw) (held w) (inTurn (count job) l page k) back (end-is (R .work) (held w) (E .none)));
+    following = page-ends (labelingOf job lw bw) l before k page (T .paging)
+        (last-of-same (labelingOf job lw bw) (held w) (inTurn (count job) l page k) back (end-is (R .work) (held w) (E .none)));
     reached = T .reached;
     best = T .best;
     kept = T .kept;
@@ -86,7 +88,7 @@ module _ {job : List ℕ} {lw bw : ℕ} {order lo hi cs hs ts : List ℕ} (R : R
 
   pub turning-full : length page - at < length order → Turned job lw bw l before w page k
   turning-full h = record {
-    following = page-full (boardOf job) (cost job lw bw) l before k page (T .paging)
+    following = page-full (labelingOf job lw bw) l before k page (T .paging)
         (omega (arith, one-more k (count job), T .place, same-n R, turning-inside, T .paging .kept .long));
     reached = T .reached;
     best = T .best;

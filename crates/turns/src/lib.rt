@@ -3,7 +3,8 @@ ghost use Prim.Native.Nat.{_+_, _≤_};
 ghost use mathlib.Core.Path.{_≡_};
 ghost use lib.ListN.{length};
 ghost use Rattle.paper.specs.Job.{count};
-ghost use Rattle.paper.specs.Layouts.{boardOf, held, weighted, Best};
+ghost use Rattle.paper.specs.Layouts.{boardOf, held, weighted};
+ghost use Rattle.paper.specs.Problem.{Best, labelingOf};
 ghost use Rattle.paper.specs.laws.Accepted.{Accepted};
 ghost use Rattle.paper.specs.laws.Pages.{Copied};
 ghost use Rattle.totals.specs.Cell.{leastOf};
@@ -70,7 +71,7 @@ pub fn turn(
     page: &mut [u16],
 ) -> u64
     requires { ⌜ Accepted (now job) × Ready (now job) lw bw (now order) (now lo) (now hi) (now cost) (now heads) (now totals) ⌝ }
-    requires { ⌜ (count (now job) ≤ length (now w)) × Best (boardOf (now job)) (weighted (boardOf (now job)) lw bw) (held (now w)) ⌝ }
+    requires { ⌜ (count (now job) ≤ length (now w)) × Best (labelingOf (now job) lw bw) (held (now w)) ⌝ }
     ensures { λ k. ⌜ Turned (now (job .entry)) lw bw (now (w .entry)) (now (page .entry)) (now (w .exit)) (now (page .exit)) k ⌝ }
 {
     let n = order.len();

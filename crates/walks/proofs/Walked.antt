@@ -6,7 +6,8 @@ use native.Mathlib.Omega.{arith}
 use lib.ListN.{length}
 use Rattle.totals.specs.Cell.{leastOf}
 use Rattle.paper.specs.Job.{count}
-use Rattle.paper.specs.Layouts.{boardOf, held, total, Best}
+use Rattle.paper.specs.Layouts.{boardOf, held, total}
+use Rattle.paper.specs.Problem.{Best, labelingOf}
 use Rattle.paper.specs.laws.Totals.{totalOf}
 use Rattle.steps.specs.Totals.{best-total}
 use Rattle.board.specs.Bridge.{proper, sum-total, best-is-optimal}
@@ -17,12 +18,12 @@ use Rattle.walks.specs.Walks.{Walking}
 
 module _ {job : List ℕ} {lw bw : ℕ} {order lo hi cs hs ts : List ℕ} (R : Ready job lw bw order lo hi cs hs ts) where
   -- The least total is that of each best layout.
-  total-on : (t : ℕ) → t ≡ leastOf order cs lo hi → (v : List ℕ) → Best (boardOf job) (cost job lw bw) (held v) → t ≡ totalOf job lw bw v
-  total-on t e v s = best-total (proper (R .work)) t e v (best-is-optimal (R .work) (held v) s) ∙ sum-total (R .work) (held v) (s .untouching)
+  total-on : (t : ℕ) → t ≡ leastOf order cs lo hi → (v : List ℕ) → Best (labelingOf job lw bw) (held v) → t ≡ totalOf job lw bw v
+  total-on t e v s = best-total (proper (R .work)) t e v (best-is-optimal (R .work) (held v) s) ∙ sum-total (R .work) (held v) (s .counts)
 
 module _ (job : List ℕ) (lw bw : ℕ) where
   -- A walk goes on from its start.
-  pub began-best : (start : Start) (w l : List ℕ) → Began start job lw bw w l → Best (boardOf job) (cost job lw bw) (held l)
+  pub began-best : (start : Start) (w l : List ℕ) → Began start job lw bw w l → Best (labelingOf job lw bw) (held l)
   began-best First w l s = s .0 .best
   began-best Given w l s = s .0
 

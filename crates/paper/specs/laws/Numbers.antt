@@ -17,10 +17,10 @@ use Rattle.paper.specs.declared.Two.{Two}
 use Rattle.paper.specs.declared.Three.{Three}
 use Rattle.paper.specs.declared.Drawn.the-variants.{Straight, Bent, Refused as NotDrawn}
 use Rattle.paper.specs.Problem.{labelingOf}
-use Rattle.paper.specs.Refusals.{Trial, Clean, RefusedBy, firstTrials, measureTrials, nextTrials, drawTrials, bestTrial, Calls, callsOf}
+use Rattle.paper.specs.Refusals.{Trial, Clean, Passed, RefusedBy, firstTrials, measureTrials, nextTrials, drawTrials, bestTrial, Calls, callsOf}
 use Rattle.paper.specs.Promises.{refusalNumber, refusalIn, number, FirstOver, NextOver, PageOver, MeasureOver, DrawAnswers}
-use Rattle.paper.specs.Promises.{FirstReplies, NextReplies, PageReplies, MeasureReplies, DrawPromise}
-use Rattle.paper.specs.laws.Trials.{refused-left}
+use Rattle.paper.specs.Promises.{FirstReplies, NextReplies, PageReplies, MeasureReplies, DrawPromise, RefusesBy}
+use Rattle.paper.specs.laws.Trials.{not-both, refused-left}
 use Rattle.paper.specs.laws.Accepted.{few-records}
 
 -- ---- a refusal's number
@@ -144,11 +144,39 @@ module _ (c : Calls) (N : Numbered c) where
     pub next-back : (m : ℤ) → NextReplies c before m after → m ≤ℤ negℤ (pos 65536) → NextOver c before (Refused (refusalIn m)) after
     next-back = back (λ a. NextOver c before a after) (λ r p. N .next before r (p .0))
 
+    -- So it refuses exactly what a trial refuses.
+    pub first-refuses : (m : ℤ) → FirstReplies c before m after → RefusesBy (c .first (length before)) m (after ≡ before)
+    first-refuses m P = record { exactly = ((λ l p. not-both (c .first (length before)) (refusalIn m) p (first-back m P l .0)), go P); named = first-back m P }
+      where
+        go : FirstReplies c before m after → ¬ Passed (c .first (length before)) → m ≤ℤ negℤ (pos 65536)
+        go (Total t, p, e) n = absurd (n (p .0))
+        go (End, p, e) n = absurd p
+        go (Refused r, p, e) n = rw e (refusal-low r (N .first (length before) r (p .0)))
+
+    pub next-refuses : (m : ℤ) → NextReplies c before m after → RefusesBy (c .next before) m (after ≡ before)
+    next-refuses m P = record { exactly = ((λ l p. not-both (c .next before) (refusalIn m) p (next-back m P l .0)), go P); named = next-back m P }
+      where
+        go : NextReplies c before m after → ¬ Passed (c .next before) → m ≤ℤ negℤ (pos 65536)
+        go (Total t, p, e) n = absurd (n (p .0))
+        go (End, p, e) n = absurd (n (p .0))
+        go (Refused r, p, e) n = rw e (refusal-low r (N .next before r (p .0)))
+
   pub measure-told : (list : List ℕ) (t : ℕ) → MeasureReplies c list (pos t) → MeasureOver c list (Total t)
   measure-told list t = told (MeasureOver c list) (N .measure list) (Total t) tt
 
   pub measure-back : (list : List ℕ) (m : ℤ) → MeasureReplies c list m → m ≤ℤ negℤ (pos 65536) → MeasureOver c list (Refused (refusalIn m))
   measure-back list = back (MeasureOver c list) (N .measure list)
+
+  pub measure-refuses : (list : List ℕ) (m : ℤ) → MeasureReplies c list m → RefusesBy (c .measure list) m (Unit {0})
+  measure-refuses list m P = record {
+    exactly = ((λ l p. not-both (c .measure list) (refusalIn m) p (measure-back list m P l)), go P);
+    named = λ l. (measure-back list m P l, tt);
+  }
+    where
+      go : MeasureReplies c list m → ¬ Passed (c .measure list) → m ≤ℤ negℤ (pos 65536)
+      go (Total t, p, e) n = absurd (n (p .0))
+      go (End, p, e) n = absurd p
+      go (Refused r, p, e) n = rw e (refusal-low r (N .measure list r p))
 
   -- Page's number is that of the layouts written, or such a refusal's.
   module _ (given before after : List ℕ) where
@@ -159,6 +187,13 @@ module _ (c : Calls) (N : Numbered c) where
     pub page-back : (m : ℤ) → PageReplies c given before m after → m ≤ℤ negℤ (pos 65536) → PageOver c given before (NotPaged (refusalIn m)) after
     page-back m (Wrote k, p, e) l = absurd (low-apart k m e l)
     page-back m (NotPaged r, p, e) l = subst (λ (r : Refusal). PageOver c given before (NotPaged r) after) (small-back r m (N .next given r (p .0)) e) p
+
+    pub page-refuses : (m : ℤ) → PageReplies c given before m after → RefusesBy (c .next given) m (after ≡ before)
+    page-refuses m P = record { exactly = ((λ l p. not-both (c .next given) (refusalIn m) p (page-back m P l .0)), go P); named = page-back m P }
+      where
+        go : PageReplies c given before m after → ¬ Passed (c .next given) → m ≤ℤ negℤ (pos 65536)
+        go (Wrote k, p, e) n = absurd (n (p .0))
+        go (NotPaged r, p, e) n = rw e (refusal-low r (N .next given r (p .0)))
 
 -- ---- 01's
 
@@ -198,3 +233,11 @@ module _ (job : List ℕ) (i q : ℕ) (before after : List Float) where
   draw-back c (Bent d, p, e) l = absurd (low-apart 3 c e l)
   draw-back c (NotDrawn r, p, e) l =
       subst (λ (r : Refusal). DrawAnswers job i q before (NotDrawn r) after) (small-back r c (drawn-small r p) e) p
+
+  pub draw-refuses : (m : ℤ) → DrawPromise job i q before m after → RefusesBy (drawTrials job i q (length before)) m (after ≡ before)
+  draw-refuses m P = record { exactly = ((λ l p. not-both (drawTrials job i q (length before)) (refusalIn m) p (draw-back m P l .0)), go P); named = draw-back m P }
+    where
+      go : DrawPromise job i q before m after → ¬ Passed (drawTrials job i q (length before)) → m ≤ℤ negℤ (pos 65536)
+      go (Straight d, p, e) n = absurd (n (p .0))
+      go (Bent d, p, e) n = absurd (n (p .0))
+      go (NotDrawn r, p, e) n = rw e (refusal-low r (drawn-small r p))

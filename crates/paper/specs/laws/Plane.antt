@@ -11,16 +11,8 @@ use lib.IntN.{ℤ, pos, _*ℤ_}
 use lib.Signed.{_≤ℤ_, ≤ℤ-refl}
 use Rattle.numbers.specs.Whole.{whole, up, dn, antisym, ≤ℤ-trans, times-up, times-dn}
 use Rattle.paper.specs.Leaders.{Spot, Leader, Between, On, Touch}
+use Rattle.paper.specs.Plane.{Line, BetweenIn, OnIn, TouchIn}
 use Rattle.paper.specs.laws.Touching.{between-end, touch-sym, touch-iff}
-
--- A line of numbers in order, and the whole numbers in it.
-pub record Line : Type 1 where
-  pub number : Type 0
-  pub le : number → number → Type 0
-  pub at : ℤ → number
-  pub trans : (a b c : number) → le a b → le b c → le a c
-  pub keeps : (z w : ℤ) → z ≤ℤ w → le (at z) (at w)
-  pub tells : (z w : ℤ) → le (at z) (at w) → z ≤ℤ w
 
 module _ (line : Line) where
   infix 4 _⊑_
@@ -30,34 +22,22 @@ module _ (line : Line) where
   abbrev e : ℤ → line .number
   e z = line .at z
 
-  -- v lies between a and b, ends included.
-  abbrev pub BetweenIn : line .number → ℤ → ℤ → Type 0
-  BetweenIn v a b = ((e a ⊑ v) × (v ⊑ e b)) ⊎ ((e b ⊑ v) × (v ⊑ e a))
-
-  -- The point (u, v) is on the leader: on its hand or on its arm.
-  abbrev pub OnIn : Leader → line .number → line .number → Type 0
-  OnIn l u v = ((u ≡ e (pos (l .x))) × BetweenIn v (l .y) (l .port)) ⊎ ((v ≡ e (l .port)) × (e (pos 0) ⊑ u) × (u ⊑ e (pos (l .x))))
-
-  -- Two leaders share a point of the plane.
-  abbrev pub TouchIn : Leader → Leader → Type 0
-  TouchIn l m = (u : line .number) × (v : line .number) × OnIn l u v × OnIn m u v
-
-  tells-between : (m a b : ℤ) → BetweenIn (e m) a b → Between m a b
+  tells-between : (m a b : ℤ) → BetweenIn line (e m) a b → Between m a b
   tells-between m a b (inl (h, k)) = inl (line .tells a m h, line .tells m b k)
   tells-between m a b (inr (h, k)) = inr (line .tells b m h, line .tells m a k)
 
-  keeps-between : (m a b : ℤ) → Between m a b → BetweenIn (e m) a b
+  keeps-between : (m a b : ℤ) → Between m a b → BetweenIn line (e m) a b
   keeps-between m a b (inl (h, k)) = inl (line .keeps a m h, line .keeps m b k)
   keeps-between m a b (inr (h, k)) = inr (line .keeps b m h, line .keeps m a k)
 
   same : (z w : ℤ) → e z ≡ e w → z ≤ℤ w
   same z w h = line .tells z w (subst (λ (r : line .number). e z ⊑ r) h (line .keeps z z (≤ℤ-refl z)))
 
-  on-whole : (l : Leader) (p : Spot) → On l p → OnIn l (e (pos (p .x))) (e (p .y))
+  on-whole : (l : Leader) (p : Spot) → On l p → OnIn line l (e (pos (p .x))) (e (p .y))
   on-whole l p (inl (h, b)) = inl (rw h refl, keeps-between (p .y) (l .y) (l .port) b)
   on-whole l p (inr (h, b)) = inr (rw h refl, line .keeps (pos 0) (pos (p .x)) (omega whole), line .keeps (pos (p .x)) (pos (l .x)) (omega whole))
 
-  ordered : (l m : Leader) → m .x < l .x → TouchIn l m → Between (l .port) (m .y) (m .port)
+  ordered : (l m : Leader) → m .x < l .x → TouchIn line l m → Between (l .port) (m .y) (m .port)
   ordered l m right (u, v, inl (h, a), inl (k, b)) =
       let c : pos (l .x) ≤ℤ pos (m .x) = same (pos (l .x)) (pos (m .x)) (sym h ∙ k) in
       absurd (omega whole)
@@ -65,16 +45,16 @@ module _ (line : Line) where
       let c : pos (l .x) ≤ℤ pos (m .x) = line .tells (pos (l .x)) (pos (m .x)) (subst (λ (r : line .number). r ⊑ e (pos (m .x))) h d) in
       absurd (omega whole)
   ordered l m right (u, v, inr (h, a, d), inl (k, b)) =
-      tells-between (l .port) (m .y) (m .port) (subst (λ (r : line .number). BetweenIn r (m .y) (m .port)) h b)
+      tells-between (l .port) (m .y) (m .port) (subst (λ (r : line .number). BetweenIn line r (m .y) (m .port)) h b)
   ordered l m right (u, v, inr (h, a, d), inr (k, b, c)) =
       let q : m .port ≡ l .port = antisym (m .port) (l .port) (same (m .port) (l .port) (sym k ∙ h)) (same (l .port) (m .port) (sym h ∙ k)) in
       subst (λ (z : ℤ). Between z (m .y) (m .port)) q (between-end (m .y) (m .port))
 
   -- THEOREM: leaders of pads with different x share a point of the plane exactly if they share a whole point.
-  pub touch-plane : (l m : Leader) → l .x ≢ m .x → TouchIn l m ↔ Touch l m
+  pub touch-plane : (l m : Leader) → l .x ≢ m .x → TouchIn line l m ↔ Touch l m
   touch-plane l m n = (there (decLt (m .x) (l .x)), (λ (p, a, b). (e (pos (p .x)), e (p .y), on-whole l p a, on-whole m p b)))
     where
-      there : Dec (m .x < l .x) → TouchIn l m → Touch l m
+      there : Dec (m .x < l .x) → TouchIn line l m → Touch l m
       there (yes h) t = touch-iff l m h .1 (ordered l m h t)
       there (no h) (u, v, a, b) =
           let k : l .x < m .x = omega arith in

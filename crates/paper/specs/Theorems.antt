@@ -1,0 +1,225 @@
+-- THE THEOREMS, in the order of the demands. Each is a closed statement about every input; nothing is assumed above it. The definitions are the files beside this
+-- one; the proofs are in laws/, for the prover. A call that keeps its promise, and the code is proved to, has all that is said here.
+--     m is the number that C gets, before and after are what the lent list holds at entry and at exit, lw and bw the weights
+use mathlib.Core.Path.{_≡_, refl}
+use mathlib.Core.Logic.{_≢_, _↔_}
+use mathlib.Core.Bool.{false}
+use mathlib.Core.List.{List}
+use Prim.Native.Nat.{ℕ, _+_, _*_, _≤_, _<_}
+use lib.ListN.{length}
+use lib.IntN.{ℤ, pos, negsuc, negℤ}
+use lib.Signed.{_≤ℤ_}
+use lib.Ieee.{Float, binary32, fin, mul, ofInt}
+use Rattle.paper.specs.declared.Refusal.{Refusal}
+use Rattle.paper.specs.declared.Answer.the-variants.{Total, End}
+use Rattle.paper.specs.declared.Two.{Two}
+use Rattle.paper.specs.declared.Three.{Three}
+use Rattle.paper.specs.declared.Drawn.the-variants.{Straight, Bent}
+use Rattle.paper.specs.Job.{count}
+use Rattle.paper.specs.Leaders.{Leader, Between, Touch, lengthOf, bendsOf}
+use Rattle.paper.specs.Plane.{Line, TouchIn}
+use Rattle.paper.specs.Layouts.{Board, boardOf, held, leader, Layout, EachOnce, Untouching, sum, weighted, total, Proper}
+use Rattle.paper.specs.Problem.{Best, FirstBest, NextBest, LastBest, labeling, labelingOf}
+use Rattle.paper.specs.Refusals.{Passed, firstTrials, measureTrials, nextTrials, drawTrials, callsOf, Alone, Named}
+use Rattle.paper.specs.Canvas.{FourTimesIs, DrawnStraight, DrawnBent}
+use Rattle.paper.specs.Promises.{refusalNumber, refusalIn, Kept, coordinates, overwritten, FirstPromise, NextPromise, PagePromise, MeasurePromise, DrawPromise}
+use Rattle.paper.specs.Promises.{OneReply, RefusesBy}
+use Rattle.paper.specs.Runs.{NextRun, Demand3, PageByNext, PagedOn}
+use Rattle.paper.specs.Sheets.{Each, Allowed, sheets, PageAllowed, pages}
+use Rattle.paper.specs.Straightening.{LeastOfAll, CostsNothing, BendsCanCost}
+use Rattle.paper.specs.laws.Regular.{regular}
+use Rattle.paper.specs.laws.Numbers.{numbered}
+use Rattle.paper.specs.laws as by
+
+-- ---- DEMAND 1: every input gets an answer, and bad ones, but no others, are refused by number with the record at fault; then nothing is written
+
+-- Every input to First has exactly one reply; so has every input to Next, to Page, to Measure and to Draw.
+pub first-one-reply : (job : List ℕ) (lw bw : ℕ) (before : List ℕ) → OneReply (FirstPromise job lw bw before)
+first-one-reply job lw bw before = (by.Met.first-met (callsOf job lw bw) (regular job lw bw) before, by.Determined.first-determined (callsOf job lw bw) before)
+
+pub next-one-reply : (job : List ℕ) (lw bw : ℕ) (before : List ℕ) → OneReply (NextPromise job lw bw before)
+next-one-reply job lw bw before = (by.Met.next-met (callsOf job lw bw) (regular job lw bw) before, by.Determined.next-determined (callsOf job lw bw) before)
+
+pub page-one-reply : (job : List ℕ) (lw bw : ℕ) (given before : List ℕ) → OneReply (PagePromise job lw bw given before)
+page-one-reply job lw bw given before =
+    (by.Met.page-met (callsOf job lw bw) (regular job lw bw) given before, by.Determined.page-determined (callsOf job lw bw) given before)
+
+pub measure-one-reply : (job : List ℕ) (lw bw : ℕ) (list : List ℕ)
+    → ((m : ℤ) × MeasurePromise job lw bw list m) × ((m n : ℤ) → MeasurePromise job lw bw list m → MeasurePromise job lw bw list n → m ≡ n)
+measure-one-reply job lw bw list = (by.Met.measure-met (callsOf job lw bw) (regular job lw bw) list, by.Determined.measure-determined (callsOf job lw bw) list)
+
+pub draw-one-reply : (job : List ℕ) (i q : ℕ) (before : List Float) → OneReply (DrawPromise job i q before)
+draw-one-reply job i q before = (by.Met.draw-met job i q before, by.Determined.draw-determined job i q before)
+
+-- First's number is a refusal exactly if one of its trials fails, and then it is that of the first that does, with its records, and the list holds what it held;
+-- so are Next's, Page's, Measure's and Draw's.
+pub first-refuses : (job : List ℕ) (lw bw : ℕ) (before : List ℕ) (m : ℤ) (after : List ℕ) → FirstPromise job lw bw before m after
+    → RefusesBy (firstTrials job lw bw (length before)) m (after ≡ before)
+first-refuses job lw bw before m after = by.Numbers.first-refuses (callsOf job lw bw) (numbered job lw bw) before after m
+
+pub next-refuses : (job : List ℕ) (lw bw : ℕ) (before : List ℕ) (m : ℤ) (after : List ℕ) → NextPromise job lw bw before m after
+    → RefusesBy (nextTrials job lw bw before) m (after ≡ before)
+next-refuses job lw bw before m after = by.Numbers.next-refuses (callsOf job lw bw) (numbered job lw bw) before after m
+
+pub page-refuses : (job : List ℕ) (lw bw : ℕ) (given before : List ℕ) (m : ℤ) (after : List ℕ) → PagePromise job lw bw given before m after
+    → RefusesBy (nextTrials job lw bw given) m (after ≡ before)
+page-refuses job lw bw given before m after = by.Numbers.page-refuses (callsOf job lw bw) (numbered job lw bw) given before after m
+
+pub measure-refuses : (job : List ℕ) (lw bw : ℕ) (list : List ℕ) (m : ℤ) → MeasurePromise job lw bw list m
+    → RefusesBy (measureTrials job lw bw list) m (Unit {0})
+measure-refuses job lw bw = by.Numbers.measure-refuses (callsOf job lw bw) (numbered job lw bw)
+
+pub draw-refuses : (job : List ℕ) (i q : ℕ) (before : List Float) (m : ℤ) (after : List Float) → DrawPromise job i q before m after
+    → RefusesBy (drawTrials job i q (length before)) m (after ≡ before)
+draw-refuses job i q before m after = by.Numbers.draw-refuses job i q before after m
+
+-- ---- both records of 9 (02)
+
+-- Measure's refusal names one record, or by 9 the first touching pair; so does Next's, and so Page's, whose trials are Next's.
+pub measure-names : (job : List ℕ) (lw bw : ℕ) (list : List ℕ) (m : ℤ) → MeasurePromise job lw bw list m → m ≤ℤ negℤ (pos 65536)
+    → Named (boardOf job) (held list) (refusalIn m)
+measure-names job lw bw list m p l = by.Named.measure-named job lw bw list (refusalIn m) (measure-refuses job lw bw list m p .named l .0)
+
+pub next-names : (job : List ℕ) (lw bw : ℕ) (before : List ℕ) (m : ℤ) (after : List ℕ) → NextPromise job lw bw before m after → m ≤ℤ negℤ (pos 65536)
+    → Named (boardOf job) (held before) (refusalIn m)
+next-names job lw bw before m after p l = by.Named.next-named job lw bw before (refusalIn m) (next-refuses job lw bw before m after p .named l .0)
+
+pub page-names : (job : List ℕ) (lw bw : ℕ) (given before : List ℕ) (m : ℤ) (after : List ℕ) → PagePromise job lw bw given before m after → m ≤ℤ negℤ (pos 65536)
+    → Named (boardOf job) (held given) (refusalIn m)
+page-names job lw bw given before m after p l = by.Named.next-named job lw bw given (refusalIn m) (page-refuses job lw bw given before m after p .named l .0)
+
+-- First and Draw name one record; and of a refusal that does, C's number is -(65,536 × r + i).
+pub first-names : (job : List ℕ) (lw bw : ℕ) (before : List ℕ) (m : ℤ) (after : List ℕ) → FirstPromise job lw bw before m after → m ≤ℤ negℤ (pos 65536)
+    → Alone (refusalIn m)
+first-names job lw bw before m after p l = by.Named.first-named job lw bw (length before) (refusalIn m) (first-refuses job lw bw before m after p .named l .0)
+
+pub draw-names : (job : List ℕ) (i q : ℕ) (before : List Float) (m : ℤ) (after : List Float) → DrawPromise job i q before m after → m ≤ℤ negℤ (pos 65536)
+    → Alone (refusalIn m)
+draw-names job i q before m after p l = by.Named.draw-named job i q (length before) (refusalIn m) (draw-refuses job i q before m after p .named l .0)
+
+pub alone-number : (r : Refusal) → Alone r → refusalNumber r ≡ negℤ (pos (65536 * r .reason + r .at))
+alone-number = by.Named.alone-number
+
+-- ---- DEMAND 2: each pad has its own port, no two leaders share a point, and no such sheet has a smaller total; total and drawn points are exact
+
+-- First answers t exactly if the input passes and the list then holds the earliest best layout, t its total, the other entries kept.
+pub first-answers : (job : List ℕ) (lw bw : ℕ) (before : List ℕ) (t : ℕ) (after : List ℕ)
+    → FirstPromise job lw bw before (pos t) after
+    ↔ (Passed (firstTrials job lw bw (length before)) × FirstBest (labelingOf job lw bw) (held after)
+      × (t ≡ total (boardOf job) (weighted (boardOf job) lw bw) (held after)) × Kept (count job) before after)
+first-answers job lw bw before t after = (by.Numbers.total-told (callsOf job lw bw) (numbered job lw bw) before after t, λ a. (Total t, a, refl))
+
+-- Next answers t exactly if it then holds the earliest best layout after the given one, and end (-1) exactly if no best layout comes after it.
+pub next-answers : (job : List ℕ) (lw bw : ℕ) (before : List ℕ) (t : ℕ) (after : List ℕ)
+    → NextPromise job lw bw before (pos t) after
+    ↔ (Passed (nextTrials job lw bw before) × NextBest (labelingOf job lw bw) (held before) (held after)
+      × (t ≡ total (boardOf job) (weighted (boardOf job) lw bw) (held after)) × Kept (count job) before after)
+next-answers job lw bw before t after = (by.Numbers.next-total-told (callsOf job lw bw) (numbered job lw bw) before after t, λ a. (Total t, a, refl))
+
+pub next-ends : (job : List ℕ) (lw bw : ℕ) (before after : List ℕ)
+    → NextPromise job lw bw before (negsuc 0) after
+    ↔ (Passed (nextTrials job lw bw before) × LastBest (labelingOf job lw bw) (held before) × (after ≡ before))
+next-ends job lw bw before after = (by.Numbers.end-told (callsOf job lw bw) (numbered job lw bw) before after, λ a. (End, a, refl))
+
+-- Measure answers t exactly if the list holds an untouching layout, best or not, and t is its total.
+pub measure-answers : (job : List ℕ) (lw bw : ℕ) (list : List ℕ) (t : ℕ)
+    → MeasurePromise job lw bw list (pos t)
+    ↔ (Passed (measureTrials job lw bw list) × (t ≡ total (boardOf job) (weighted (boardOf job) lw bw) (held list)))
+measure-answers job lw bw list t = (by.Numbers.measure-told (callsOf job lw bw) (numbered job lw bw) list t, λ a. (Total t, a, refl))
+
+-- What is passed: 8 and 9 exactly if the list holds an untouching layout; Next's trials exactly if First's are, and the list holds a best one.
+pub measure-passed : (job : List ℕ) (lw bw : ℕ) (list : List ℕ) → Passed (measureTrials job lw bw list)
+    ↔ (Passed (firstTrials job lw bw (length list)) × Untouching (boardOf job) (held list))
+measure-passed job lw bw list = (by.Accepted.measure-accepted job lw bw list, λ (p, u). by.Accepted.untouching-passed job lw bw list p u)
+
+pub next-passed : (job : List ℕ) (lw bw : ℕ) (list : List ℕ) → Passed (nextTrials job lw bw list)
+    ↔ (Passed (firstTrials job lw bw (length list)) × Best (labelingOf job lw bw) (held list))
+next-passed job lw bw = regular job lw bw .next-is
+
+-- In a layout each port number stands exactly once, and where each does, that is a layout (with as many ports as pads, as in every job).
+pub each-port-once : (b : Board) (f : ℕ → ℕ) → b .ports ≡ b .pads → Layout b f ↔ EachOnce b f
+each-port-once = by.Boards.layout-iff
+
+-- Leaders that share any point of the plane share a whole one; and they do exactly as 01's criterion says.
+pub touch-plane : (line : Line) (l m : Leader) → l .x ≢ m .x → TouchIn line l m ↔ Touch l m
+touch-plane = by.Plane.touch-plane
+
+pub touch-criterion : (l m : Leader) → m .x < l .x → Touch l m ↔ Between (l .port) (m .y) (m .port)
+touch-criterion = by.Touching.touch-iff
+
+-- The total is (length weight × sum of lengths) + (bend weight × sum of bends); a leader has no bend exactly if its pad is at its port's height; and a total is at
+-- most 192,000,064,000.
+pub total-is : (b : Board) (lw bw : ℕ) (f : ℕ → ℕ)
+    → total b (weighted b lw bw) f ≡ lw * sum (b .pads) (λ i. lengthOf (leader b i (f i))) + bw * sum (b .pads) (λ i. bendsOf (leader b i (f i)))
+total-is = by.Totals.total-is
+
+pub no-bend : (l : Leader) → (bendsOf l ≡ 0) ↔ (l .y ≡ l .port)
+no-bend = by.Totals.bends-iff
+
+pub total-bound : (job : List ℕ) (lw bw : ℕ) (list : List ℕ) → Passed (measureTrials job lw bw list)
+    → total (boardOf job) (weighted (boardOf job) lw bw) (held list) ≤ 192000064000
+total-bound job lw bw list p = by.Bounds.measure-bounded job lw bw list (Total (total (boardOf job) (weighted (boardOf job) lw bw) (held list))) (p, refl)
+
+-- Draw answers 2 exactly if the first four places then hold the two points of a leader without a bend, and 3 exactly if the six hold the three of one with a bend.
+pub draw-straight : (job : List ℕ) (i q : ℕ) (before after : List Float)
+    → DrawPromise job i q before (pos 2) after
+    ↔ ((d : Two) × (Passed (drawTrials job i q (length before)) × DrawnStraight (leader (boardOf job) i q) d
+      × (after ≡ overwritten (coordinates (Straight d)) before)))
+draw-straight job i q before after = (by.Numbers.straight-told job i q before after, λ (d, a). (Straight d, a, refl))
+
+pub draw-bent : (job : List ℕ) (i q : ℕ) (before after : List Float)
+    → DrawPromise job i q before (pos 3) after
+    ↔ ((d : Three) × (Passed (drawTrials job i q (length before)) × DrawnBent (leader (boardOf job) i q) d
+      × (after ≡ overwritten (coordinates (Bent d)) before)))
+draw-bent job i q before after = (by.Numbers.bent-told job i q before after, λ (d, a). (Bent d, a, refl))
+
+-- Four times a drawn number, in 32-bit floats, is the whole number that it stands for; and no other float stands for it.
+pub four-times : (a : Float) (v : ℤ) → FourTimesIs a v → mul binary32 a (fin false 1 (pos 2)) ≡ ofInt binary32 v
+four-times a v = by.Quarter.four-times-mul {a = a} v
+
+pub drawn-once : (a b : Float) (v : ℤ) → FourTimesIs a v → FourTimesIs b v → a ≡ b
+drawn-once a b v = by.Quarter.four-times-one {a = a} {b = b} v
+
+-- ---- DEMAND 3: the first sheet and then the next until the end gives every best sheet, each exactly once, in order, and no other; the end comes
+
+pub demand-3 : (job : List ℕ) (lw bw : ℕ) (list : List ℕ) → Passed (firstTrials job lw bw (length list)) → Demand3 (callsOf job lw bw) list
+demand-3 job lw bw list = by.Demand.demand-3 (callsOf job lw bw) list (regular job lw bw)
+
+-- Whoever asks on from any list that Next accepts comes to the end.
+pub asking-ends : (job : List ℕ) (lw bw : ℕ) (list : List ℕ) → Passed (nextTrials job lw bw list) → (ls : List (List ℕ)) × NextRun (callsOf job lw bw) list ls
+asking-ends job lw bw = by.Demand.next-ends (callsOf job lw bw) (regular job lw bw)
+
+-- ---- a page by Next (02)
+
+-- What Page replies, refusals too, is what that many calls of Next give, and nothing else is.
+pub page-by-next : (job : List ℕ) (lw bw : ℕ) (given before : List ℕ) (m : ℤ) (after : List ℕ)
+    → PagePromise job lw bw given before m after ↔ PageByNext (callsOf job lw bw) given before m after
+page-by-next job lw bw = by.ByNext.page-by-next (callsOf job lw bw) (regular job lw bw)
+
+-- Who goes on from the last layout of a page loses no layout and meets none twice.
+pub paged-on : (job : List ℕ) (lw bw : ℕ) (given before : List ℕ) (ms : List (List ℕ)) (k : ℕ) (after : List ℕ)
+    → NextRun (callsOf job lw bw) given ms → PagePromise job lw bw given before (pos k) after → PagedOn (callsOf job lw bw) given before ms k after
+paged-on job lw bw = by.ByNext.paged-on (callsOf job lw bw) (regular job lw bw)
+
+-- ---- straightening costs no length (02, No. 5)
+
+-- For bend weight 0 no layout at all, touching or not, has a smaller total than First answers; nor than a best one, on any board with enough ports.
+pub straightening-costs-no-length : (job : List ℕ) (lw : ℕ) → CostsNothing job lw 0
+straightening-costs-no-length = by.Shortest.straightening-costs-no-length
+
+pub best-of-all : (b : Board) → Proper b → (lw : ℕ) (f : ℕ → ℕ) → Best (labeling b (weighted b lw 0)) f
+    → LeastOfAll b (weighted b lw 0) (total b (weighted b lw 0) f)
+best-of-all = by.Shortest.best-of-all
+
+-- With a bend weight it can cost: an example, for every length weight.
+pub bends-can-cost : BendsCanCost
+bends-can-cost = by.Shortest.bends-can-cost
+
+-- ---- the worked sheets
+
+-- P1 to P12, and those of 02 for 12 and for both records of 9, are replies that the promises allow; so are Page's eight.
+pub worked : Each Allowed sheets
+worked = by.Worked.worked
+
+pub worked-pages : Each PageAllowed pages
+worked-pages = by.Worked.worked-pages
