@@ -106,14 +106,14 @@ alone-number = by.Named.alone-number
 pub first-answers : (job : List ℕ) (lw bw : ℕ) (before : List ℕ) (t : ℕ) (after : List ℕ)
     → FirstPromise job lw bw before (pos t) after
     ↔ (Passed (firstTrials job lw bw (length before)) × FirstBest (labelingOf job lw bw) (held after)
-      × (t ≡ total (boardOf job) (weighted (boardOf job) lw bw) (held after)) × Kept (count job) before after)
+    × (t ≡ total (boardOf job) (weighted (boardOf job) lw bw) (held after)) × Kept (count job) before after)
 first-answers job lw bw before t after = (by.Numbers.total-told (callsOf job lw bw) (numbered job lw bw) before after t, λ a. (Total t, a, refl))
 
 -- Next answers t exactly if it then holds the earliest best layout after the given one, and end (-1) exactly if no best layout comes after it.
 pub next-answers : (job : List ℕ) (lw bw : ℕ) (before : List ℕ) (t : ℕ) (after : List ℕ)
     → NextPromise job lw bw before (pos t) after
     ↔ (Passed (nextTrials job lw bw before) × NextBest (labelingOf job lw bw) (held before) (held after)
-      × (t ≡ total (boardOf job) (weighted (boardOf job) lw bw) (held after)) × Kept (count job) before after)
+    × (t ≡ total (boardOf job) (weighted (boardOf job) lw bw) (held after)) × Kept (count job) before after)
 next-answers job lw bw before t after = (by.Numbers.next-total-told (callsOf job lw bw) (numbered job lw bw) before after t, λ a. (Total t, a, refl))
 
 pub next-ends : (job : List ℕ) (lw bw : ℕ) (before after : List ℕ)
@@ -164,13 +164,13 @@ total-bound job lw bw list p = by.Bounds.measure-bounded job lw bw list (Total (
 pub draw-straight : (job : List ℕ) (i q : ℕ) (before after : List Float)
     → DrawPromise job i q before (pos 2) after
     ↔ ((d : Two) × (Passed (drawTrials job i q (length before)) × DrawnStraight (leader (boardOf job) i q) d
-      × (after ≡ overwritten (coordinates (Straight d)) before)))
+    × (after ≡ overwritten (coordinates (Straight d)) before)))
 draw-straight job i q before after = (by.Numbers.straight-told job i q before after, λ (d, a). (Straight d, a, refl))
 
 pub draw-bent : (job : List ℕ) (i q : ℕ) (before after : List Float)
     → DrawPromise job i q before (pos 3) after
     ↔ ((d : Three) × (Passed (drawTrials job i q (length before)) × DrawnBent (leader (boardOf job) i q) d
-      × (after ≡ overwritten (coordinates (Bent d)) before)))
+    × (after ≡ overwritten (coordinates (Bent d)) before)))
 draw-bent job i q before after = (by.Numbers.bent-told job i q before after, λ (d, a). (Bent d, a, refl))
 
 -- Four times a drawn number, in 32-bit floats, is the whole number that it stands for; and no other float stands for it.

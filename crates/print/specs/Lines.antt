@@ -83,7 +83,7 @@ module _ (job list : List ℕ) (a : Answer) (f : FirstAnswers job 1 0 (replicate
   first-passed t e =
       let ((c1, (c2, (c3, c))), b, s, k) : FirstAnswers job 1 0 (replicate 64 0) (Total t) list = rw e at f in
       let l = k .long in
-      (untouching-passed job 0 1 list (c1, (λ i l w. weights w, (λ i h. rw l (c3 i h), c))) (b .best .untouching), lengths-are job list t s)
+      (untouching-passed job 0 1 list (c1, (λ i l w. weights w, (λ i h. rw l (c3 i h), c))) (b .best .counts), lengths-are job list t s)
     where
       weights : ¬ BadWeight 0 1
       weights (inl h) = omega arith
