@@ -1,9 +1,9 @@
 // The calls as Rattle functions that answer an enum. Each keeps the promise of its name in paper's Promises.antt, for every input.
+use checks::Verdict;
 use paper::Answer;
 use paper::Drawn;
 use paper::Paged;
 use paper::Refusal;
-use paper::verdict::Verdict;
 use sheets::Step;
 use walks::Reply;
 ghost use mathlib.Core.Path.{_≡_};

@@ -1,2 +1,4 @@
--- What a sound verdict tells.
+-- The verdict that the code works out; that it is the right one; what a sound verdict tells.
+pub mod Verdicts
+pub mod Judged
 pub mod Sound

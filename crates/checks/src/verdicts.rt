@@ -1,17 +1,16 @@
 // The checks of each call, in order. A verdict goes from check to check, and a refusal stands.
+use crate::Verdict;
 use find::Check;
+use find::Found;
 use paper::Refusal;
-use paper::verdict::Found;
-use paper::verdict::Verdict;
 ghost use mathlib.Core.Path.{_≡_};
 ghost use Prim.Native.Nat.{_≤_};
 ghost use lib.ListN.{length};
 ghost use Rattle.paper.specs.Job.{count};
 ghost use Rattle.paper.specs.Layouts.{boardOf, held};
-ghost use Rattle.paper.specs.laws.Search.{first, firstPair};
-ghost use Rattle.paper.specs.laws.Tests.{touch};
-ghost use Rattle.paper.specs.laws.Verdicts.{outcome, next, run, atWhole, jobFindings, layoutFindings, firstFindings, measureFindings, drawFindings};
-ghost use Rattle.find.specs.Dispatch.{testOf, Ready, Led};
+ghost use Rattle.paper.specs.laws.Tests.{meetAt, atEach, atPairs, atWhole, jobTests, layoutTests, firstTests, measureTests, drawTests};
+ghost use Rattle.find.specs.Dispatch.{testOf, Sized, Led};
+ghost use Rattle.checks.specs.Verdicts.{outcome, andThen, verdictAfter};
 
 // What a check found, as a verdict.
 fn verdict(reason: u16, found: Found) -> Verdict
@@ -29,7 +28,7 @@ fn verdict(reason: u16, found: Found) -> Verdict
 
 // One more check, of the input as a whole.
 fn try_whole(v: Verdict, reason: u16, fault: bool) -> Verdict
-    ensures { λ r. ⌜ r ≡ next v (reason, atWhole fault) ⌝ }
+    ensures { λ r. ⌜ r ≡ andThen v (atWhole reason fault) ⌝ }
 {
     match v {
         Verdict::Sound => {
@@ -45,8 +44,8 @@ fn try_whole(v: Verdict, reason: u16, fault: bool) -> Verdict
 
 // One more check, of the records.
 fn try_records(v: Verdict, reason: u16, c: Check, job: &[u8], list: &[u16]) -> Verdict
-    requires { ⌜ (v ≡ Verdict.Sound → (length (now job) ≤ 1024) × Ready c (now list) (count (now job))) ⌝ }
-    ensures { λ r. ⌜ r ≡ next v (reason, first (testOf c (now (job .entry)) (now (list .entry)) (count (now (job .entry)))) (count (now (job .entry)))) ⌝ }
+    requires { ⌜ (v ≡ Verdict.Sound → (length (now job) ≤ 1024) × Sized c (now list) (count (now job))) ⌝ }
+    ensures { λ r. ⌜ r ≡ andThen v (atEach reason (count (now (job .entry))) (testOf c (now (job .entry)) (now (list .entry)) (count (now (job .entry))))) ⌝ }
 {
     match v {
         Verdict::Sound => verdict(reason, find::first_failing(c, job, list, job::records(job))),
@@ -57,7 +56,7 @@ fn try_records(v: Verdict, reason: u16, c: Check, job: &[u8], list: &[u16]) -> V
 // One more check, of the records two at a time.
 fn try_touching(v: Verdict, job: &[u8], list: &[u16]) -> Verdict
     requires { ⌜ (v ≡ Verdict.Sound → (length (now job) ≤ 1024) × Led (now list) (count (now job))) ⌝ }
-    ensures { λ r. ⌜ r ≡ next v (9, firstPair (touch (boardOf (now (job .entry))) (held (now (list .entry)))) (count (now (job .entry)))) ⌝ }
+    ensures { λ r. ⌜ r ≡ andThen v (atPairs 9 (count (now (job .entry))) (meetAt (boardOf (now (job .entry))) (held (now (list .entry))))) ⌝ }
 {
     match v {
         Verdict::Sound => verdict(9, find::pairs::first_touching(job, list, job::records(job))),
@@ -68,7 +67,7 @@ fn try_touching(v: Verdict, job: &[u8], list: &[u16]) -> Verdict
 // 4 to 7, and 12 directly after 5: the job's records.
 pub fn of_job(v: Verdict, job: &[u8]) -> Verdict
     requires { ⌜ (v ≡ Verdict.Sound → length (now job) ≤ 1024) ⌝ }
-    ensures { λ r. ⌜ r ≡ run v (jobFindings (now (job .entry))) ⌝ }
+    ensures { λ r. ⌜ r ≡ verdictAfter v (jobTests (now (job .entry))) ⌝ }
 {
     // none of these checks reads a list; one slice serves them all
     let entries = [0u16; 1];
@@ -83,7 +82,7 @@ pub fn of_job(v: Verdict, job: &[u8]) -> Verdict
 // 8 and 9: the layout.
 pub fn of_layout(v: Verdict, job: &[u8], list: &[u16]) -> Verdict
     requires { ⌜ (v ≡ Verdict.Sound → (length (now job) ≤ 1024) × (count (now job) ≤ length (now list))) ⌝ }
-    ensures { λ r. ⌜ r ≡ run v (layoutFindings (now (job .entry)) (now (list .entry))) ⌝ }
+    ensures { λ r. ⌜ r ≡ verdictAfter v (layoutTests (boardOf (now (job .entry))) (now (list .entry))) ⌝ }
 {
     let v8 = try_records(v, 8, Check::Entry, job, list);
     try_touching(v8, job, list)
@@ -91,7 +90,7 @@ pub fn of_layout(v: Verdict, job: &[u8], list: &[u16]) -> Verdict
 
 // First, with room for so many entries: 1, 2, 3 and the job's.
 pub fn of_first(job: &[u8], lw: u32, bw: u32, room: usize) -> Verdict
-    ensures { λ r. ⌜ r ≡ run Verdict.Sound (firstFindings (now (job .entry)) lw bw room) ⌝ }
+    ensures { λ r. ⌜ r ≡ verdictAfter Verdict.Sound (firstTests (now (job .entry)) lw bw room) ⌝ }
 {
     let v1 = try_whole(Verdict::Sound, 1, faults::bad_size(job));
     let v2 = try_whole(v1, 2, faults::bad_weight(lw, bw));
@@ -101,7 +100,7 @@ pub fn of_first(job: &[u8], lw: u32, bw: u32, room: usize) -> Verdict
 
 // Measure: First's, 8 and 9.
 pub fn of_measure(job: &[u8], lw: u32, bw: u32, list: &[u16]) -> Verdict
-    ensures { λ r. ⌜ r ≡ run Verdict.Sound (measureFindings (now (job .entry)) lw bw (now (list .entry))) ⌝ }
+    ensures { λ r. ⌜ r ≡ verdictAfter Verdict.Sound (measureTests (now (job .entry)) lw bw (now (list .entry))) ⌝ }
 {
     let v = of_first(job, lw, bw, list.len());
     of_layout(v, job, list)
@@ -109,7 +108,7 @@ pub fn of_measure(job: &[u8], lw: u32, bw: u32, list: &[u16]) -> Verdict
 
 // Draw of record i to port q, with room for so many floats: 1, 3, the job's and 11.
 pub fn of_draw(job: &[u8], i: u32, q: u32, room: usize) -> Verdict
-    ensures { λ r. ⌜ r ≡ run Verdict.Sound (drawFindings (now (job .entry)) i q room) ⌝ }
+    ensures { λ r. ⌜ r ≡ verdictAfter Verdict.Sound (drawTests (now (job .entry)) i q room) ⌝ }
 {
     let v1 = try_whole(Verdict::Sound, 1, faults::bad_size(job));
     let v3 = try_whole(v1, 3, room < 6);

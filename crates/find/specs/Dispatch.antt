@@ -4,8 +4,7 @@ use mathlib.Core.List.{List}
 use mathlib.Core.Bool.{Bool, false}
 use lib.ListN.{length}
 use Rattle.paper.specs.Layouts.{held}
-use Rattle.paper.specs.laws.Search.{earlier}
-use Rattle.paper.specs.laws.Tests.{badField, notAbove, tooClose, sameName, sameX, sameEntry, badEntry}
+use Rattle.paper.specs.laws.Tests.{withEarlier, badField, notAbove, tooClose, sameName, sameX, sameEntry, badEntry}
 use Rattle.find.specs.declared.Check.{Check}
 use Rattle.find.specs.declared.Check.the-variants.{Field, Rise, Name, Place, Entry, Space}
 
@@ -22,19 +21,19 @@ pairOf Space job list = λ i j. false
 unfoldable pub testOf : Check → List ℕ → List ℕ → ℕ → ℕ → Bool
 testOf Field job list n = badField job
 testOf Rise job list n = notAbove job
-testOf Name job list n = earlier (sameName job)
-testOf Place job list n = earlier (sameX job)
+testOf Name job list n = withEarlier (sameName job)
+testOf Place job list n = withEarlier (sameX job)
 testOf Entry job list n = badEntry n list
 testOf Space job list n = tooClose job
 
 -- what a check may take for granted of the layout: nothing, or its length
-abbrev pub Ready : Check → List ℕ → ℕ → Type 0
-Ready Field list n = Unit {0}
-Ready Rise list n = Unit {0}
-Ready Name list n = Unit {0}
-Ready Place list n = Unit {0}
-Ready Entry list n = n ≤ length list
-Ready Space list n = Unit {0}
+abbrev pub Sized : Check → List ℕ → ℕ → Type 0
+Sized Field list n = Unit {0}
+Sized Rise list n = Unit {0}
+Sized Name list n = Unit {0}
+Sized Place list n = Unit {0}
+Sized Entry list n = n ≤ length list
+Sized Space list n = Unit {0}
 
 -- what the search for a touching pair takes for granted of the layout: its length, and that its entries are port numbers
 abbrev pub Led : List ℕ → ℕ → Type 0

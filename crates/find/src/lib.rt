@@ -1,12 +1,18 @@
 // The first record that fails a check: one loop for all checks that name one record, and one below it for those on two.
 pub mod pairs;
 
-use paper::verdict::Found;
 ghost use mathlib.Core.Path.{_≡_};
 ghost use Prim.Native.Nat.{_<_};
 ghost use Rattle.paper.specs.Job.{count};
-ghost use Rattle.paper.specs.laws.Search.{first, some};
-ghost use Rattle.find.specs.Dispatch.{pairOf, testOf, Ready};
+ghost use Rattle.paper.specs.laws.Tests.{somewhere};
+ghost use Rattle.find.specs.Search.{firstWhere};
+ghost use Rattle.find.specs.Dispatch.{pairOf, testOf, Sized};
+
+// What a search for a record finds: the record, and the earlier one found with it (0 where none is looked for).
+pub enum Found {
+    At(u16, u16),
+    Nowhere,
+}
 
 // The checks that look for one record. What each stands for is in specs/Dispatch.antt.
 pub enum Check {
@@ -20,7 +26,7 @@ pub enum Check {
 
 // Whether a check on two records fails at i and j.
 fn clash(c: Check, job: &[u8], list: &[u16], n: u16, i: u16, j: u16) -> bool
-    requires { ⌜ (n ≡ count (now job)) × (i < n) × (j < n) × Ready c (now list) n ⌝ }
+    requires { ⌜ (n ≡ count (now job)) × (i < n) × (j < n) × Sized c (now list) n ⌝ }
     ensures { λ r. ⌜ r ≡ pairOf c (now (job .entry)) (now (list .entry)) i j ⌝ }
 {
     match c {
@@ -35,8 +41,8 @@ fn clash(c: Check, job: &[u8], list: &[u16], n: u16, i: u16, j: u16) -> bool
 
 // Whether it fails at i and an earlier record.
 fn clashes(c: Check, job: &[u8], list: &[u16], n: u16, i: u16) -> bool
-    requires { ⌜ (n ≡ count (now job)) × (i < n) × Ready c (now list) n ⌝ }
-    ensures { λ r. ⌜ r ≡ some (pairOf c (now (job .entry)) (now (list .entry)) i) i ⌝ }
+    requires { ⌜ (n ≡ count (now job)) × (i < n) × Sized c (now list) n ⌝ }
+    ensures { λ r. ⌜ r ≡ somewhere (pairOf c (now (job .entry)) (now (list .entry)) i) i ⌝ }
 {
     let mut j = 0;
     while j < i {
@@ -50,7 +56,7 @@ fn clashes(c: Check, job: &[u8], list: &[u16], n: u16, i: u16) -> bool
 
 // Whether a check fails at i.
 fn fails(c: Check, job: &[u8], list: &[u16], n: u16, i: u16) -> bool
-    requires { ⌜ (n ≡ count (now job)) × (i < n) × Ready c (now list) n ⌝ }
+    requires { ⌜ (n ≡ count (now job)) × (i < n) × Sized c (now list) n ⌝ }
     ensures { λ r. ⌜ r ≡ testOf c (now (job .entry)) (now (list .entry)) n i ⌝ }
 {
     match c {
@@ -65,8 +71,8 @@ fn fails(c: Check, job: &[u8], list: &[u16], n: u16, i: u16) -> bool
 
 // The first of the n records that fails a check.
 pub fn first_failing(c: Check, job: &[u8], list: &[u16], n: u16) -> Found
-    requires { ⌜ (n ≡ count (now job)) × Ready c (now list) n ⌝ }
-    ensures { λ r. ⌜ r ≡ first (testOf c (now (job .entry)) (now (list .entry)) n) n ⌝ }
+    requires { ⌜ (n ≡ count (now job)) × Sized c (now list) n ⌝ }
+    ensures { λ r. ⌜ r ≡ firstWhere (testOf c (now (job .entry)) (now (list .entry)) n) n ⌝ }
 {
     let mut i = 0;
     while i < n {

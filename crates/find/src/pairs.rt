@@ -1,15 +1,15 @@
 // The first touching pair: the smallest record that touches an earlier one, and with it the smallest such earlier record.
-use paper::verdict::Found;
+use crate::Found;
 ghost use mathlib.Core.Path.{_≡_};
 ghost use Rattle.paper.specs.Job.{count};
 ghost use Rattle.paper.specs.Layouts.{boardOf, held};
-ghost use Rattle.paper.specs.laws.Search.{firstPair};
-ghost use Rattle.paper.specs.laws.Tests.{touch};
+ghost use Rattle.paper.specs.laws.Tests.{meetAt};
+ghost use Rattle.find.specs.Search.{firstPairWhere};
 ghost use Rattle.find.specs.Dispatch.{Led};
 
 pub fn first_touching(job: &[u8], list: &[u16], n: u16) -> Found
     requires { ⌜ (n ≡ count (now job)) × Led (now list) n ⌝ }
-    ensures { λ r. ⌜ r ≡ firstPair (touch (boardOf (now (job .entry))) (held (now (list .entry)))) n ⌝ }
+    ensures { λ r. ⌜ r ≡ firstPairWhere (meetAt (boardOf (now (job .entry))) (held (now (list .entry)))) n ⌝ }
 {
     let mut found = Found::Nowhere;
     let mut i: u16 = 0;

@@ -1,8 +1,6 @@
 -- What follows from the definitions; no definition of the paper is here.
--- The code's tests and verdicts:
-pub mod Search
+-- The tests of the faults:
 pub mod Tests
-pub mod Verdicts
 -- Touching, totals, layouts and their order:
 pub mod Touching
 pub mod Plane
@@ -11,7 +9,6 @@ pub mod Boards
 pub mod Order
 -- The refusals:
 pub mod Trials
-pub mod Judged
 pub mod Decided
 pub mod Accepted
 pub mod Named

@@ -1,5 +1,4 @@
 // The types of the calls' answers. What they mean is in specs/: start at docs/READING.md.
-pub mod verdict;
 
 // Why a call refuses, by number, and the record at fault. In refusal 9 `earlier` is the smallest earlier record that it touches; in every other it is 0.
 pub struct Refusal {

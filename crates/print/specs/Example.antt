@@ -5,7 +5,6 @@ use Prim.Native.Nat.{ℕ, zero, suc, _≤_}
 use native.Mathlib.Omega.{arith}
 use lib.ListN.{replicate, getD}
 use Rattle.paper.specs.declared.Answer.the-variants.{Total}
-use Rattle.paper.specs.declared.verdict.Verdict.the-variants.{Sound}
 use Rattle.paper.specs.Job.{twos, nameOf, reservedOf, xOf, yOf, portOf}
 use Rattle.paper.specs.Leaders.{lengthOf, bendsOf}
 use Rattle.paper.specs.Layouts.{boardOf, held, weighted, sum}
@@ -14,11 +13,8 @@ use Rattle.paper.specs.Refusals.{Passed, firstTrials}
 use Rattle.paper.specs.Promises.{Kept}
 use Rattle.paper.specs.laws.Totals.{totalOf}
 use Rattle.paper.specs.Sheets.{J5}
-use Rattle.paper.specs.laws.Search.{first, some}
-use Rattle.paper.specs.laws.Tests.{outside, between, touching}
-use Rattle.paper.specs.laws.Verdicts.{run, jobFindings, firstFindings}
-use Rattle.paper.specs.laws.Trials.{judged-sound}
-use Rattle.paper.specs.laws.Judged.{first-judged}
+use Rattle.paper.specs.laws.Tests.{somewhere, outside, between, meet, jobTests, firstTests}
+use Rattle.paper.specs.laws.Decided.{passes-told, first-told}
 use Rattle.paper.specs.laws.Accepted.{first-accepted}
 use Rattle.paper.specs.laws.Trying.{firstTest, bestTest, first-iff, labeling-searchable, heads, words, any, someWord, leastTest}
 use Rattle.paper.specs.laws.Trying.{misled, untouchingTest, differRight, decidedAt, beforeTest, cheaper}
@@ -30,11 +26,11 @@ abbrev list : List ℕ
 list = 1 ∷ 2 ∷ 0 ∷ replicate 61 0
 
 passed : Passed (firstTrials J5 1 0 64)
-unfolding first some outside jobFindings firstFindings twos nameOf reservedOf xOf yOf portOf
-passed = judged-sound (run Sound (firstFindings J5 1 0 64)) (firstTrials J5 1 0 64) (first-judged J5 1 0 64) refl
+unfolding somewhere outside jobTests firstTests twos nameOf reservedOf xOf yOf portOf
+passed = passes-told (firstTests J5 1 0 64) (firstTrials J5 1 0 64) (first-told J5 1 0 64) tt
 
 earliest : FirstBest (labelingOf J5 1 0) (held list)
-unfolding firstTest bestTest heads words any someWord leastTest misled untouchingTest differRight decidedAt beforeTest cheaper first some between touching
+unfolding firstTest bestTest heads words any someWord leastTest misled untouchingTest differRight decidedAt beforeTest cheaper somewhere between meet
     twos xOf yOf portOf lengthOf bendsOf sum weighted
 earliest = first-iff (labelingOf J5 1 0) (labeling-searchable (boardOf J5) (weighted (boardOf J5) 1 0) (first-accepted J5 1 0 64 passed .0 .proper .differ)) (held list) .0 tt
 

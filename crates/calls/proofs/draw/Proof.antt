@@ -6,8 +6,7 @@ use lib.ListN.{length}
 use borrow.Author.Needs.{needs}
 use Rattle.paper.specs.Layouts.{boardOf, leader}
 use Rattle.paper.specs.Refusals.{drawTrials}
-use Rattle.paper.specs.laws.Trials.{Judged, judged-sound, judged-refused}
-use Rattle.paper.specs.laws.Judged.{draw-judged}
+use Rattle.checks.specs.Judged.{Judged, judged-sound, judged-refused, draw-judged}
 use Rattle.paper.specs.laws.Drawn.{Draws, drawn-is, coordinates-few, passed-on-sheet, draw-answers}
 use Rattle.paper.specs.laws.Accepted.{draw-accepted}
 use Rattle.calls.proofs.draw.Statement.{statement}

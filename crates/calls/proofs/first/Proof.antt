@@ -4,8 +4,7 @@ use denote.Ref.{now}
 use borrow.Author.Needs.{needs}
 use lib.ListN.{length}
 use Rattle.paper.specs.Refusals.{firstTrials}
-use Rattle.paper.specs.laws.Trials.{Judged, judged-sound, judged-refused}
-use Rattle.paper.specs.laws.Judged.{first-judged}
+use Rattle.checks.specs.Judged.{Judged, judged-sound, judged-refused, first-judged}
 use Rattle.calls.proofs.Facts.{first-answers}
 use Rattle.paper.specs.laws.Accepted.{first-accepted}
 use Rattle.calls.proofs.first.Statement.{statement}

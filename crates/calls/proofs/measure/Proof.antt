@@ -2,8 +2,7 @@
 use denote.Ref.{now}
 use borrow.Author.Needs.{needs}
 use Rattle.paper.specs.Refusals.{measureTrials}
-use Rattle.paper.specs.laws.Trials.{Judged, judged-sound, judged-refused}
-use Rattle.paper.specs.laws.Judged.{measure-judged}
+use Rattle.checks.specs.Judged.{Judged, judged-sound, judged-refused, measure-judged}
 use Rattle.calls.proofs.measure.Statement.{statement}
 use Rattle.calls.proofs.measure.Tie as tie
 

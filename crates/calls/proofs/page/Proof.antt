@@ -3,8 +3,7 @@ use mathlib.Core.Path.{refl}
 use denote.Ref.{now}
 use borrow.Author.Needs.{needs}
 use Rattle.paper.specs.Refusals.{measureTrials}
-use Rattle.paper.specs.laws.Trials.{Judged, judged-sound, judged-refused}
-use Rattle.paper.specs.laws.Judged.{measure-judged}
+use Rattle.checks.specs.Judged.{Judged, judged-sound, judged-refused, measure-judged}
 use Rattle.paper.specs.laws.Accepted.{measure-refused}
 use Rattle.calls.proofs.page.Statement.{statement}
 use Rattle.calls.proofs.page.Tie as tie

@@ -3,13 +3,14 @@ use Prim.Native.Nat.{_≤_, _-_}
 use mathlib.Core.Bool.{false}
 use mathlib.Core.Path.{_≡_, sym, _∙_}
 use borrow.Author.Needs.{needs}
-use Rattle.paper.specs.laws.Search.{some, not-some, not-some-more, not-some-end, some-here}
+use Rattle.paper.specs.laws.Tests.{somewhere}
+use Rattle.find.specs.Search.{not-some, not-some-more, not-some-end, some-here}
 use Rattle.find.specs.Dispatch.{pairOf}
 use Rattle.find.proofs.clashes.Statement.{statement}
 use Rattle.find.proofs.clashes.Tie as tie
 
 abbrev Inv-loop : tie.InvT-loop
-Inv-loop c job list n i j₀ j = (j ≤ i) × (some (pairOf c job list i) j ≡ false)
+Inv-loop c job list n i j₀ j = (j ≤ i) × (somewhere (pairOf c job list i) j ≡ false)
 
 abbrev μ-loop : tie.MeasureT-loop
 μ-loop c job list n i j₀ j = i - j

@@ -2,14 +2,14 @@
 use Prim.Native.Nat.{_≤_, _-_}
 use mathlib.Core.Path.{_≡_, sym, _∙_}
 use borrow.Author.Needs.{needs}
-use Rattle.paper.specs.declared.verdict.Found.the-variants.{Nowhere}
-use Rattle.paper.specs.laws.Search.{first, none-below, none-more, none-end, found-here}
+use Rattle.find.specs.declared.Found.the-variants.{Nowhere}
+use Rattle.find.specs.Search.{firstWhere, none-below, none-more, none-end, found-here}
 use Rattle.find.specs.Dispatch.{testOf}
 use Rattle.find.proofs.first_failing.Statement.{statement}
 use Rattle.find.proofs.first_failing.Tie as tie
 
 abbrev Inv-loop : tie.InvT-loop
-Inv-loop c job list n i₀ i = (i ≤ n) × (first (testOf c job list n) i ≡ Nowhere)
+Inv-loop c job list n i₀ i = (i ≤ n) × (firstWhere (testOf c job list n) i ≡ Nowhere)
 
 abbrev μ-loop : tie.MeasureT-loop
 μ-loop c job list n i₀ i = n - i

@@ -18,7 +18,7 @@ use Rattle.paper.specs.Refusals.{BadSize, BadEntry, Passed, RefusedBy, r
 use Rattle.paper.specs.Refusals.{jobTrials, firstTrials, measureTrials, nextTrials, drawTrials, layoutTrials, bestTrial, numberTrial}
 use Rattle.paper.specs.Layouts.{Differ, Rising, Proper}
 use Rattle.paper.specs.laws.Trials.{alone, passed-append, append-passed, refused-left, refused-right}
-use Rattle.paper.specs.laws.Judged.{passed-differ}
+use Rattle.paper.specs.laws.Decided.{passed-differ}
 use Rattle.paper.specs.laws.Totals.{total-bound}
 
 not-lt : {a b : ℕ} → ¬ (a < b) → b ≤ a

@@ -17,12 +17,10 @@ use Rattle.paper.specs.Layouts.{Board, boardOf, held, Touching, EachOnce
 use Rattle.paper.specs.Problem.{Best, labeling}
 use Rattle.paper.specs.Refusals.{Passed, firstTrials, callsOf}
 use Rattle.paper.specs.Straightening.{LeastOfAll, CostsNothing, levelPad, BendsCanCost}
-use Rattle.paper.specs.laws.Search.{first, some}
-use Rattle.paper.specs.laws.Tests.{outside}
-use Rattle.paper.specs.laws.Verdicts.{firstFindings, jobFindings}
+use Rattle.paper.specs.laws.Tests.{somewhere, outside, jobTests, firstTests}
 use Rattle.paper.specs.laws.Totals.{total-is}
 use Rattle.paper.specs.laws.Boards.{layout-iff, layout-same, untouching-same, total-same}
-use Rattle.paper.specs.laws.Judged.{first-judged}
+use Rattle.paper.specs.laws.Decided.{passes-told, first-told}
 use Rattle.paper.specs.laws.Existence.{straight-total}
 use Rattle.paper.specs.laws.Accepted.{first-accepted}
 use Rattle.paper.specs.laws.Numbers.{total-told, numbered}
@@ -93,8 +91,8 @@ only-uncrossed f u = go (ℕ-discrete (f 0) 0) (u .layout .inside 0 (omega arith
 
 -- The job is accepted, whatever the weights.
 sound : Passed (firstTrials levelPad 0 0 2)
-unfolding first some outside jobFindings firstFindings twos nameOf reservedOf xOf yOf portOf
-sound = first-judged levelPad 0 0 2
+unfolding somewhere outside jobTests firstTests twos nameOf reservedOf xOf yOf portOf
+sound = passes-told (firstTests levelPad 0 0 2) (firstTrials levelPad 0 0 2) (first-told levelPad 0 0 2) tt
 
 -- THEOREM. With a bend weight untouching leaders can cost more, whatever the length weight is.
 pub bends-can-cost : BendsCanCost

@@ -14,11 +14,9 @@ use Rattle.numbers.specs.Tests.{either, dec-iff, and-iff, or-iff, not-iff, leb-
 use Rattle.paper.specs.Layouts.{Board, held, leader, Touching, Untouching, Differ, Same}
 use Rattle.paper.specs.Problem.{Problem, Best, Before, FirstBest, NextBest, LastBest, labeling}
 use Rattle.paper.specs.Refusals.{Earlier}
-use Rattle.paper.specs.laws.Search.{some, earlier}
-use Rattle.paper.specs.laws.Tests.{touch}
+use Rattle.paper.specs.laws.Tests.{somewhere, withEarlier, somewhere-iff, with-earlier-iff, meetAt}
 use Rattle.paper.specs.laws.Boards.{untouching-of, untouching-same, total-same}
-use Rattle.paper.specs.laws.Trials.{some-iff, earlier-iff}
-use Rattle.paper.specs.laws.Touching.{touching-iff}
+use Rattle.paper.specs.laws.Touching.{meet-iff}
 use Rattle.paper.specs.laws.Order.{Steady, before-same, best-same}
 
 -- ---- all assignments
@@ -146,11 +144,11 @@ module _ (b : Board) {less : (ℕ → ℕ) → (ℕ → ℕ) → Bool} {Less : (
 
 -- Pad i's port is none of the board's, or its leader touches that of an earlier pad. (On one port two leaders touch: no pad's port is another's.)
 unfoldable pub misled : Board → (ℕ → ℕ) → ℕ → Bool
-misled b f i = leb (b .ports) (f i) || earlier (touch b f) i
+misled b f i = leb (b .ports) (f i) || withEarlier (meetAt b f) i
 
 -- No pad is misled.
 unfoldable pub untouchingTest : Board → (ℕ → ℕ) → Bool
-untouchingTest b f = not (some (misled b f) (b .pads))
+untouchingTest b f = not (somewhere (misled b f) (b .pads))
 
 module _ (b : Board) (differ : Differ b) where
   -- THEOREM. The test tells whether a layout is untouching.
@@ -161,10 +159,10 @@ module _ (b : Board) (differ : Differ b) where
       Misled : ℕ → Type 0
       Misled i = (b .ports ≤ f i) ⊎ Earlier (Touching b f) i
 
-      parts : T (not (some (misled b f) (b .pads))) ↔ (¬ ((i : ℕ) × (i < b .pads) × Misled i))
-      parts = not-iff (some (misled b f) (b .pads)) (some-iff (misled b f) Misled (b .pads) (λ i l.
-          or-iff (leb (b .ports) (f i)) (earlier (touch b f) i) (leb-iff (b .ports) (f i))
-          (earlier-iff (touch b f) (Touching b f) i (λ j k. touching-iff (leader b i (f i)) (leader b j (f j)) (differ i j k l)))))
+      parts : T (not (somewhere (misled b f) (b .pads))) ↔ (¬ ((i : ℕ) × (i < b .pads) × Misled i))
+      parts = not-iff (somewhere (misled b f) (b .pads)) (somewhere-iff (misled b f) Misled (b .pads) (λ i l.
+          or-iff (leb (b .ports) (f i)) (withEarlier (meetAt b f) i) (leb-iff (b .ports) (f i))
+          (with-earlier-iff (meetAt b f) (Touching b f) i (λ j k. meet-iff (leader b i (f i)) (leader b j (f j)) (differ i j k l)))))
 
       there : ¬ ((i : ℕ) × (i < b .pads) × Misled i) → Untouching b f
       there n =
@@ -179,10 +177,10 @@ unfoldable pub differRight : Board → (ℕ → ℕ) → (ℕ → ℕ) → ℕ �
 differRight b f g i j = ltb (b .x i) (b .x j) && not (eqb (f j) (g j))
 
 unfoldable pub decidedAt : Board → (ℕ → ℕ) → (ℕ → ℕ) → ℕ → Bool
-decidedAt b f g i = ltb (f i) (g i) && not (some (differRight b f g i) (b .pads))
+decidedAt b f g i = ltb (f i) (g i) && not (somewhere (differRight b f g i) (b .pads))
 
 unfoldable pub beforeTest : Board → (ℕ → ℕ) → (ℕ → ℕ) → Bool
-beforeTest b f g = some (decidedAt b f g) (b .pads)
+beforeTest b f g = somewhere (decidedAt b f g) (b .pads)
 
 -- THEOREM. The test tells whether f comes before g.
 pub before-iff : (b : Board) (f g : ℕ → ℕ) → T (beforeTest b f g) ↔ Before b f g
@@ -195,10 +193,10 @@ before-iff b f g = ((λ e. there (parts .0 e)), (λ h. parts .1 (h .pad, h .insi
     Decided-at : ℕ → Type 0
     Decided-at i = (f i < g i) × ¬ ((j : ℕ) × (j < b .pads) × Differ-right i j)
 
-    parts : T (some (decidedAt b f g) (b .pads)) ↔ ((i : ℕ) × (i < b .pads) × Decided-at i)
-    parts = some-iff (decidedAt b f g) Decided-at (b .pads) (λ i l.
-        and-iff (ltb (f i) (g i)) (not (some (differRight b f g i) (b .pads))) (ltb-iff (f i) (g i))
-        (not-iff (some (differRight b f g i) (b .pads)) (some-iff (differRight b f g i) (Differ-right i) (b .pads) (λ j k.
+    parts : T (somewhere (decidedAt b f g) (b .pads)) ↔ ((i : ℕ) × (i < b .pads) × Decided-at i)
+    parts = somewhere-iff (decidedAt b f g) Decided-at (b .pads) (λ i l.
+        and-iff (ltb (f i) (g i)) (not (somewhere (differRight b f g i) (b .pads))) (ltb-iff (f i) (g i))
+        (not-iff (somewhere (differRight b f g i) (b .pads)) (somewhere-iff (differRight b f g i) (Differ-right i) (b .pads) (λ j k.
         and-iff (ltb (b .x i) (b .x j)) (not (eqb (f j) (g j))) (ltb-iff (b .x i) (b .x j)) (not-iff (eqb (f j) (g j)) (eqb-iff (f j) (g j)))))))
 
     there : (i : ℕ) × (i < b .pads) × Decided-at i → Before b f g

@@ -1,6 +1,7 @@
 -- THE WORKED SHEETS, P1 to P12 and those for 12 and 9, by one theorem over one list, and Page's by another: a test that the checker computes for each sheet,
 -- and a lemma that turns the test into the call's promise. Assumes nothing.
-use mathlib.Core.Path.{_≡_, refl, sym, ap, _∙_, subst}
+use mathlib.Core.Path.{_≡_, refl, sym, ap, _∙_}
+use mathlib.Core.Logic.{_↔_}
 use mathlib.Core.Bool.{Bool, true, false, not, _&&_, _||_}
 use mathlib.Core.List.{List, [], _∷_, _++_}
 use Prim.Native.Nat.{ℕ, zero, suc, _+_, _*_, _-_, _≤_}
@@ -8,43 +9,28 @@ use native.Mathlib.Omega.{arith}
 use lib.Dec.{T, eqb, eqb→eq, leb, leb→le, ltb}
 use lib.ListN.{length, getD, drop}
 use lib.Seq.{getD-drop}
-use Rattle.numbers.specs.Tests.{both, or-iff, ltb-iff}
-use Rattle.paper.specs.declared.Refusal.{Refusal}
-use Rattle.paper.specs.declared.verdict.Verdict.{Verdict}
-use Rattle.paper.specs.declared.verdict.Verdict.the-variants.{Sound, Refused as Stopped}
+use Rattle.numbers.specs.Tests.{both, or-iff, not-iff, ltb-iff}
 use Rattle.paper.specs.declared.Answer.{Answer}
 use Rattle.paper.specs.declared.Answer.the-variants.{Total, End, Refused}
 use Rattle.paper.specs.declared.Paged.{Paged}
 use Rattle.paper.specs.declared.Paged.the-variants.{Wrote, Refused as NotPaged}
 use Rattle.paper.specs.Job.{count, twos, nameOf, reservedOf, xOf, yOf, portOf}
-use Rattle.paper.specs.Layouts.{Board, boardOf, held, weighted, sum, Differ}
+use Rattle.paper.specs.Layouts.{Board, boardOf, held, weighted, Untouching, sum, Differ}
 use Rattle.paper.specs.Problem.{Problem, Best, labelingOf}
-use Rattle.paper.specs.Refusals.{Trial, Passed, firstTrials, measureTrials, nextTrials}
+use Rattle.paper.specs.Refusals.{Passed, firstTrials, measureTrials, nextTrials}
 use Rattle.paper.specs.Promises.{Kept, inTurn, Following, FirstAnswers, NextAnswers, PageAnswers, MeasureAnswers}
 use Rattle.paper.specs.laws.Totals.{totalOf}
 use Rattle.paper.specs.Sheets.{sheets, Each, Call, First, Next, Measure, Sheet, AllowedBy, Allowed, pages, PageSheet, PageAllowed}
-use Rattle.paper.specs.laws.Search.{first, some, firstPair}
-use Rattle.paper.specs.laws.Tests.{outside, between, touching}
+use Rattle.paper.specs.laws.Tests.{Test, atWhole, somewhere, outside, between, meet, jobTests, layoutTests, firstTests, measureTests}
 use Rattle.paper.specs.Leaders.{lengthOf, bendsOf}
-use Rattle.paper.specs.laws.Verdicts.{Finding, run, run-append, atWhole, firstFindings, measureFindings, jobFindings, layoutFindings}
 use Rattle.paper.specs.laws.Order.{below-suc}
-use Rattle.paper.specs.laws.Trials.{Judged}
-use Rattle.paper.specs.laws.Judged.{first-judged, measure-judged}
-use Rattle.paper.specs.laws.Accepted.{first-accepted, measure-facts, measure-refused, best-passed, not-best-refused, next-differ}
+use Rattle.paper.specs.laws.Decided.{Told, told-append, tells-whole, passes, refuses, passes-told, refuses-told, first-told, measure-told}
+use Rattle.paper.specs.laws.Accepted.{first-accepted, measure-accepted, measure-facts, next-differ}
 use Rattle.paper.specs.laws.Pages.{Follow}
 use Rattle.paper.specs.laws.Trying.{bestTest, firstTest, nextTest, lastTest, best-iff, first-iff, next-iff, last-iff, Searchable, labeling-searchable}
 use Rattle.paper.specs.laws.Trying.{heads, words, any, someWord, leastTest, misled, untouchingTest, differRight, decidedAt, beforeTest, cheaper, laterTest}
 
 -- ---- the tests
-
-abbrev sameRefusal : Refusal → Refusal → Bool
-sameRefusal r s = eqb (r .reason) (s .reason) && (eqb (r .at) (s .at) && eqb (r .earlier) (s .earlier))
-
-abbrev sameVerdict : Verdict → Verdict → Bool
-sameVerdict Sound Sound = true
-sameVerdict Sound (Stopped s) = false
-sameVerdict (Stopped r) Sound = false
-sameVerdict (Stopped r) (Stopped s) = sameRefusal r s
 
 abbrev sameList : List ℕ → List ℕ → Bool
 sameList [] [] = true
@@ -57,28 +43,28 @@ abbrev sameRest : ℕ → List ℕ → List ℕ → Bool
 sameRest n l m = eqb (length m) (length l) && sameList (drop n m) (drop n l)
 
 -- 10 is tried by trying every assignment
-nextFindings : List ℕ → ℕ → ℕ → List ℕ → List Finding
-nextFindings job lw bw list = measureFindings job lw bw list ++ ((10, atWhole (not (bestTest (labelingOf job lw bw) (untouchingTest (boardOf job)) (held list)))) ∷ [])
+nextTests : List ℕ → ℕ → ℕ → List ℕ → List Test
+nextTests job lw bw list = measureTests job lw bw list ++ (atWhole 10 (not (bestTest (labelingOf job lw bw) (untouchingTest (boardOf job)) (held list))) ∷ [])
 
 abbrev firstHolds : List ℕ → ℕ → ℕ → List ℕ → Answer → List ℕ → Bool
 firstHolds job lw bw l (Total t) m =
-    sameVerdict (run Sound (firstFindings job lw bw (length l))) Sound
+    passes (firstTests job lw bw (length l))
     && (firstTest (labelingOf job lw bw) (untouchingTest (boardOf job)) (held m) && (eqb t (totalOf job lw bw m) && sameRest (count job) l m))
 firstHolds job lw bw l End m = false
-firstHolds job lw bw l (Refused r) m = sameVerdict (run Sound (firstFindings job lw bw (length l))) (Stopped r) && sameList m l
+firstHolds job lw bw l (Refused r) m = refuses (firstTests job lw bw (length l)) r && sameList m l
 
 abbrev nextHolds : List ℕ → ℕ → ℕ → List ℕ → Answer → List ℕ → Bool
 nextHolds job lw bw l (Total t) m =
-    sameVerdict (run Sound (nextFindings job lw bw l)) Sound
+    passes (nextTests job lw bw l)
     && (nextTest (labelingOf job lw bw) (untouchingTest (boardOf job)) (held l) (held m) && (eqb t (totalOf job lw bw m) && sameRest (count job) l m))
 nextHolds job lw bw l End m =
-    sameVerdict (run Sound (nextFindings job lw bw l)) Sound && (lastTest (labelingOf job lw bw) (untouchingTest (boardOf job)) (held l) && sameList m l)
-nextHolds job lw bw l (Refused r) m = sameVerdict (run Sound (nextFindings job lw bw l)) (Stopped r) && sameList m l
+    passes (nextTests job lw bw l) && (lastTest (labelingOf job lw bw) (untouchingTest (boardOf job)) (held l) && sameList m l)
+nextHolds job lw bw l (Refused r) m = refuses (nextTests job lw bw l) r && sameList m l
 
 abbrev measureHolds : List ℕ → ℕ → ℕ → List ℕ → Answer → Bool
-measureHolds job lw bw l (Total t) = sameVerdict (run Sound (measureFindings job lw bw l)) Sound && eqb t (totalOf job lw bw l)
+measureHolds job lw bw l (Total t) = passes (measureTests job lw bw l) && eqb t (totalOf job lw bw l)
 measureHolds job lw bw l End = false
-measureHolds job lw bw l (Refused r) = sameVerdict (run Sound (measureFindings job lw bw l)) (Stopped r)
+measureHolds job lw bw l (Refused r) = refuses (measureTests job lw bw l) r
 
 -- k layouts that follow f 0
 abbrev followTest : Problem → ((ℕ → ℕ) → Bool) → (ℕ → ℕ → ℕ) → ℕ → Bool
@@ -93,8 +79,8 @@ pageTest p counts given l k m =
 
 abbrev pageHolds : List ℕ → ℕ → ℕ → List ℕ → List ℕ → Paged → List ℕ → Bool
 pageHolds job lw bw given l (Wrote k) m =
-    sameVerdict (run Sound (nextFindings job lw bw given)) Sound && pageTest (labelingOf job lw bw) (untouchingTest (boardOf job)) given l k m
-pageHolds job lw bw given l (NotPaged r) m = sameVerdict (run Sound (nextFindings job lw bw given)) (Stopped r) && sameList m l
+    passes (nextTests job lw bw given) && pageTest (labelingOf job lw bw) (untouchingTest (boardOf job)) given l k m
+pageHolds job lw bw given l (NotPaged r) m = refuses (nextTests job lw bw given) r && sameList m l
 
 abbrev holdsFor : Call → Sheet → Bool
 holdsFor First s = firstHolds (s .job) (s .lw) (s .bw) (s .before) (s .answer) (s .after)
@@ -113,22 +99,6 @@ allHold test (s ∷ ss) = test s && allHold test ss
 
 -- ---- what they say
 
-same-refusal : (r s : Refusal) → T (sameRefusal r s) → r ≡ s
-same-refusal r s t =
-    let u = both (eqb (r .reason) (s .reason)) (eqb (r .at) (s .at) && eqb (r .earlier) (s .earlier)) .0 t in
-    let v = both (eqb (r .at) (s .at)) (eqb (r .earlier) (s .earlier)) .0 (u .1) in
-    λ i. record {
-      reason = eqb→eq (r .reason) (s .reason) (u .0) i;
-      at = eqb→eq (r .at) (s .at) (v .0) i;
-      earlier = eqb→eq (r .earlier) (s .earlier) (v .1) i;
-    }
-
-same-verdict : (v w : Verdict) → T (sameVerdict v w) → v ≡ w
-same-verdict Sound Sound t = refl
-same-verdict Sound (Stopped s) t = absurd t
-same-verdict (Stopped r) Sound t = absurd t
-same-verdict (Stopped r) (Stopped s) t = ap Stopped (same-refusal r s t)
-
 same-list : (l m : List ℕ) → T (sameList l m) → l ≡ m
 same-list [] [] t = refl
 same-list [] (y ∷ ys) t = absurd t
@@ -144,9 +114,6 @@ same-rest n l m t =
     at : (o : List ℕ) (k : ℕ) → n ≤ k → getD (drop n o) (k - n) 0 ≡ getD o k 0
     at o k h = let d : n + (k - n) ≡ k = omega arith in rw d at (getD-drop n o (k - n) 0)
 
-judged-as : (v w : Verdict) (ts : List Trial) → Judged v ts → T (sameVerdict v w) → Judged w ts
-judged-as v w ts j t = subst (λ (u : Verdict). Judged u ts) (same-verdict v w t) j
-
 module _ (job : List ℕ) (lw bw : ℕ) (l : List ℕ) where
   abbrev b : Board
   b = boardOf job
@@ -160,36 +127,32 @@ module _ (job : List ℕ) (lw bw : ℕ) (l : List ℕ) where
   abbrev searchable : Differ b → Searchable p
   searchable = labeling-searchable b (weighted b lw bw)
 
-  next-judged : Judged (run Sound (nextFindings job lw bw l)) (nextTrials job lw bw l)
-  unfolding nextFindings
-  next-judged = rw (run-append Sound (measureFindings job lw bw l) ((10, atWhole (not (bestTest p counts (held l)))) ∷ []))
-      (go (run Sound (measureFindings job lw bw l)) (measure-judged job lw bw l) (bestTest p counts (held l))
-      (λ d. best-iff p (searchable d) (held l) .0) (λ d. best-iff p (searchable d) (held l) .1))
+  next-told : Told (nextTests job lw bw l) (nextTrials job lw bw l)
+  unfolding nextTests
+  next-told =
+      told-append (measureTests job lw bw l) _ (measureTrials job lw bw l) _ (measure-told job lw bw l)
+      (λ q. (tells-whole 10 _ (not (bestTest p counts (held l))) (says q), λ _. tt))
     where
-      differ : Passed (measureTrials job lw bw l) → Differ b
-      differ p = measure-facts job lw bw l p .0 .proper .differ
-
-      go : (v : Verdict) → Judged v (measureTrials job lw bw l) → (t : Bool) → (Differ b → T t → Best p (held l)) → (Differ b → Best p (held l) → T t)
-          → Judged (run v ((10, atWhole (not t)) ∷ [])) (nextTrials job lw bw l)
-      go Sound p true f g = best-passed job lw bw l p (f (differ p) tt)
-      go Sound p false f g = not-best-refused job lw bw l p (λ h. g (differ p) h)
-      go (Stopped r) p t f g = measure-refused job lw bw l r p
+      says : Passed (measureTrials job lw bw l) → T (not (bestTest p counts (held l))) ↔ (Untouching b (held l) × ¬ Best p (held l))
+      says q =
+          let none = not-iff (bestTest p counts (held l)) (best-iff p (searchable (measure-facts job lw bw l q .0 .proper .differ)) (held l)) in
+          ((λ t. (measure-accepted job lw bw l q .1, none .0 t)), (λ (u, n). none .1 n))
 
   first-holds : (a : Answer) (m : List ℕ) → T (firstHolds job lw bw l a m) → FirstAnswers job lw bw l a m
   first-holds (Total t) m h =
       let c = eqb t (totalOf job lw bw m) in
       let d = sameRest (count job) l m in
       let e = firstTest p counts (held m) in
-      let u = both (sameVerdict (run Sound (firstFindings job lw bw (length l))) Sound) (e && (c && d)) .0 h in
+      let u = both (passes (firstTests job lw bw (length l))) (e && (c && d)) .0 h in
       let w = both e (c && d) .0 (u .1) in
       let x = both c d .0 (w .1) in
-      let q = judged-as (run Sound (firstFindings job lw bw (length l))) Sound (firstTrials job lw bw (length l)) (first-judged job lw bw (length l)) (u .0) in
+      let q = passes-told (firstTests job lw bw (length l)) (firstTrials job lw bw (length l)) (first-told job lw bw (length l)) (u .0) in
       let differ = first-accepted job lw bw (length l) q .0 .proper .differ in
       (q, first-iff p (searchable differ) (held m) .0 (w .0), eqb→eq t (totalOf job lw bw m) (x .0), same-rest (count job) l m (x .1))
   first-holds End m h = absurd h
   first-holds (Refused r) m h =
-      let u = both (sameVerdict (run Sound (firstFindings job lw bw (length l))) (Stopped r)) (sameList m l) .0 h in
-      let q = judged-as (run Sound (firstFindings job lw bw (length l))) (Stopped r) (firstTrials job lw bw (length l)) (first-judged job lw bw (length l)) (u .0) in
+      let u = both (refuses (firstTests job lw bw (length l)) r) (sameList m l) .0 h in
+      let q = refuses-told (firstTests job lw bw (length l)) (firstTrials job lw bw (length l)) r (first-told job lw bw (length l)) (u .0) in
       (q, same-list m l (u .1))
 
   next-holds : (a : Answer) (m : List ℕ) → T (nextHolds job lw bw l a m) → NextAnswers job lw bw l a m
@@ -197,20 +160,20 @@ module _ (job : List ℕ) (lw bw : ℕ) (l : List ℕ) where
       let c = eqb t (totalOf job lw bw m) in
       let d = sameRest (count job) l m in
       let e = nextTest p counts (held l) (held m) in
-      let u = both (sameVerdict (run Sound (nextFindings job lw bw l)) Sound) (e && (c && d)) .0 h in
+      let u = both (passes (nextTests job lw bw l)) (e && (c && d)) .0 h in
       let w = both e (c && d) .0 (u .1) in
       let x = both c d .0 (w .1) in
-      let q = judged-as (run Sound (nextFindings job lw bw l)) Sound (nextTrials job lw bw l) next-judged (u .0) in
+      let q = passes-told (nextTests job lw bw l) (nextTrials job lw bw l) next-told (u .0) in
       (q, next-iff p (searchable (next-differ job lw bw l q)) (held l) (held m) .0 (w .0), eqb→eq t (totalOf job lw bw m) (x .0), same-rest (count job) l m (x .1))
   next-holds End m h =
       let e = lastTest p counts (held l) in
-      let u = both (sameVerdict (run Sound (nextFindings job lw bw l)) Sound) (e && sameList m l) .0 h in
+      let u = both (passes (nextTests job lw bw l)) (e && sameList m l) .0 h in
       let w = both e (sameList m l) .0 (u .1) in
-      let q = judged-as (run Sound (nextFindings job lw bw l)) Sound (nextTrials job lw bw l) next-judged (u .0) in
+      let q = passes-told (nextTests job lw bw l) (nextTrials job lw bw l) next-told (u .0) in
       (q, last-iff p (searchable (next-differ job lw bw l q)) (held l) .0 (w .0), same-list m l (w .1))
   next-holds (Refused r) m h =
-      let u = both (sameVerdict (run Sound (nextFindings job lw bw l)) (Stopped r)) (sameList m l) .0 h in
-      (judged-as (run Sound (nextFindings job lw bw l)) (Stopped r) (nextTrials job lw bw l) next-judged (u .0), same-list m l (u .1))
+      let u = both (refuses (nextTests job lw bw l) r) (sameList m l) .0 h in
+      (refuses-told (nextTests job lw bw l) (nextTrials job lw bw l) r next-told (u .0), same-list m l (u .1))
 
   module _ (differ : Differ b) where
     follow-told : (f : ℕ → ℕ → ℕ) (k : ℕ) → T (followTest p counts f k) → Follow p k f
@@ -237,19 +200,19 @@ module _ (job : List ℕ) (lw bw : ℕ) (l : List ℕ) where
 
   page-holds : (before : List ℕ) (a : Paged) (m : List ℕ) → T (pageHolds job lw bw l before a m) → PageAnswers job lw bw l before a m
   page-holds before (Wrote k) m h =
-      let u = both (sameVerdict (run Sound (nextFindings job lw bw l)) Sound) (pageTest p counts l before k m) .0 h in
-      let q = judged-as (run Sound (nextFindings job lw bw l)) Sound (nextTrials job lw bw l) next-judged (u .0) in
+      let u = both (passes (nextTests job lw bw l)) (pageTest p counts l before k m) .0 h in
+      let q = passes-told (nextTests job lw bw l) (nextTrials job lw bw l) next-told (u .0) in
       (q, page-told (next-differ job lw bw l q) before k m (u .1))
   page-holds before (NotPaged r) m h =
-      let u = both (sameVerdict (run Sound (nextFindings job lw bw l)) (Stopped r)) (sameList m before) .0 h in
-      (judged-as (run Sound (nextFindings job lw bw l)) (Stopped r) (nextTrials job lw bw l) next-judged (u .0), same-list m before (u .1))
+      let u = both (refuses (nextTests job lw bw l) r) (sameList m before) .0 h in
+      (refuses-told (nextTests job lw bw l) (nextTrials job lw bw l) r next-told (u .0), same-list m before (u .1))
 
   measure-holds : (a : Answer) → T (measureHolds job lw bw l a) → MeasureAnswers job lw bw l a
   measure-holds (Total t) h =
-      let u = both (sameVerdict (run Sound (measureFindings job lw bw l)) Sound) (eqb t (totalOf job lw bw l)) .0 h in
-      (judged-as (run Sound (measureFindings job lw bw l)) Sound (measureTrials job lw bw l) (measure-judged job lw bw l) (u .0), eqb→eq t (totalOf job lw bw l) (u .1))
+      let u = both (passes (measureTests job lw bw l)) (eqb t (totalOf job lw bw l)) .0 h in
+      (passes-told (measureTests job lw bw l) (measureTrials job lw bw l) (measure-told job lw bw l) (u .0), eqb→eq t (totalOf job lw bw l) (u .1))
   measure-holds End h = absurd h
-  measure-holds (Refused r) h = judged-as (run Sound (measureFindings job lw bw l)) (Stopped r) (measureTrials job lw bw l) (measure-judged job lw bw l) h
+  measure-holds (Refused r) h = refuses-told (measureTests job lw bw l) (measureTrials job lw bw l) r (measure-told job lw bw l) h
 
 -- A sheet that passes its test is one that its call's promise allows.
 holds-allowed : (c : Call) (s : Sheet) → T (holdsFor c s) → AllowedBy c s
@@ -269,7 +232,7 @@ all-allowed test P says (s ∷ ss) h = let u = both (test s) (allHold test ss) .
 -- Each passes its test.
 all-hold : T (allHold holds sheets) × T (allHold pageSheetHolds pages)
 unfolding heads words any someWord leastTest misled untouchingTest differRight decidedAt beforeTest cheaper bestTest firstTest laterTest nextTest lastTest
-    first some firstPair outside between touching jobFindings layoutFindings firstFindings measureFindings nextFindings
+    somewhere outside between meet jobTests layoutTests firstTests measureTests nextTests
     twos nameOf reservedOf xOf yOf portOf lengthOf bendsOf sum weighted
 all-hold = (tt, tt)
 

@@ -1,8 +1,9 @@
 -- `checks::verdicts::of_draw` meets its contract. Assumes nothing.
 use denote.Ref.{now}
-use Rattle.paper.specs.declared.verdict.Verdict.the-variants.{Sound}
-use Rattle.paper.specs.laws.Verdicts.{atWhole, drawFindings, run-append}
+use Rattle.checks.specs.declared.Verdict.the-variants.{Sound}
+use Rattle.paper.specs.laws.Tests.{atWhole, drawTests}
 use mathlib.Core.Path.{sym, _∙_}
+use Rattle.checks.specs.Verdicts.{after-append}
 use Rattle.checks.specs.Sound.{was-sound, whole-false, size-le}
 use borrow.Author.Needs.{needs}
 use Rattle.checks.proofs.verdicts.of_draw.Statement.{statement}
@@ -22,8 +23,8 @@ of-job-requires c κs =
     λ sound.
     let bad = c .before .before .bad-size in
     let s1 = was-sound _ _ _ (c .try-whole2 .ensures) sound .0 in
-    let none = was-sound Sound _ (1, atWhole (bad .result)) (c .before .try-whole .ensures) s1 .1 in
-    size-le (now (c .before .before .before .before .args .job)) (sym (bad .ensures) ∙ whole-false (bad .result) none)
+    let none = was-sound Sound _ (atWhole 1 (bad .result)) (c .before .try-whole .ensures) s1 .1 in
+    size-le (now (c .before .before .before .before .args .job)) (sym (bad .ensures) ∙ whole-false 1 (bad .result) none)
 
 bad-number-requires : tie.Need-bad-number-requires
 bad-number-requires c κs = search needs
@@ -32,10 +33,10 @@ try-whole-requires-3 : tie.Need-try-whole-requires-3
 try-whole-requires-3 c κs = search needs
 
 returns : tie.Need-returns
-unfolding drawFindings
+unfolding drawTests
 returns c =
     rw (
-      run-append,
+      after-append,
       c .try-whole3 .ensures,
       c .before .bad-number .ensures,
       c .before .before .of-job .ensures,

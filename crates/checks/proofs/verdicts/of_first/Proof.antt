@@ -1,7 +1,7 @@
 -- `checks::verdicts::of_first` meets its contract. Assumes nothing.
 use denote.Ref.{now}
-use Rattle.paper.specs.declared.verdict.Verdict.the-variants.{Sound}
-use Rattle.paper.specs.laws.Verdicts.{atWhole, firstFindings}
+use Rattle.checks.specs.declared.Verdict.the-variants.{Sound}
+use Rattle.paper.specs.laws.Tests.{atWhole, firstTests}
 use mathlib.Core.Path.{sym, _∙_}
 use Rattle.checks.specs.Sound.{was-sound, whole-false, size-le}
 use borrow.Author.Needs.{needs}
@@ -29,11 +29,11 @@ of-job-requires c κs =
     let bad = c .before .before .before .before .bad-size in
     let s2 = was-sound _ _ _ (c .try-whole3 .ensures) sound .0 in
     let s1 = was-sound _ _ _ (c .before .try-whole2 .ensures) s2 .0 in
-    let none = was-sound Sound _ (1, atWhole (bad .result)) (c .before .before .before .try-whole .ensures) s1 .1 in
-    size-le (now (c .before .before .before .before .before .before .args .job)) (sym (bad .ensures) ∙ whole-false (bad .result) none)
+    let none = was-sound Sound _ (atWhole 1 (bad .result)) (c .before .before .before .try-whole .ensures) s1 .1 in
+    size-le (now (c .before .before .before .before .before .before .args .job)) (sym (bad .ensures) ∙ whole-false 1 (bad .result) none)
 
 returns : tie.Need-returns
-unfolding firstFindings
+unfolding firstTests
 returns c =
     rw (
       c .of-job .ensures,

@@ -1,8 +1,8 @@
 -- `checks::verdicts::of_job` meets its contract. Assumes nothing.
 use mathlib.Core.Path.{_≡_}
-use Rattle.paper.specs.declared.verdict.Verdict.the-variants.{Sound}
+use Rattle.checks.specs.declared.Verdict.the-variants.{Sound}
 use Rattle.find.specs.Dispatch.{testOf}
-use Rattle.paper.specs.laws.Verdicts.{jobFindings}
+use Rattle.paper.specs.laws.Tests.{jobTests}
 use Rattle.checks.specs.Sound.{was-sound}
 use borrow.Author.Needs.{needs}
 use Rattle.checks.proofs.verdicts.of_job.Statement.{statement}
@@ -43,7 +43,7 @@ try-records-requires-5 : tie.Need-try-records-requires-5
 try-records-requires-5 c κs = λ sound. (begin (c .before .before .before .before) .pre (after-6 c sound), tt)
 
 returns : tie.Need-returns
-unfolding jobFindings testOf
+unfolding jobTests testOf
 returns c =
     let c6 = c .before in
     let c12 = c6 .before in

@@ -1,9 +1,7 @@
 -- `checks::verdicts::of_layout` meets its contract. Assumes nothing.
 use denote.Ref.{now}
 use Rattle.paper.specs.Job.{count}
-use Rattle.paper.specs.laws.Search.{first}
-use Rattle.paper.specs.laws.Tests.{badEntry}
-use Rattle.paper.specs.laws.Verdicts.{layoutFindings}
+use Rattle.paper.specs.laws.Tests.{badEntry, atEach, layoutTests}
 use Rattle.find.specs.Dispatch.{testOf}
 use Rattle.checks.specs.Sound.{was-sound, entries-below}
 use borrow.Author.Needs.{needs}
@@ -20,12 +18,12 @@ try-touching-requires c κs =
     let s = c .before .before .before in
     let n = count (now (s .args .job)) in
     let list = now (s .args .list) in
-    let none = was-sound (s .args .v) _ (8, first (badEntry n list) n) (c .try-records .ensures) sound in
+    let none = was-sound (s .args .v) _ (atEach 8 n (badEntry n list)) (c .try-records .ensures) sound in
     let given = s .pre (none .0) in
     (given .0, (given .1, entries-below n list (none .1)))
 
 returns : tie.Need-returns
-unfolding layoutFindings testOf
+unfolding layoutTests testOf
 returns c = rw (c .try-touching .ensures, c .before .try-records .ensures)
 
 pub of-layout-spec : {M : Type 1} → statement M

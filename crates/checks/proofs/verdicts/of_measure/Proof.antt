@@ -1,9 +1,9 @@
 -- `checks::verdicts::of_measure` meets its contract. Assumes nothing.
 use mathlib.Core.Path.{sym, _∙_}
-use Rattle.paper.specs.laws.Verdicts.{measureFindings, run-append}
+use Rattle.paper.specs.laws.Tests.{measureTests}
 use Rattle.paper.specs.laws.Accepted.{first-accepted}
-use Rattle.paper.specs.laws.Judged.{first-judged}
-use Rattle.paper.specs.laws.Trials.{judged-sound}
+use Rattle.checks.specs.Verdicts.{after-append}
+use Rattle.checks.specs.Judged.{first-judged, judged-sound}
 use denote.Ref.{now}
 use lib.ListN.{length}
 use borrow.Author.Needs.{needs}
@@ -22,8 +22,8 @@ of-layout-requires c κs =
     (ok .0 .size, ok .3)
 
 returns : tie.Need-returns
-unfolding measureFindings
-returns c = rw (run-append, c .of-layout .ensures, c .before .of-first .ensures)
+unfolding measureTests
+returns c = rw (after-append, c .of-layout .ensures, c .before .of-first .ensures)
 
 pub of-measure-spec : {M : Type 1} → statement M
 of-measure-spec = tie.close (tie.spec of-first-requires of-layout-requires returns)

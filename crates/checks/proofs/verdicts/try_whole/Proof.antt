@@ -1,4 +1,5 @@
 -- `checks::verdicts::try_whole` meets its contract. Assumes nothing.
+use Rattle.find.specs.Search.{firstWhere}
 use borrow.Author.Needs.{needs}
 use Rattle.checks.proofs.verdicts.try_whole.Statement.{statement}
 use Rattle.checks.proofs.verdicts.try_whole.Tie as tie
@@ -13,9 +14,11 @@ enum-known-v : tie.Need-enum-known-v
 enum-known-v c = search needs
 
 returns : tie.Need-returns
+unfolding firstWhere
 returns c = rw (c .before .before .enum-told .given .1, c .before .if1 .taken) (c .verdict .ensures)
 
 returns-2 : tie.Need-returns-2
+unfolding firstWhere
 returns-2 c = search needs
 
 returns-3 : tie.Need-returns-3

@@ -3,21 +3,21 @@ use Prim.Native.Nat.{_≤_, _-_}
 use mathlib.Core.Path.{_≡_, refl, sym, _∙_}
 use native.Mathlib.Omega.{arith}
 use borrow.Author.Needs.{needs}
-use Rattle.paper.specs.declared.verdict.Found.the-variants.{Nowhere}
+use Rattle.find.specs.declared.Found.the-variants.{Nowhere}
 use Rattle.paper.specs.Layouts.{boardOf, held}
-use Rattle.paper.specs.laws.Search.{first, earlier, none-below, none-more, none-end, pairs-more, pairs-end, pair-here}
-use Rattle.paper.specs.laws.Tests.{touch}
+use Rattle.find.specs.Search.{firstWhere, none-below, none-more, none-end, pairs-more, pairs-end, pair-here}
+use Rattle.paper.specs.laws.Tests.{withEarlier, meetAt}
 use Rattle.find.proofs.pairs.first_touching.Statement.{statement}
 use Rattle.find.proofs.pairs.first_touching.Tie as tie
 
 abbrev Inv-loop : tie.InvT-loop
-Inv-loop job list n found₀ i j₀ found j = (j ≤ i) × (first (touch (boardOf job) (held list) i) j ≡ Nowhere) × (found ≡ found₀)
+Inv-loop job list n found₀ i j₀ found j = (j ≤ i) × (firstWhere (meetAt (boardOf job) (held list) i) j ≡ Nowhere) × (found ≡ found₀)
 
 abbrev μ-loop : tie.MeasureT-loop
 μ-loop job list n found₀ i j₀ found j = i - j
 
 abbrev Inv-records : tie.InvT-records
-Inv-records job list n found₀ i₀ found i = (i ≤ n) × (first (earlier (touch (boardOf job) (held list))) i ≡ Nowhere) × (found ≡ Nowhere)
+Inv-records job list n found₀ i₀ found i = (i ≤ n) × (firstWhere (withEarlier (meetAt (boardOf job) (held list))) i ≡ Nowhere) × (found ≡ Nowhere)
 
 abbrev μ-records : tie.MeasureT-records
 μ-records job list n found₀ i₀ found i = n - i

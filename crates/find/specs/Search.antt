@@ -1,8 +1,6 @@
 -- The first number below n at which a test holds, and the first pair.
---     first p n       At i 0: i is below n, p holds at i and at no number below i. Nowhere: p holds at no number below n
---     some p n        p holds at some number below n
---     earlier q i     q holds of i and a number below i
---     firstPair q n   At i j: i is the first number below n with `earlier q i`, and j the first below i of which q holds with i
+--     firstWhere p n       At i 0: i is below n, p holds at i and at no number below i. Nowhere: p holds at no number below n
+--     firstPairWhere q n   At i j: i is the first number below n with `withEarlier q i`, and j the first below i of which q holds with i
 use Prim.Native.Nat.{ℕ, zero, suc, _+_, _<_, _≤_}
 use mathlib.Core.Bool.{Bool, true, false, _||_, or-true, true≢false}
 use mathlib.Core.Path.{_≡_, refl, sym, subst, _∙_}
@@ -10,8 +8,9 @@ use mathlib.Core.Logic.{⊎-elim}
 use native.Mathlib.Nat.{le-of-suc-le-suc, not-suc-le-zero, eq-or-lt-of-le, le-antisymm}
 use native.Mathlib.Numerals.{add-one}
 use native.Mathlib.Omega.{arith}
-use Rattle.paper.specs.declared.verdict.Found.{Found}
-use Rattle.paper.specs.declared.verdict.Found.the-variants.{At, Nowhere}
+use Rattle.paper.specs.laws.Tests.{somewhere, withEarlier}
+use Rattle.find.specs.declared.Found.{Found}
+use Rattle.find.specs.declared.Found.the-variants.{At, Nowhere}
 
 -- the place found already, or else n where the test holds
 abbrev pub orAt : Found → Bool → ℕ → Found
@@ -19,16 +18,9 @@ orAt (At i j) t n = At i j
 orAt Nowhere true n = At n 0
 orAt Nowhere false n = Nowhere
 
-unfoldable pub first : (ℕ → Bool) → ℕ → Found
-first p zero = Nowhere
-first p (suc n) = orAt (first p n) (p n) n
-
-unfoldable pub some : (ℕ → Bool) → ℕ → Bool
-some p zero = false
-some p (suc n) = some p n || p n
-
-abbrev pub earlier : (ℕ → ℕ → Bool) → ℕ → Bool
-earlier q i = some (q i) i
+unfoldable pub firstWhere : (ℕ → Bool) → ℕ → Found
+firstWhere p zero = Nowhere
+firstWhere p (suc n) = orAt (firstWhere p n) (p n) n
 
 -- i, with the place found below it
 abbrev pub andAt : ℕ → Found → Found
@@ -37,11 +29,11 @@ andAt i Nowhere = Nowhere
 
 -- the place found, and the first number below it of which q holds with it
 abbrev pub pairAt : (ℕ → ℕ → Bool) → Found → Found
-pairAt q (At i z) = andAt i (first (q i) i)
+pairAt q (At i z) = andAt i (firstWhere (q i) i)
 pairAt q Nowhere = Nowhere
 
-unfoldable pub firstPair : (ℕ → ℕ → Bool) → ℕ → Found
-firstPair q n = pairAt q (first (earlier q) n)
+unfoldable pub firstPairWhere : (ℕ → ℕ → Bool) → ℕ → Found
+firstPairWhere q n = pairAt q (firstWhere (withEarlier q) n)
 
 at≢nowhere : {i j : ℕ} → At i j ≡ Nowhere → ⊥
 at≢nowhere e = let z : _≡_ {A = ℕ} 0 1 = cc in omega arith
@@ -58,73 +50,73 @@ or-false-right false t e = e
 -- a loop that counts up: nothing is found below 0; nothing below i and not at i is nothing below i + 1;
 -- nothing below i and the test holds at i: what is found below any n past i is i
 module _ (p : ℕ → Bool) where
-  pub none-below : first p 0 ≡ Nowhere
-  unfolding first
+  pub none-below : firstWhere p 0 ≡ Nowhere
+  unfolding firstWhere
   none-below = refl
 
-  pub none-more : (i : ℕ) → first p i ≡ Nowhere → p i ≡ false → first p (i + 1) ≡ Nowhere
-  unfolding first
+  pub none-more : (i : ℕ) → firstWhere p i ≡ Nowhere → p i ≡ false → firstWhere p (i + 1) ≡ Nowhere
+  unfolding firstWhere
   none-more i before here = rw (add-one, before, here)
 
-  pub found-here : (i : ℕ) → first p i ≡ Nowhere → p i ≡ true → (n : ℕ) → i < n → first p n ≡ At i 0
-  unfolding first
+  pub found-here : (i : ℕ) → firstWhere p i ≡ Nowhere → p i ≡ true → (n : ℕ) → i < n → firstWhere p n ≡ At i 0
+  unfolding firstWhere
   found-here i before here zero l = absurd (not-suc-le-zero l)
   found-here i before here (suc n) l =
       ⊎-elim (λ e. rw (← e, before, here)) (λ lt. rw (found-here i before here n lt)) (eq-or-lt-of-le (le-of-suc-le-suc l))
 
-  pub none-end : (i n : ℕ) → first p i ≡ Nowhere → i ≤ n → n ≤ i → first p n ≡ Nowhere
+  pub none-end : (i n : ℕ) → firstWhere p i ≡ Nowhere → i ≤ n → n ≤ i → firstWhere p n ≡ Nowhere
   none-end i n before h k = rw (← le-antisymm h k) before
 
-  pub not-some : some p 0 ≡ false
-  unfolding some
+  pub not-some : somewhere p 0 ≡ false
+  unfolding somewhere
   not-some = refl
 
-  pub not-some-more : (i : ℕ) → some p i ≡ false → p i ≡ false → some p (i + 1) ≡ false
-  unfolding some
+  pub not-some-more : (i : ℕ) → somewhere p i ≡ false → p i ≡ false → somewhere p (i + 1) ≡ false
+  unfolding somewhere
   not-some-more i before here = rw (add-one, before, here)
 
-  pub not-some-end : (i n : ℕ) → some p i ≡ false → i ≤ n → n ≤ i → some p n ≡ false
+  pub not-some-end : (i n : ℕ) → somewhere p i ≡ false → i ≤ n → n ≤ i → somewhere p n ≡ false
   not-some-end i n before h k = rw (← le-antisymm h k) before
 
-  pub some-here : (i : ℕ) → p i ≡ true → (n : ℕ) → i < n → some p n ≡ true
-  unfolding some
+  pub some-here : (i : ℕ) → p i ≡ true → (n : ℕ) → i < n → somewhere p n ≡ true
+  unfolding somewhere
   some-here i here zero l = absurd (not-suc-le-zero l)
   some-here i here (suc n) l =
-      ⊎-elim (λ e. rw (← e, here) (or-true (some p i))) (λ lt. rw (some-here i here n lt)) (eq-or-lt-of-le (le-of-suc-le-suc l))
+      ⊎-elim (λ e. rw (← e, here) (or-true (somewhere p i))) (λ lt. rw (some-here i here n lt)) (eq-or-lt-of-le (le-of-suc-le-suc l))
 
   -- a place is found: it is below n, with 0, the test holds there, and at no number below it
-  pub at-is : (n i j : ℕ) → first p n ≡ At i j → (i < n) × (j ≡ 0) × (p i ≡ true) × (first p i ≡ Nowhere)
-  unfolding first
+  pub at-is : (n i j : ℕ) → firstWhere p n ≡ At i j → (i < n) × (j ≡ 0) × (p i ≡ true) × (firstWhere p i ≡ Nowhere)
+  unfolding firstWhere
   at-is zero i j e = absurd (at≢nowhere (sym e))
-  at-is (suc n) i j e = go (at-is n i j) (first p n) (p n) refl refl e
+  at-is (suc n) i j e = go (at-is n i j) (firstWhere p n) (p n) refl refl e
     where
-      go : (first p n ≡ At i j → (i < n) × (j ≡ 0) × (p i ≡ true) × (first p i ≡ Nowhere)) → (f : Found) (t : Bool) → first p n ≡ f → p n ≡ t
-          → orAt f t n ≡ At i j → (i < suc n) × (j ≡ 0) × (p i ≡ true) × (first p i ≡ Nowhere)
+      go : (firstWhere p n ≡ At i j → (i < n) × (j ≡ 0) × (p i ≡ true) × (firstWhere p i ≡ Nowhere)) → (f : Found) (t : Bool) → firstWhere p n ≡ f → p n ≡ t
+          → orAt f t n ≡ At i j → (i < suc n) × (j ≡ 0) × (p i ≡ true) × (firstWhere p i ≡ Nowhere)
       go below (At k m) t a b e =
           let r = below (a ∙ e) in
           (omega (arith, r .0), r .1, r .2, r .3)
       go below Nowhere true a b e =
           let q : n ≡ i = cc in
           let z : 0 ≡ j = cc in
-          (omega arith, sym z, subst (λ (k : ℕ). p k ≡ true) q b, subst (λ (k : ℕ). first p k ≡ Nowhere) q a)
+          (omega arith, sym z, subst (λ (k : ℕ). p k ≡ true) q b, subst (λ (k : ℕ). firstWhere p k ≡ Nowhere) q a)
       go below Nowhere false a b e = absurd (at≢nowhere (sym e))
 
   -- nothing found below n + 1: nothing below n
-  none-fewer : (n : ℕ) → first p (suc n) ≡ Nowhere → first p n ≡ Nowhere
-  unfolding first
-  none-fewer n e = below (first p n) (p n) e
+  none-fewer : (n : ℕ) → firstWhere p (suc n) ≡ Nowhere → firstWhere p n ≡ Nowhere
+  unfolding firstWhere
+  none-fewer n e = below (firstWhere p n) (p n) e
     where
       below : (f : Found) (t : Bool) → orAt f t n ≡ Nowhere → f ≡ Nowhere
       below (At i j) t e = e
       below Nowhere t e = refl
 
   -- nothing found below n: the test holds at no number below n
-  pub none-at : (n : ℕ) → first p n ≡ Nowhere → (k : ℕ) → k < n → p k ≡ false
-  unfolding first
+  pub none-at : (n : ℕ) → firstWhere p n ≡ Nowhere → (k : ℕ) → k < n → p k ≡ false
+  unfolding firstWhere
   none-at zero e k l = absurd (not-suc-le-zero l)
   none-at (suc n) e k l =
       ⊎-elim
-      (λ q. rw q (here (first p n) (p n) e))
+      (λ q. rw q (here (firstWhere p n) (p n) e))
       (λ lt. none-at n (none-fewer n e) k lt)
       (eq-or-lt-of-le (le-of-suc-le-suc l))
     where
@@ -134,22 +126,22 @@ module _ (p : ℕ → Bool) where
       here Nowhere false e = refl
 
   -- so it holds at none of them
-  none-some : (n : ℕ) → first p n ≡ Nowhere → some p n ≡ false
-  unfolding some
+  none-some : (n : ℕ) → firstWhere p n ≡ Nowhere → somewhere p n ≡ false
+  unfolding somewhere
   none-some zero e = refl
   none-some (suc n) e = rw (none-some n (none-fewer n e), none-at (suc n) e n (omega arith))
 
 -- nested loops: where nothing is found below i and q holds of i and no number below it, nothing is found below i + 1;
 -- where j is the first number below i of which q holds with i, what is found below any n past i is i with j
 module _ (q : ℕ → ℕ → Bool) where
-  pub pairs-more : (i : ℕ) → first (earlier q) i ≡ Nowhere → first (q i) i ≡ Nowhere → first (earlier q) (i + 1) ≡ Nowhere
-  pairs-more i before here = none-more (earlier q) i before (none-some (q i) i here)
+  pub pairs-more : (i : ℕ) → firstWhere (withEarlier q) i ≡ Nowhere → firstWhere (q i) i ≡ Nowhere → firstWhere (withEarlier q) (i + 1) ≡ Nowhere
+  pairs-more i before here = none-more (withEarlier q) i before (none-some (q i) i here)
 
-  pub pairs-end : (n : ℕ) → first (earlier q) n ≡ Nowhere → firstPair q n ≡ Nowhere
-  unfolding firstPair
+  pub pairs-end : (n : ℕ) → firstWhere (withEarlier q) n ≡ Nowhere → firstPairWhere q n ≡ Nowhere
+  unfolding firstPairWhere
   pairs-end n e = rw e
 
-  pub pair-here : (i j : ℕ) → first (earlier q) i ≡ Nowhere → first (q i) j ≡ Nowhere → q i j ≡ true → j < i → (n : ℕ) → i < n → firstPair q n ≡ At i j
-  unfolding firstPair
+  pub pair-here : (i j : ℕ) → firstWhere (withEarlier q) i ≡ Nowhere → firstWhere (q i) j ≡ Nowhere → q i j ≡ true → j < i → (n : ℕ) → i < n → firstPairWhere q n ≡ At i j
+  unfolding firstPairWhere
   pair-here i j before below here l n k =
-      rw (found-here (earlier q) i before (some-here (q i) j here i l) n k, found-here (q i) j below here i l)
+      rw (found-here (withEarlier q) i before (some-here (q i) j here i l) n k, found-here (q i) j below here i l)

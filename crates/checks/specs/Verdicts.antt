@@ -1,0 +1,41 @@
+-- The verdict that the code works out: what each test finds, one test after the other.
+use mathlib.Core.List.{List, [], _∷_, _++_}
+use mathlib.Core.Path.{_≡_, refl}
+use Prim.Native.Nat.{ℕ}
+use Rattle.paper.specs.declared.Refusal.{Refusal}
+use Rattle.paper.specs.Refusals.{refusal}
+use Rattle.paper.specs.laws.Tests.{Test, atEach, atPairs}
+use Rattle.paper.specs.laws.Decided.{reasonOf}
+use Rattle.find.specs.declared.Found.{Found}
+use Rattle.find.specs.declared.Found.the-variants.{At, Nowhere}
+use Rattle.find.specs.Search.{firstWhere, firstPairWhere}
+use Rattle.checks.specs.declared.Verdict.{Verdict}
+use Rattle.checks.specs.declared.Verdict.the-variants.{Sound, Refused}
+
+-- the first records at fault
+abbrev pub foundBy : Test → Found
+foundBy (atEach r n p) = firstWhere p n
+foundBy (atPairs r n q) = firstPairWhere q n
+
+-- the first test that finds a record gives the refusal, which stands
+abbrev pub outcome : ℕ → Found → Verdict
+outcome r (At i j) = Refused (refusal r i j)
+outcome r Nowhere = Sound
+
+abbrev pub andThen : Verdict → Test → Verdict
+andThen Sound t = outcome (reasonOf t) (foundBy t)
+andThen (Refused r) t = Refused r
+
+abbrev pub verdictAfter : Verdict → List Test → Verdict
+verdictAfter v [] = v
+verdictAfter v (t ∷ ts) = verdictAfter (andThen v t) ts
+
+-- one list of tests after another
+pub after-append : (v : Verdict) (ts us : List Test) → verdictAfter v (ts ++ us) ≡ verdictAfter (verdictAfter v ts) us
+after-append v [] us = refl
+after-append v (t ∷ ts) us = after-append (andThen v t) ts us
+
+-- a refusal stands
+pub after-refused : (r : Refusal) (ts : List Test) → verdictAfter (Refused r) ts ≡ Refused r
+after-refused r [] = refl
+after-refused r (t ∷ ts) = after-refused r ts
