@@ -1,11 +1,11 @@
 #!/bin/sh
-# tests/reading.sh: docs/READING.md names each must-fail edit with the crate that it stands in, and no other. The last line has the counts.
+# tests/reading.sh: docs/AUDIT.md names each must-fail edit with the crate that it stands in, and no other. The last line has the counts.
 set -u
 cd "$(dirname "$0")/.." || exit 2
 . tests/checks.sh
 
-# In section 5 crates stand before their edits: 'find `a`, `b`; paper and cheremysl `c`'.
-sed -n '/^## 5/,/^## 6/s/^|.*| \(.*\) |$/\1/p' docs/READING.md | awk '
+# In the table of wrong versions crates stand before their edits: 'find `a`, `b`; paper and cheremysl `c`'.
+sed -n '/^## Wrong versions/,/^## /s/^|.*| \(.*\) |$/\1/p' docs/AUDIT.md | awk '
 NR == FNR { sub(/:.*/, ""); if (!/^#/) listed[$0]; next }
 {
     count = split($0, words, /[ ,;:()]+/)
@@ -25,6 +25,6 @@ NR == FNR { sub(/:.*/, ""); if (!/^#/) listed[$0]; next }
 }' crates.txt - | LC_ALL=C sort -u >"$room/named"
 ls crates/*/must-fail/*.edit | sed 's|crates/\(.*\)/must-fail/\(.*\)\.edit|\1/\2|' | LC_ALL=C sort >"$room/there"
 
-while read -r edit; do check "named in READING, section 5, and not there" grep -qx "$edit" "$room/there"; done <"$room/named"
-while read -r edit; do check "not named in READING, section 5" grep -qx "$edit" "$room/named"; done <"$room/there"
+while read -r edit; do check "named in AUDIT and not there" grep -qx "$edit" "$room/there"; done <"$room/named"
+while read -r edit; do check "not named in AUDIT" grep -qx "$edit" "$room/named"; done <"$room/there"
 counts
