@@ -70,32 +70,32 @@ abbrev pub refused : ℕ → ℕ → Answer
 refused r i = Refused (refusal r i 0)
 
 -- refusal 9 with the two records
-abbrev pub touching : ℕ → ℕ → Answer
-touching i j = Refused (refusal 9 i j)
+abbrev pub refusedPair : ℕ → ℕ → Answer
+refusedPair i j = Refused (refusal 9 i j)
 
 abbrev pub sheets : List Sheet
 sheets =
-    sheet First J1 1 0 (9 ∷ []) (Total 5) (0 ∷ []) ∷
-    sheet First J1 0 1 (9 ∷ []) (Total 0) (0 ∷ []) ∷
-    sheet First J2 1 0 (9 ∷ 9 ∷ []) (Total 50) (0 ∷ 1 ∷ []) ∷
-    sheet Next J2 1 0 (1 ∷ 0 ∷ []) (touching 1 0) (1 ∷ 0 ∷ []) ∷
-    sheet First J3 1 0 (9 ∷ 9 ∷ []) (Total 40) (1 ∷ 0 ∷ []) ∷
-    sheet Next J3 1 0 (1 ∷ 0 ∷ []) (Total 40) (0 ∷ 1 ∷ []) ∷
-    sheet Next J3 1 0 (0 ∷ 1 ∷ []) End (0 ∷ 1 ∷ []) ∷
-    sheet Next J3 1 0 (0 ∷ 0 ∷ []) (refused 8 1) (0 ∷ 0 ∷ []) ∷
-    sheet First J4 1 0 (9 ∷ 9 ∷ []) (Total 75) (0 ∷ 1 ∷ []) ∷
-    sheet Next J4 1 0 (1 ∷ 0 ∷ []) (refused 10 0) (1 ∷ 0 ∷ []) ∷
-    sheet Measure J4 1 0 (1 ∷ 0 ∷ []) (Total 85) (1 ∷ 0 ∷ []) ∷
-    sheet First J5 2 3 (9 ∷ 9 ∷ 9 ∷ []) (Total 183) (1 ∷ 2 ∷ 0 ∷ []) ∷
-    sheet Measure J5 1 0 (0 ∷ 1 ∷ 2 ∷ []) (touching 1 0) (0 ∷ 1 ∷ 2 ∷ []) ∷
-    sheet First (padAndPort 101 10 0 10 ++ padAndPort 102 20 30 18) 1 0 (9 ∷ 9 ∷ []) (Total 52) (0 ∷ 1 ∷ []) ∷
-    sheet First (padAndPort 101 10 0 10 ++ padAndPort 102 20 30 17) 1 0 (9 ∷ 9 ∷ []) (refused 12 1) (9 ∷ 9 ∷ []) ∷
-    sheet First (padAndPort 101 10 0 10 ++ padAndPort 102 20 30 17 ++ padAndPort 103 30 40 17) 1 0 (9 ∷ 9 ∷ 9 ∷ []) (refused 5 2) (9 ∷ 9 ∷ 9 ∷ []) ∷
-    sheet First (padAndPort 101 10 0 10 ++ padAndPort 102 20 30 17 ++ padAndPort 101 30 40 30) 1 0 (9 ∷ 9 ∷ 9 ∷ []) (refused 12 1) (9 ∷ 9 ∷ 9 ∷ []) ∷
-    sheet Measure J5 1 0 (1 ∷ 0 ∷ 2 ∷ []) (touching 2 1) (1 ∷ 0 ∷ 2 ∷ []) ∷
-    sheet Measure J5 1 0 (2 ∷ 0 ∷ 1 ∷ []) (touching 2 0) (2 ∷ 0 ∷ 1 ∷ []) ∷
-    sheet Next twoPairs 1 0 (1 ∷ 3 ∷ 2 ∷ 0 ∷ []) (touching 2 1) (1 ∷ 3 ∷ 2 ∷ 0 ∷ []) ∷
-    sheet Measure (padAndPort 101 30 30 0 ++ padAndPort 102 20 20 10 ++ padAndPort 103 10 10 20) 1 0 (0 ∷ 1 ∷ 2 ∷ []) (touching 2 1) (0 ∷ 1 ∷ 2 ∷ []) ∷
+    sheet First J1 1 0 (9 ∷ []) (Total 5) (0 ∷ []) ∷  -- P1
+    sheet First J1 0 1 (9 ∷ []) (Total 0) (0 ∷ []) ∷  -- P2
+    sheet First J2 1 0 (9 ∷ 9 ∷ []) (Total 50) (0 ∷ 1 ∷ []) ∷  -- P3
+    sheet Next J2 1 0 (1 ∷ 0 ∷ []) (refusedPair 1 0) (1 ∷ 0 ∷ []) ∷  -- P4
+    sheet First J3 1 0 (9 ∷ 9 ∷ []) (Total 40) (1 ∷ 0 ∷ []) ∷  -- P5
+    sheet Next J3 1 0 (1 ∷ 0 ∷ []) (Total 40) (0 ∷ 1 ∷ []) ∷  -- P6
+    sheet Next J3 1 0 (0 ∷ 1 ∷ []) End (0 ∷ 1 ∷ []) ∷  -- P7
+    sheet Next J3 1 0 (0 ∷ 0 ∷ []) (refused 8 1) (0 ∷ 0 ∷ []) ∷  -- P8
+    sheet First J4 1 0 (9 ∷ 9 ∷ []) (Total 75) (0 ∷ 1 ∷ []) ∷  -- P9
+    sheet Next J4 1 0 (1 ∷ 0 ∷ []) (refused 10 0) (1 ∷ 0 ∷ []) ∷  -- P10
+    sheet Measure J4 1 0 (1 ∷ 0 ∷ []) (Total 85) (1 ∷ 0 ∷ []) ∷  -- P10: its total is 85
+    sheet First J5 2 3 (9 ∷ 9 ∷ 9 ∷ []) (Total 183) (1 ∷ 2 ∷ 0 ∷ []) ∷  -- P11
+    sheet Measure J5 1 0 (0 ∷ 1 ∷ 2 ∷ []) (refusedPair 1 0) (0 ∷ 1 ∷ 2 ∷ []) ∷  -- P12
+    sheet First (padAndPort 101 10 0 10 ++ padAndPort 102 20 30 18) 1 0 (9 ∷ 9 ∷ []) (Total 52) (0 ∷ 1 ∷ []) ∷  -- 12
+    sheet First (padAndPort 101 10 0 10 ++ padAndPort 102 20 30 17) 1 0 (9 ∷ 9 ∷ []) (refused 12 1) (9 ∷ 9 ∷ []) ∷  -- 12
+    sheet First (padAndPort 101 10 0 10 ++ padAndPort 102 20 30 17 ++ padAndPort 103 30 40 17) 1 0 (9 ∷ 9 ∷ 9 ∷ []) (refused 5 2) (9 ∷ 9 ∷ 9 ∷ []) ∷  -- 5 before 12
+    sheet First (padAndPort 101 10 0 10 ++ padAndPort 102 20 30 17 ++ padAndPort 101 30 40 30) 1 0 (9 ∷ 9 ∷ 9 ∷ []) (refused 12 1) (9 ∷ 9 ∷ 9 ∷ []) ∷  -- 12 before 6
+    sheet Measure J5 1 0 (1 ∷ 0 ∷ 2 ∷ []) (refusedPair 2 1) (1 ∷ 0 ∷ 2 ∷ []) ∷  -- 9
+    sheet Measure J5 1 0 (2 ∷ 0 ∷ 1 ∷ []) (refusedPair 2 0) (2 ∷ 0 ∷ 1 ∷ []) ∷  -- 9
+    sheet Next twoPairs 1 0 (1 ∷ 3 ∷ 2 ∷ 0 ∷ []) (refusedPair 2 1) (1 ∷ 3 ∷ 2 ∷ 0 ∷ []) ∷  -- 9
+    sheet Measure (padAndPort 101 30 30 0 ++ padAndPort 102 20 20 10 ++ padAndPort 103 10 10 20) 1 0 (0 ∷ 1 ∷ 2 ∷ []) (refusedPair 2 1) (0 ∷ 1 ∷ 2 ∷ []) ∷  -- 9
     []
 
 -- ---- Page

@@ -2,7 +2,7 @@
 -- one; the proofs are in laws/, for the prover. A call that keeps its promise, and the code is proved to, has all that is said here.
 --     m is the number that C gets, before and after are what the lent list holds at entry and at exit, lw and bw the weights
 use mathlib.Core.Path.{_≡_, refl}
-use mathlib.Core.Logic.{_≢_, _↔_}
+use mathlib.Core.Logic.{_≢_, _⊎_, _↔_}
 use mathlib.Core.Bool.{false}
 use mathlib.Core.List.{List}
 use Prim.Native.Nat.{ℕ, _+_, _*_, _≤_, _<_}
@@ -18,8 +18,8 @@ use Rattle.paper.specs.declared.Drawn.the-variants.{Straight, Bent}
 use Rattle.paper.specs.Job.{count}
 use Rattle.paper.specs.Leaders.{Leader, Between, Touch, lengthOf, bendsOf}
 use Rattle.paper.specs.Plane.{Line, TouchIn}
-use Rattle.paper.specs.Layouts.{Board, boardOf, held, leader, Layout, EachOnce, Untouching, sum, weighted, total, Proper}
-use Rattle.paper.specs.Problem.{Best, FirstBest, NextBest, LastBest, labeling, labelingOf}
+use Rattle.paper.specs.Layouts.{Board, boardOf, held, leader, Layout, EachOnce, Untouching, sum, weighted, total, Same, Differ, Proper}
+use Rattle.paper.specs.Problem.{Best, Before, FirstBest, NextBest, LastBest, labeling, labelingOf}
 use Rattle.paper.specs.Refusals.{Passed, firstTrials, measureTrials, nextTrials, drawTrials, callsOf, Alone, Named}
 use Rattle.paper.specs.Canvas.{FourTimesIs, DrawnStraight, DrawnBent}
 use Rattle.paper.specs.Promises.{refusalNumber, refusalIn, Kept, coordinates, overwritten, FirstPromise, NextPromise, PagePromise, MeasurePromise, DrawPromise}
@@ -180,8 +180,26 @@ four-times a v = by.Quarter.four-times-mul {a = a} v
 pub drawn-once : (a b : Float) (v : ℤ) → FourTimesIs a v → FourTimesIs b v → a ≡ b
 drawn-once a b v = by.Quarter.four-times-one {a = a} {b = b} v
 
+-- With both weights 0 every untouching layout is best; and every job that is accepted has one.
+pub zero-weights : (b : Board) (f : ℕ → ℕ) → Untouching b f → Best (labeling b (weighted b 0 0)) f
+zero-weights = by.Boards.zero-weights
+
+pub untouching-exists : (job : List ℕ) (lw bw room : ℕ) → Passed (firstTrials job lw bw room) → (f : ℕ → ℕ) × Untouching (boardOf job) f
+untouching-exists job lw bw = regular job lw bw .exists
+
 -- ---- DEMAND 3: the first sheet and then the next until the end gives every best sheet, each exactly once, in order, and no other; the end comes
 
+-- The order is one: no layout comes before itself, what is before is before all that follows, and of two layouts one is before the other or they are the same.
+pub before-irrefl : (b : Board) (f : ℕ → ℕ) → ¬ Before b f f
+before-irrefl = by.Order.before-irrefl
+
+pub before-trans : (b : Board) → Differ b → (f g h : ℕ → ℕ) → Before b f g → Before b g h → Before b f h
+before-trans = by.Order.before-trans
+
+pub before-total : (b : Board) (f g : ℕ → ℕ) → Before b f g ⊎ Same b f g ⊎ Before b g f
+before-total = by.Order.before-total
+
+-- For every accepted job and pair of weights, in the words of Runs.
 pub demand-3 : (job : List ℕ) (lw bw : ℕ) (list : List ℕ) → Passed (firstTrials job lw bw (length list)) → Demand3 (callsOf job lw bw) list
 demand-3 job lw bw list = by.Demand.demand-3 (callsOf job lw bw) list (regular job lw bw)
 

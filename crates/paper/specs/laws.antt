@@ -23,8 +23,8 @@ pub mod Straighten
 pub mod Existence
 pub mod Trying
 pub mod Rank
-pub mod Earliest
 pub mod Kept
+pub mod Earliest
 pub mod Pages
 pub mod Regular
 -- THE THEOREMS: determinacy, each promise can be met, demand 3, a page is what calls of Next give, straightening costs no length, the worked sheets.

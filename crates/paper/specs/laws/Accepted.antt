@@ -134,16 +134,16 @@ module _ (job : List ℕ) (lw bw : ℕ) (list : List ℕ) where
   pub untouching-passed : Passed (firstTrials job lw bw (length list)) → Untouching (boardOf job) (held list) → Passed (measureTrials job lw bw list)
   untouching-passed p u = passed-append (firstTrials job lw bw (length list)) (layoutTrials (boardOf job) list) p (layout-passed (boardOf job) list .1 u)
 
-  -- Next's are if Measure's are and the list holds a best layout;
-  pub best-passed : Passed (measureTrials job lw bw list) → Best (labelingOf job lw bw) (held list) → Passed (nextTrials job lw bw list)
-  best-passed p b = passed-append (measureTrials job lw bw list) (bestTrial (labelingOf job lw bw) list ∷ []) p ((λ i l (u, n). n b), tt)
-
-  -- if the layout is not a best one, Next refuses by 10.
+  -- Next refuses by 10 what passes Measure's trials, if the layout is not a best one;
   pub not-best-refused : Passed (measureTrials job lw bw list) → ¬ Best (labelingOf job lw bw) (held list)
       → RefusedBy (nextTrials job lw bw list) (refusal 10 0 0)
   not-best-refused p n =
       refused-right (measureTrials job lw bw list) (bestTrial (labelingOf job lw bw) list ∷ []) (refusal 10 0 0) p
       (inl (refl, record { inside = omega arith; first = record { here = (measure-accepted p .1, n); none-below = λ j l. absurd (omega arith) }; named = alone }))
+
+  -- its trials are passed if Measure's are and the list holds a best layout.
+  pub best-passed : Passed (measureTrials job lw bw list) → Best (labelingOf job lw bw) (held list) → Passed (nextTrials job lw bw list)
+  best-passed p b = passed-append (measureTrials job lw bw list) (bestTrial (labelingOf job lw bw) list ∷ []) p ((λ i l (u, n). n b), tt)
 
   -- What Measure refuses, Next refuses alike.
   pub measure-refused : (r : Refusal) → RefusedBy (measureTrials job lw bw list) r → RefusedBy (nextTrials job lw bw list) r
