@@ -1,4 +1,5 @@
 -- Layouts on a board: which ports count, 01's criterion for all pairs of pads, and each pad's own port.
+--     layout-iff: each port number stands once;  untouched-iff: the criterion;  untouching-of: own ports come by themselves;  zero-weights
 use mathlib.Core.Path.{_≡_, refl, sym, ap}
 use mathlib.Core.Logic.{_≢_, _⊎_, inl, inr, ⊎-elim, _↔_}
 use Prim.Native.Nat.{ℕ, zero, suc, _<_}

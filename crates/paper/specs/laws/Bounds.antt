@@ -1,4 +1,5 @@
 -- 01: a total is at most 192,000,064,000. So every total that a call answers fits C's number; and so does how many layouts a page has.
+--     first-bounded, next-bounded, measure-bounded, page-counted
 use mathlib.Core.Path.{_≡_}
 use mathlib.Core.List.{List}
 use Prim.Native.Nat.{ℕ, _^_, _≤_, _<_}

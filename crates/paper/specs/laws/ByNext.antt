@@ -1,5 +1,6 @@
 -- A PAGE BY CALLS OF NEXT. What Page replies, refusals too, is what that many calls of Next give; and who goes on from the last layout of a page
--- loses no layout and meets none twice. It is shown of the promises, so of every program that keeps to them. Assumes nothing.
+-- loses no layout and meets none twice. It is shown of the promises, so of every program that keeps to them.
+--     page-by-next, paged-on
 use mathlib.Core.Path.{_≡_, refl, sym, ap, _∙_}
 use mathlib.Core.Logic.{_⊎_, inl, inr, _↔_}
 use mathlib.Core.List.{List, [], _∷_}

@@ -1,4 +1,5 @@
--- What is drawn of a leader: `leaderDrawn` satisfies the paper's words (`drawn-is`), and nothing else does (`drawn-only`). Assumes nothing.
+-- What is drawn of a leader: `leaderDrawn` satisfies the paper's words, and nothing else does.
+--     drawn-is;  straight-one, bent-one;  draw-answers: what Draw then answers;  bent-sheet, straight-sheet: J5's
 use mathlib.Core.Path.{_≡_, refl, ap}
 use mathlib.Core.Bool.{Bool, true, false, cond}
 use mathlib.Core.List.{List}

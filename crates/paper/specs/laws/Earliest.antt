@@ -1,4 +1,5 @@
 -- Where a layout counts there is a best one, an earliest best one, and after each best one the next, or it is the last.
+--     best-exists, first-exists, next-or-last;  listed: a list that holds a layout and keeps the rest
 use mathlib.Core.Path.{_≡_, ap, _∙_}
 use mathlib.Core.Logic.{_⊎_, inl, inr}
 use mathlib.Core.List.{List, _++_}

@@ -1,4 +1,5 @@
 -- Every accepted job has an untouching layout; and leaders that do not touch need not be longer.
+--     untouching-exists;  straight-total: no layout, touching or not, is shorter than some untouching one
 use mathlib.Core.Path.{_≡_}
 use mathlib.Core.Logic.{_≢_, _⊎_, inl, inr}
 use Prim.Native.Nat.{ℕ, _+_, _≤_, _<_}

@@ -1,4 +1,5 @@
 -- Lists that keep their entries from n on.
+--     kept-one: two lists that keep the same and begin alike are one;  kept-trans
 use mathlib.Core.Path.{_≡_, sym, _∙_}
 use mathlib.Core.List.{List}
 use Prim.Native.Nat.{ℕ, _<_}

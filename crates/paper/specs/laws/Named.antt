@@ -1,5 +1,6 @@
 -- THE RECORDS THAT A REFUSAL NAMES. Refusal 9 names the first touching pair. Every other names one record, so that C's number of it is -(65,536 × r + i).
--- Assumes nothing.
+--
+--     measure-named, next-named, first-named, draw-named;  alone-number
 use mathlib.Core.Path.{_≡_, refl, sym, subst}
 use mathlib.Core.Logic.{_≢_, _⊎_, inl, inr}
 use mathlib.Core.List.{List, [], _∷_, _++_}

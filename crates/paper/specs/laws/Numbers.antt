@@ -1,4 +1,6 @@
 -- C's number tells the answer: the numbers of refusals are apart from totals, from the end and from one another.
+--     first-refuses, next-refuses, page-refuses, measure-refuses, draw-refuses: a refusal exactly if a trial fails, and the caller gets it back
+--     total-told, next-total-told, end-told, wrote-told, measure-told, straight-told, bent-told: what every other number tells
 use mathlib.Core.Path.{_≡_, refl, sym, ap, subst, _∙_}
 use mathlib.Core.Logic.{inl, inr}
 use mathlib.Core.List.{List, [], _∷_}

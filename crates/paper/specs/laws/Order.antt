@@ -1,4 +1,5 @@
 -- 01's order is a strict total order on layouts, so that each call has one best layout to answer.
+--     before-irrefl, before-trans, before-total;  first-best-one, next-best-one, next-not-last: at most one such layout;  *-same: only the pads' ports count
 use mathlib.Core.Path.{_≡_, refl, sym, _∙_}
 use mathlib.Core.Logic.{_≢_, _⊎_, inl, inr}
 use Prim.Native.Nat.{ℕ, zero, suc, _<_}

@@ -1,4 +1,5 @@
 -- Pages: there is one page that follows a given layout, and it can be filled, layout by layout.
+--     following-one: there is one page;  page-filled: it can be filled;  follow-one, follow-ends: so with layouts that follow one another
 use mathlib.Core.Path.{_≡_, refl, sym, _∙_}
 use mathlib.Core.Logic.{_≢_, _⊎_, inl, inr, ⊎-elim}
 use mathlib.Core.List.{List}

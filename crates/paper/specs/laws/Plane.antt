@@ -1,6 +1,7 @@
 -- Whole points are enough. On any line of numbers that holds the whole numbers in their order (the fractions, the reals), leaders of pads with
 -- different x share a point with such coordinates exactly if they share a whole one: hands and arms lie along the axes, so that only the order
 -- of the coordinates counts.
+--     touch-plane;  fractions: a line that is one
 use mathlib.Core.Path.{_≡_, refl, sym, _∙_, subst}
 use mathlib.Core.Logic.{_≢_, _⊎_, inl, inr, _↔_}
 use Prim.Native.Nat.{ℕ, _+_, _*_, _≤_, _<_}

@@ -1,5 +1,5 @@
--- A whole number of the job is drawn as the 32-bit float that is a quarter of it. Below 2 ^ 24 this float is exact (`quarter-is`), no other is
--- (`quarter-only`), and it tells the number (`quarter-injective`). Assumes nothing.
+-- A whole number of the job is drawn as the 32-bit float that is a quarter of it. Below 2 ^ 24 this float is exact, and no other is.
+--     quarter-is, quarter-only;  quarter-of-cast: how it is computed;  four-times-mul: four times it is the number;  negated-after-differs: why y is reversed first
 use mathlib.Core.Path.{_≡_, refl, sym, ap, _∙_, subst}
 use Prim.Native.Nat.{ℕ, _*_, _^_, _≤_, _<_}
 use native.Mathlib.Nat.{lt-of-lt-of-le, mul-assoc, mul-one, zero-lt-suc, zero-mul, mul-pos, lt-irrefl}

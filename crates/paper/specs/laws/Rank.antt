@@ -1,4 +1,5 @@
 -- A layout's rank: how many assignments come before it. It rises with 01's order and has a top, so that the order can be climbed only finitely often.
+--     rank-rises, rank-top
 use mathlib.Core.Path.{refl, sym}
 use mathlib.Core.Logic.{⊎-elim}
 use mathlib.Core.Bool.{Bool, true, false}

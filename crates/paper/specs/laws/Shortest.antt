@@ -1,5 +1,6 @@
 -- STRAIGHTENING COSTS NO LENGTH. For bend weight 0 a best layout is the least of all layouts, touching or not; with a bend weight it need not be.
--- Assumes nothing.
+--
+--     best-of-all, straightening-costs-no-length, bends-can-cost
 use mathlib.Core.Path.{_≡_, refl, ap, _∙_}
 use mathlib.Core.Logic.{_≢_, inl, inr, ⊎-elim}
 use mathlib.Core.List.{List, [], _∷_}

@@ -1,6 +1,7 @@
 -- STRAIGHTENING, for any cost and any rule of touching that obey `Uncross`: a layout becomes one in which no leader touches another, at no greater total.
 -- While a leader touches that of a pad further left, the two pads swap their ports. This ends: the left pad's cost falls, and the right one's rises by no
 -- more; so the sum of the costs, each times a weight that is the larger the further left its pad is, falls.
+--     straighten
 use mathlib.Core.Path.{_≡_, ap}
 use mathlib.Core.Logic.{_≢_, _⊎_, inl, inr, ⊎-elim}
 use Prim.Native.Nat.{ℕ, zero, suc, _+_, _*_, _-_, _≤_, _<_}

@@ -1,4 +1,5 @@
 -- Sums of costs, and the total of a layout as 01 says it.
+--     total-is: in 01's words;  bends-iff;  total-bound
 use mathlib.Core.Path.{_≡_, refl, sym, ap}
 use mathlib.Core.Logic.{_≢_, _↔_, ite, if-pos, if-neg}
 use mathlib.Core.Bool.{Bool, true, false, cond}

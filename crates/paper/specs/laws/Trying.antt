@@ -1,4 +1,5 @@
 -- Trying every assignment of ports to pads, as a program would: tests that tell whether a layout is best, the first, the next or the last.
+--     best-iff, first-iff, next-iff, last-iff: of any problem that is searchable;  labeling-searchable: one-sided labeling is
 use mathlib.Core.Path.{_≡_, refl, sym, ap}
 use mathlib.Core.Logic.{_⊎_, inl, inr, ⊎-elim, _↔_}
 use mathlib.Core.Bool.{Bool, false, not, _&&_, _||_}

@@ -1,4 +1,5 @@
 -- One record byte by byte, and one drawn leader place by place: offsets, little-endian, two's complement, x before y.
+--     fields-read, coordinates-read
 use mathlib.Core.Path.{_≡_, refl}
 use mathlib.Core.List.{List, [], _∷_}
 use Prim.Native.Nat.{ℕ}

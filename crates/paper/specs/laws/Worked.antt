@@ -1,5 +1,6 @@
 -- THE WORKED SHEETS, P1 to P12 and those for 12 and 9, by one theorem over one list, and Page's by another: a test that the checker computes for each sheet,
--- and a lemma that turns the test into the call's promise. Assumes nothing.
+-- and a lemma that turns the test into the call's promise.
+--     worked, worked-pages
 use mathlib.Core.Path.{_≡_, refl, sym, ap, _∙_}
 use mathlib.Core.Logic.{_↔_}
 use mathlib.Core.Bool.{Bool, true, false, not, _&&_, _||_}
