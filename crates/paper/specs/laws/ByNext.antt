@@ -18,7 +18,7 @@ use Rattle.paper.specs.Promises.{inTurn, Following, NextReplies, PageRep
 use Rattle.paper.specs.Runs.{NextRun, NextSoFar, NotRefused, ByNext, PageByNext, PagedOn}
 use Rattle.paper.specs.laws.Order.{Steady, best-same, next-same, last-of-same}
 use Rattle.paper.specs.laws.Numbers.{refusal-low, next-total-told, end-told, wrote-told}
-use Rattle.paper.specs.laws.Earliest.{listed}
+use Rattle.paper.specs.laws.Kept.{listed}
 use Rattle.paper.specs.laws.Pages.{Follow, follow-best, follow-one, follow-ends}
 use Rattle.paper.specs.laws.Regular.{Regular}
 use Rattle.paper.specs.laws.Met.{Steps, next-made}

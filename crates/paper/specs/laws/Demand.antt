@@ -19,9 +19,8 @@ use Rattle.paper.specs.Runs.{NextRun, Run, NextSoFar, SoFar, Once, Deman
 use Rattle.paper.specs.laws.Order.{before-irrefl, before-trans, before-total, best-same}
 use Rattle.paper.specs.laws.Rank.{rank, rank-rises, rank-top}
 use Rattle.paper.specs.laws.Trying.{words, Searchable, best-inside}
-use Rattle.paper.specs.laws.Earliest.{listed}
 use Rattle.paper.specs.laws.Numbers.{total-told, next-total-told, end-told}
-use Rattle.paper.specs.laws.Kept.{kept-trans, kept-one}
+use Rattle.paper.specs.laws.Kept.{kept-trans, kept-one, listed}
 use Rattle.paper.specs.laws.Regular.{Regular}
 use Rattle.paper.specs.laws.Met.{Steps, first-made, next-made}
 

@@ -1,17 +1,12 @@
 -- Where a layout counts there is a best one, an earliest best one, and after each best one the next, or it is the last.
---     best-exists, first-exists, next-or-last;  listed: a list that holds a layout and keeps the rest
-use mathlib.Core.Path.{_≡_, ap, _∙_}
+--     best-exists, first-exists, next-or-last
 use mathlib.Core.Logic.{_⊎_, inl, inr}
-use mathlib.Core.List.{List, _++_}
-use Prim.Native.Nat.{ℕ, _+_, _-_, _<_, _≤_}
+use Prim.Native.Nat.{ℕ, _<_}
 use native.Mathlib.Omega.{arith}
-use lib.ListN.{length, getD, drop, length-append, length-drop, List·getD-append}
-use lib.Seq.{getD-append-add, getD-drop}
 use Rattle.paper.specs.Problem.{Problem, Best, Before, FirstBest, NextBest, LastBest}
-use Rattle.paper.specs.Promises.{Kept}
 use Rattle.paper.specs.laws.Straighten.{descend}
 use Rattle.paper.specs.laws.Rank.{rank, rank-rises}
-use Rattle.paper.specs.laws.Trying.{row, row-length, row-at, Tells, Searchable, laterTest, some-word-dec, some-less-dec}
+use Rattle.paper.specs.laws.Trying.{Tells, Searchable, laterTest, some-word-dec, some-less-dec}
 use Rattle.paper.specs.laws.Trying.{counts-tells, cheaper-tells, before-tells, best-tells, best-inside, later-tells}
 
 -- From a function with the property P one comes to a least one, if a lesser one can be found or denied, and a number falls from each to a lesser one.
@@ -54,20 +49,3 @@ module _ (p : Problem) (S : Searchable p) where
           let try = some-less-dec (p .board) (before-tells (p .board)) later (λ g t. best-inside p S g (t .1)) in
           let r = least-exists (rank (p .board)) (λ g f t. rank-falls g f (t .1)) try f k in
           inl (r .0, record { best = r .1 .1; later = r .1 .0; earliest = λ g t h. r .2 g (h, t) })
-
--- A list that holds f in its first n entries and keeps the rest.
-pub listed : (n : ℕ) (f : ℕ → ℕ) (before : List ℕ) → n ≤ length before → (after : List ℕ) × ((i : ℕ) → i < n → getD after i 0 ≡ f i) × Kept n before after
-listed n f before l = (row n f ++ drop n before, entry, record { long = long; rest = rest })
-  where
-    entry : (i : ℕ) → i < n → getD (row n f ++ drop n before) i 0 ≡ f i
-    entry i h = List·getD-append (row n f) (drop n before) 0 i (omega (arith, row-length n f)) ∙ row-at n f i h
-
-    long : length (row n f ++ drop n before) ≡ length before
-    long = omega (arith, length-append (row n f) (drop n before), row-length n f, length-drop n before)
-
-    rest : (k : ℕ) → n ≤ k → getD (row n f ++ drop n before) k 0 ≡ getD before k 0
-    rest k h =
-        let e : k ≡ length (row n f) + (k - n) = omega (arith, row-length n f) in
-        let d : n + (k - n) ≡ k = omega arith in
-        ap (λ (m : ℕ). getD (row n f ++ drop n before) m 0) e ∙ getD-append-add (row n f) (drop n before) (k - n) 0
-        ∙ getD-drop n before (k - n) 0 ∙ ap (λ (m : ℕ). getD before m 0) d

@@ -16,7 +16,8 @@ use Rattle.paper.specs.Refusals.{Passed, drawTrials, Calls, entries}
 use Rattle.paper.specs.Promises.{number, pagedNumber, drawnNumber, coordinates, overwritten, FirstOver, NextOver}
 use Rattle.paper.specs.Promises.{FirstReplies, NextReplies, PageReplies, MeasureReplies, DrawPromise}
 use Rattle.paper.specs.laws.Order.{first-best-same, next-best-same}
-use Rattle.paper.specs.laws.Earliest.{first-exists, next-or-last, listed}
+use Rattle.paper.specs.laws.Earliest.{first-exists, next-or-last}
+use Rattle.paper.specs.laws.Kept.{listed}
 use Rattle.paper.specs.laws.Decided.{Decided, draw-decided}
 use Rattle.paper.specs.laws.Regular.{Regular}
 use Rattle.paper.specs.laws.Pages.{page-filled}
