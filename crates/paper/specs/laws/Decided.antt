@@ -12,7 +12,7 @@ use Rattle.numbers.specs.Tests.{both, either, dec-iff, not-iff, ltb-iff, eqb-if
 use Rattle.paper.specs.declared.Refusal.{Refusal}
 use Rattle.paper.specs.Job.{count}
 use Rattle.paper.specs.Layouts.{Board, boardOf, held, leader, Touching}
-use Rattle.paper.specs.Refusals.{Trial, Smallest, Clean, FirstFault, Passed, RefusedBy, refusal, ofEach, ofWhole, ofPairs}
+use Rattle.paper.specs.Refusals.{Trial, Smallest, Clean, FirstFault, Passed, RefusedBy, ofEach, ofWhole, ofPairs}
 use Rattle.paper.specs.Refusals.{BadSize, BadWeight, SameName, SameX, jobTrials, layoutTrials, firstTrials, measureTrials, drawTrials}
 use Rattle.paper.specs.Layouts.{Differ}
 use Rattle.paper.specs.laws.Tests.{Test, atEach, atPairs, atWhole, somewhere, withEarlier, somewhere-iff, with-earlier-iff}
@@ -57,16 +57,15 @@ clean-or-faulty t d = ⊎-elim (λ (i, l, s). inr (faulty i l s)) inl (smallest-
 -- THEOREM. Such a trial in front of trials that are decided where it is clean.
 pub decided-more : (t : Trial) (ts : List Trial) → Decidable t → (Clean t → Decided ts) → Decided (t ∷ ts)
 decided-more t ts d k =
-    ⊎-elim (λ c. ⊎-elim (λ p. inl (c, p)) (λ (r, a). inr (r, inr (c, a))) (k c)) (λ (i, j, f). inr (refusal (t .reason) i j, inl (refl, f))) (clean-or-faulty t d)
+    ⊎-elim
+    (λ c. ⊎-elim (λ p. inl (c, p)) (λ (r, a). inr (r, inr (c, a))) (k c))
+    (λ (i, j, f). inr (record { reason = t .reason; at = i; earlier = j }, inl (refl, f)))
+    (clean-or-faulty t d)
 
 -- THEOREM. One list after another; the second may go by the first being passed.
 pub decided-append : (ts us : List Trial) → Decided ts → (Passed ts → Decided us) → Decided (ts ++ us)
 decided-append ts us d k =
     ⊎-elim (λ p. ⊎-elim (λ q. inl (passed-append ts us p q)) (λ (r, a). inr (r, refused-right ts us r p a)) (k p)) (λ (r, a). inr (r, refused-left ts us r a)) d
-
--- A trial of the whole input.
-pub whole-decidable : (r : ℕ) (P : Type 0) → Dec P → Decidable (ofWhole r P)
-whole-decidable r P d = record { fault-dec = λ i l. d; beside-dec = λ i j l. dec-iff (eqb j 0) (eqb-iff j 0); one-beside = λ i l x. (0, refl) }
 
 -- ---- tests that compute them
 
@@ -113,6 +112,10 @@ tells-pairs r n R q says = record {
   );
   some-beside = λ i l (j, k, x). (j, (k, x));
 }
+
+-- A trial of the whole input that no test computes.
+pub whole-decidable : (r : ℕ) (P : Type 0) → Dec P → Decidable (ofWhole r P)
+whole-decidable r P d = record { fault-dec = λ i l. d; beside-dec = λ i j l. dec-iff (eqb j 0) (eqb-iff j 0); one-beside = λ i l x. (0, refl) }
 
 -- The tests say what the trials say; a later one may go by the earlier trials being clean.
 abbrev pub Told : List Test → List Trial → Type 0
