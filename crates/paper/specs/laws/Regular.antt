@@ -1,19 +1,19 @@
 -- What the theorems ask of calls, and that 01's are such.
 --     Regular   their trials can be told, their refusals numbered; what First accepts has a best layout and room for it; and Next accepts the best layouts
 --     regular   01's calls, on every job with its weights
-use mathlib.Core.Logic.{_⊎_, inl, inr, _↔_}
-use mathlib.Core.List.{List}
+use mathlib.Core.Logic.{inl, _↔_}
+use mathlib.Core.List.{List, [], _∷_}
 use Prim.Native.Nat.{ℕ, _≤_, _<_}
 use native.Mathlib.Omega.{arith}
 use lib.ListN.{length}
 use Rattle.paper.specs.Layouts.{boardOf, held, weighted, Untouching}
 use Rattle.paper.specs.Problem.{Best, labelingOf}
-use Rattle.paper.specs.Refusals.{Passed, refusal, firstTrials, measureTrials, nextTrials, Calls, entries, callsOf}
+use Rattle.paper.specs.Refusals.{Passed, refusal, firstTrials, measureTrials, nextTrials, bestTrial, Calls, entries, callsOf}
 use Rattle.paper.specs.laws.Trials.{not-both}
-use Rattle.paper.specs.laws.Decided.{Decided, first-decided, measure-decided}
+use Rattle.paper.specs.laws.Decided.{Decided, decided-more, decided-append, whole-decidable, first-decided, measure-decided}
 use Rattle.paper.specs.laws.Trying.{Searchable, best-dec, labeling-searchable}
 use Rattle.paper.specs.laws.Existence.{untouching-exists}
-use Rattle.paper.specs.laws.Accepted.{Accepted, first-accepted, measure-accepted, untouching-passed, next-measured, best-passed, not-best-refused, measure-refused}
+use Rattle.paper.specs.laws.Accepted.{Accepted, first-accepted, measure-accepted, untouching-passed, next-measured, best-passed, not-best-refused}
 use Rattle.paper.specs.laws.Numbers.{Numbered, numbered}
 
 pub record Regular (c : Calls) : Type 0 where
@@ -38,17 +38,19 @@ module _ (job : List ℕ) (lw bw : ℕ) where
   searchable : (room : ℕ) → Passed (firstTrials job lw bw room) → Searchable (labelingOf job lw bw)
   searchable room p = labeling-searchable (boardOf job) (weighted (boardOf job) lw bw) (accepted room p .proper .differ)
 
-  -- 10 is tried by trying every assignment.
+  -- 10 is decided by trying every assignment.
   next-decided : (list : List ℕ) → Decided (nextTrials job lw bw list)
-  next-decided list = go (measure-decided job lw bw list)
+  next-decided list =
+      decided-append (measureTrials job lw bw list) (bestTrial (labelingOf job lw bw) list ∷ []) (measure-decided job lw bw list) (λ p.
+      decided-more (bestTrial (labelingOf job lw bw) list) [] (whole-decidable 10 _ (worse (measure-accepted job lw bw list p))) (λ _. inl tt))
     where
-      judge : (p : Passed (measureTrials job lw bw list)) → Dec (Best (labelingOf job lw bw) (held list)) → Decided (nextTrials job lw bw list)
-      judge p (yes best) = inl (best-passed job lw bw list p best)
-      judge p (no worse) = inr (refusal 10 0 0, not-best-refused job lw bw list p worse)
-
-      go : Decided (measureTrials job lw bw list) → Decided (nextTrials job lw bw list)
-      go (inl p) = judge p (best-dec (labelingOf job lw bw) (searchable (length list) (measure-accepted job lw bw list p .0)) (held list))
-      go (inr (r, a)) = inr (r, measure-refused job lw bw list r a)
+      worse : Passed (firstTrials job lw bw (length list)) × Untouching (boardOf job) (held list)
+          → Dec (Untouching (boardOf job) (held list) × ¬ Best (labelingOf job lw bw) (held list))
+      worse (p, u) = go (best-dec (labelingOf job lw bw) (searchable (length list) p) (held list))
+        where
+          go : Dec (Best (labelingOf job lw bw) (held list)) → Dec (Untouching (boardOf job) (held list) × ¬ Best (labelingOf job lw bw) (held list))
+          go (yes best) = no (λ (v, n). n best)
+          go (no n) = yes (u, n)
 
   pub regular : Regular (callsOf job lw bw)
   regular = record {
