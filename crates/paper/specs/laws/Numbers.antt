@@ -2,7 +2,7 @@
 --     first-refuses, next-refuses, page-refuses, measure-refuses, draw-refuses: a refusal exactly if a trial fails, and the caller gets it back
 --     total-told, next-total-told, end-told, wrote-told, measure-told, straight-told, bent-told: what every other number tells
 use mathlib.Core.Path.{_≡_, refl, sym, ap, subst, _∙_}
-use mathlib.Core.Logic.{inl, inr}
+use mathlib.Core.Logic.{_⊎_, inl, inr}
 use mathlib.Core.List.{List, [], _∷_}
 use Prim.Native.Nat.{ℕ, zero, suc, _+_, _*_, _/_, _%_, _≤_, _<_}
 use native.Mathlib.Omega.{arith}
@@ -14,13 +14,15 @@ use Rattle.numbers.specs.Whole.{whole, eq-num, neg-nums}
 use Rattle.paper.specs.declared.Refusal.{Refusal}
 use Rattle.paper.specs.declared.Answer.{Answer}
 use Rattle.paper.specs.declared.Answer.the-variants.{Total, End, Refused}
+use Rattle.paper.specs.declared.Paged.{Paged}
 use Rattle.paper.specs.declared.Paged.the-variants.{Wrote, Refused as NotPaged}
 use Rattle.paper.specs.declared.Two.{Two}
 use Rattle.paper.specs.declared.Three.{Three}
+use Rattle.paper.specs.declared.Drawn.{Drawn}
 use Rattle.paper.specs.declared.Drawn.the-variants.{Straight, Bent, Refused as NotDrawn}
 use Rattle.paper.specs.Problem.{labelingOf}
 use Rattle.paper.specs.Refusals.{Trial, Clean, Passed, RefusedBy, firstTrials, measureTrials, nextTrials, drawTrials, bestTrial, Calls, callsOf}
-use Rattle.paper.specs.Promises.{refusalNumber, refusalIn, number, FirstOver, NextOver, PageOver, MeasureOver, DrawAnswers}
+use Rattle.paper.specs.Promises.{refusalNumber, refusalIn, number, pagedNumber, drawnNumber, FirstOver, NextOver, PageOver, MeasureOver, DrawAnswers}
 use Rattle.paper.specs.Promises.{FirstReplies, NextReplies, PageReplies, MeasureReplies, DrawPromise, RefusesBy}
 use Rattle.paper.specs.laws.Trials.{not-both, refused-left}
 use Rattle.paper.specs.laws.Accepted.{few-records}
@@ -63,10 +65,6 @@ refusal-back r s = λ i. record { reason = reason i; at = at i; earlier = earlie
     earlier : natAbs (refusalNumber r) / 4294967296 ≡ r .earlier
     earlier = rw size (omega arith)
 
--- So refusals with the same number are the same.
-refusal-told : (r s : Refusal) → SmallRefusal r → SmallRefusal s → refusalNumber r ≡ refusalNumber s → r ≡ s
-refusal-told r s a b e = sym (refusal-back r a) ∙ ap refusalIn e ∙ refusal-back s b
-
 -- ---- refusals by trials are such
 
 -- Each trial has a number of 1 or more, of 16 bits, and is tried at 65,536 records at most if the trials before it are clean.
@@ -89,113 +87,86 @@ pub record Numbered (c : Calls) : Type 0 where
 small-back : (r : Refusal) (c : ℤ) → SmallRefusal r → c ≡ refusalNumber r → r ≡ refusalIn c
 small-back r c w e = sym (refusal-back r w) ∙ ap refusalIn (sym e)
 
--- -65,536 or less is no number of 0 or more.
-low-apart : (t : ℕ) (c : ℤ) → c ≡ pos t → c ≤ℤ negℤ (pos 65536) → ⊥
-low-apart t c e l = omega (whole, eq-num c (pos t) e, neg-nums (pos 65536))
+-- ---- what C's number tells
 
--- ---- the number of an answer tells the answer
+-- What an answer says of its call's trials: one of them refuses, and it has the refusal's number; or all are passed, and its number is the end's, -1, or more.
+abbrev Says : List Trial → Type 0 → ℤ → Type 0
+Says ts Unchanged n = ((r : Refusal) × RefusedBy ts r × Unchanged × (n ≡ refusalNumber r)) ⊎ (Passed ts × (negsuc 0 ≤ℤ n))
 
--- An answer whose refusal, if it is one, is such.
-abbrev pub Small : Answer → Type 0
-Small (Total t) = Unit {0}
-Small End = Unit {0}
-Small (Refused r) = SmallRefusal r
-
--- THEOREM: such answers with the same number are the same.
-pub number-tells : (a b : Answer) → Small a → Small b → number a ≡ number b → a ≡ b
-number-tells (Total t) (Total u) s w e = cc
-number-tells (Total t) End s w e = cc
-number-tells (Total t) (Refused r) s w e = absurd (refusal-apart r t w e)
-number-tells End (Total u) s w e = cc
-number-tells End End s w e = refl
-number-tells End (Refused r) s w e = absurd (refusal-not-end r w e)
-number-tells (Refused r) (Total u) s w e = absurd (refusal-apart r u s (sym e))
-number-tells (Refused r) End s w e = absurd (refusal-not-end r s (sym e))
-number-tells (Refused r) (Refused q) s w e = ap Refused (refusal-told r q s w e)
-
-module _ (P : Answer → Type 0) (refused : (r : Refusal) → P (Refused r) → SmallRefusal r) where
-  small : (a : Answer) → P a → Small a
-  small (Total t) p = tt
-  small End p = tt
-  small (Refused r) p = refused r p
-
-  told : (a : Answer) → Small a → ((b : Answer) × P b × (number a ≡ number b)) → P a
-  told a s (b, p, e) = subst P (number-tells b a (small b p) s (sym e)) p
-
-  back : (c : ℤ) → ((a : Answer) × P a × (c ≡ number a)) → c ≤ℤ negℤ (pos 65536) → P (Refused (refusalIn c))
-  back c (Total t, p, e) l = absurd (low-apart t c e l)
-  back c (End, p, e) l = absurd (omega (whole, eq-num c (negsuc 0) e, neg-nums (pos 65536)))
-  back c (Refused r, p, e) l = subst (λ (r : Refusal). P (Refused r)) (small-back r c (refused r p) e) p
+-- So the number refuses exactly what a trial refuses, and the caller gets the refusal back from it.
+says-refuses : (ts : List Trial) (Unchanged : Type 0) (m : ℤ) → ((r : Refusal) → RefusedBy ts r → SmallRefusal r) → Says ts Unchanged m → RefusesBy ts m Unchanged
+says-refuses ts U m narrow (inl (r, x, u, n)) = record {
+  exactly = ((λ l p. not-both ts r p x), (λ _. rw n (refusal-low r (narrow r x))));
+  named = λ l. (subst (RefusedBy ts) (small-back r m (narrow r x) n) x, u);
+}
+says-refuses ts U m narrow (inr (p, h)) = record { exactly = ((λ l. absurd (high l)), (λ n. absurd (n p))); named = λ l. absurd (high l) }
+  where
+    high : m ≤ℤ negℤ (pos 65536) → ⊥
+    high l = omega (whole, neg-nums (pos 65536))
 
 module _ (c : Calls) (N : Numbered c) where
+  -- First: a number of 0 or more is the total.
   module _ (before after : List ℕ) where
-    -- A number of 0 or more is the total, and -1 is the end;
     pub total-told : (t : ℕ) → FirstReplies c before (pos t) after → FirstOver c before (Total t) after
-    total-told t = told (λ a. FirstOver c before a after) (λ r p. N .first (length before) r (p .0)) (Total t) tt
+    total-told t (Total u, p, e) = let n : u ≡ t = cc in rw n at p
+    total-told t (End, p, e) = absurd p
+    total-told t (Refused r, p, e) = absurd (refusal-apart r t (N .first (length before) r (p .0)) e)
 
+    pub first-refuses : (m : ℤ) → FirstReplies c before m after → RefusesBy (c .first (length before)) m (after ≡ before)
+    first-refuses m (a, p, e) = says-refuses (c .first (length before)) (after ≡ before) m (N .first (length before)) (rw e (says a p))
+      where
+        says : (a : Answer) → FirstOver c before a after → Says (c .first (length before)) (after ≡ before) (number a)
+        says (Total t) p = inr (p .0, omega whole)
+        says End p = absurd p
+        says (Refused r) p = inl (r, p .0, p .1, refl)
+
+  -- Next: the same, and -1 is the end.
+  module _ (before after : List ℕ) where
     pub next-total-told : (t : ℕ) → NextReplies c before (pos t) after → NextOver c before (Total t) after
-    next-total-told t = told (λ a. NextOver c before a after) (λ r p. N .next before r (p .0)) (Total t) tt
+    next-total-told t (Total u, p, e) = let n : u ≡ t = cc in rw n at p
+    next-total-told t (End, p, e) = absurd (omega (whole, eq-num (pos t) (negsuc 0) e))
+    next-total-told t (Refused r, p, e) = absurd (refusal-apart r t (N .next before r (p .0)) e)
 
     pub end-told : NextReplies c before (negsuc 0) after → NextOver c before End after
-    end-told = told (λ a. NextOver c before a after) (λ r p. N .next before r (p .0)) End tt
-
-    -- one of -65,536 or less is a refusal, and the caller gets its number and both its records back from it.
-    pub first-back : (m : ℤ) → FirstReplies c before m after → m ≤ℤ negℤ (pos 65536) → FirstOver c before (Refused (refusalIn m)) after
-    first-back = back (λ a. FirstOver c before a after) (λ r p. N .first (length before) r (p .0))
-
-    pub next-back : (m : ℤ) → NextReplies c before m after → m ≤ℤ negℤ (pos 65536) → NextOver c before (Refused (refusalIn m)) after
-    next-back = back (λ a. NextOver c before a after) (λ r p. N .next before r (p .0))
-
-    -- So it refuses exactly what a trial refuses.
-    pub first-refuses : (m : ℤ) → FirstReplies c before m after → RefusesBy (c .first (length before)) m (after ≡ before)
-    first-refuses m P = record { exactly = ((λ l p. not-both (c .first (length before)) (refusalIn m) p (first-back m P l .0)), go P); named = first-back m P }
-      where
-        go : FirstReplies c before m after → ¬ Passed (c .first (length before)) → m ≤ℤ negℤ (pos 65536)
-        go (Total t, p, e) n = absurd (n (p .0))
-        go (End, p, e) n = absurd p
-        go (Refused r, p, e) n = rw e (refusal-low r (N .first (length before) r (p .0)))
+    end-told (Total u, p, e) = absurd (omega (whole, eq-num (negsuc 0) (pos u) e))
+    end-told (End, p, e) = p
+    end-told (Refused r, p, e) = absurd (refusal-not-end r (N .next before r (p .0)) e)
 
     pub next-refuses : (m : ℤ) → NextReplies c before m after → RefusesBy (c .next before) m (after ≡ before)
-    next-refuses m P = record { exactly = ((λ l p. not-both (c .next before) (refusalIn m) p (next-back m P l .0)), go P); named = next-back m P }
+    next-refuses m (a, p, e) = says-refuses (c .next before) (after ≡ before) m (N .next before) (rw e (says a p))
       where
-        go : NextReplies c before m after → ¬ Passed (c .next before) → m ≤ℤ negℤ (pos 65536)
-        go (Total t, p, e) n = absurd (n (p .0))
-        go (End, p, e) n = absurd (n (p .0))
-        go (Refused r, p, e) n = rw e (refusal-low r (N .next before r (p .0)))
+        says : (a : Answer) → NextOver c before a after → Says (c .next before) (after ≡ before) (number a)
+        says (Total t) p = inr (p .0, omega whole)
+        says End p = inr (p .0, omega whole)
+        says (Refused r) p = inl (r, p .0, p .1, refl)
 
-  pub measure-told : (list : List ℕ) (t : ℕ) → MeasureReplies c list (pos t) → MeasureOver c list (Total t)
-  measure-told list t = told (MeasureOver c list) (N .measure list) (Total t) tt
+  -- Measure.
+  module _ (list : List ℕ) where
+    pub measure-told : (t : ℕ) → MeasureReplies c list (pos t) → MeasureOver c list (Total t)
+    measure-told t (Total u, p, e) = let n : u ≡ t = cc in rw n at p
+    measure-told t (End, p, e) = absurd p
+    measure-told t (Refused r, p, e) = absurd (refusal-apart r t (N .measure list r p) e)
 
-  pub measure-back : (list : List ℕ) (m : ℤ) → MeasureReplies c list m → m ≤ℤ negℤ (pos 65536) → MeasureOver c list (Refused (refusalIn m))
-  measure-back list = back (MeasureOver c list) (N .measure list)
+    pub measure-refuses : (m : ℤ) → MeasureReplies c list m → RefusesBy (c .measure list) m (Unit {0})
+    measure-refuses m (a, p, e) = says-refuses (c .measure list) (Unit {0}) m (N .measure list) (rw e (says a p))
+      where
+        says : (a : Answer) → MeasureOver c list a → Says (c .measure list) (Unit {0}) (number a)
+        says (Total t) p = inr (p .0, omega whole)
+        says End p = absurd p
+        says (Refused r) p = inl (r, p, tt, refl)
 
-  pub measure-refuses : (list : List ℕ) (m : ℤ) → MeasureReplies c list m → RefusesBy (c .measure list) m (Unit {0})
-  measure-refuses list m P = record {
-    exactly = ((λ l p. not-both (c .measure list) (refusalIn m) p (measure-back list m P l)), go P);
-    named = λ l. (measure-back list m P l, tt);
-  }
-    where
-      go : MeasureReplies c list m → ¬ Passed (c .measure list) → m ≤ℤ negℤ (pos 65536)
-      go (Total t, p, e) n = absurd (n (p .0))
-      go (End, p, e) n = absurd p
-      go (Refused r, p, e) n = rw e (refusal-low r (N .measure list r p))
-
-  -- Page's number is that of the layouts written, or such a refusal's.
+  -- Page: a number of 0 or more is that of the layouts written.
   module _ (given before after : List ℕ) where
     pub wrote-told : (k : ℕ) → PageReplies c given before (pos k) after → PageOver c given before (Wrote k) after
     wrote-told k (Wrote m, p, e) = let n : m ≡ k = cc in rw n at p
     wrote-told k (NotPaged r, p, e) = absurd (refusal-apart r k (N .next given r (p .0)) e)
 
-    pub page-back : (m : ℤ) → PageReplies c given before m after → m ≤ℤ negℤ (pos 65536) → PageOver c given before (NotPaged (refusalIn m)) after
-    page-back m (Wrote k, p, e) l = absurd (low-apart k m e l)
-    page-back m (NotPaged r, p, e) l = subst (λ (r : Refusal). PageOver c given before (NotPaged r) after) (small-back r m (N .next given r (p .0)) e) p
-
     pub page-refuses : (m : ℤ) → PageReplies c given before m after → RefusesBy (c .next given) m (after ≡ before)
-    page-refuses m P = record { exactly = ((λ l p. not-both (c .next given) (refusalIn m) p (page-back m P l .0)), go P); named = page-back m P }
+    page-refuses m (a, p, e) = says-refuses (c .next given) (after ≡ before) m (N .next given) (rw e (says a p))
       where
-        go : PageReplies c given before m after → ¬ Passed (c .next given) → m ≤ℤ negℤ (pos 65536)
-        go (Wrote k, p, e) n = absurd (n (p .0))
-        go (NotPaged r, p, e) n = rw e (refusal-low r (N .next given r (p .0)))
+        says : (a : Paged) → PageOver c given before a after → Says (c .next given) (after ≡ before) (pagedNumber a)
+        says (Wrote k) p = inr (p .0, omega whole)
+        says (NotPaged r) p = inl (r, p .0, p .1, refl)
 
 -- ---- 01's
 
@@ -212,34 +183,28 @@ numbered job lw bw = record {
 -- ---- Draw
 
 module _ (job : List ℕ) (i q : ℕ) (before after : List Float) where
-  drawn-small : (r : Refusal) → DrawAnswers job i q before (NotDrawn r) after → SmallRefusal r
-  drawn-small r p =
+  narrow : (r : Refusal) → RefusedBy (drawTrials job i q (length before)) r → SmallRefusal r
+  narrow r =
       refused-small (drawTrials job i q (length before)) r
-      (omega arith, omega arith, omega arith, λ c. let few = few-records job (c 0 (omega arith)) in omega arith) (p .0)
+      (omega arith, omega arith, omega arith, λ c. let few = few-records job (c 0 (omega arith)) in omega arith)
 
   -- 2 points are a leader without a bend,
   pub straight-told : DrawPromise job i q before (pos 2) after → (d : Two) × DrawAnswers job i q before (Straight d) after
   straight-told (Straight d, p, e) = (d, p)
   straight-told (Bent d, p, e) = absurd (let n : _≡_ {A = ℕ} 2 3 = cc in omega arith)
-  straight-told (NotDrawn r, p, e) = absurd (refusal-apart r 2 (drawn-small r p) e)
+  straight-told (NotDrawn r, p, e) = absurd (refusal-apart r 2 (narrow r (p .0)) e)
 
   -- 3 points one with a bend,
   pub bent-told : DrawPromise job i q before (pos 3) after → (d : Three) × DrawAnswers job i q before (Bent d) after
   bent-told (Straight d, p, e) = absurd (let n : _≡_ {A = ℕ} 2 3 = cc in omega arith)
   bent-told (Bent d, p, e) = (d, p)
-  bent-told (NotDrawn r, p, e) = absurd (refusal-apart r 3 (drawn-small r p) e)
+  bent-told (NotDrawn r, p, e) = absurd (refusal-apart r 3 (narrow r (p .0)) e)
 
-  -- and -65,536 or less is a refusal, which the caller gets back.
-  pub draw-back : (c : ℤ) → DrawPromise job i q before c after → c ≤ℤ negℤ (pos 65536) → DrawAnswers job i q before (NotDrawn (refusalIn c)) after
-  draw-back c (Straight d, p, e) l = absurd (low-apart 2 c e l)
-  draw-back c (Bent d, p, e) l = absurd (low-apart 3 c e l)
-  draw-back c (NotDrawn r, p, e) l =
-      subst (λ (r : Refusal). DrawAnswers job i q before (NotDrawn r) after) (small-back r c (drawn-small r p) e) p
-
+  -- and every other number is a refusal.
   pub draw-refuses : (m : ℤ) → DrawPromise job i q before m after → RefusesBy (drawTrials job i q (length before)) m (after ≡ before)
-  draw-refuses m P = record { exactly = ((λ l p. not-both (drawTrials job i q (length before)) (refusalIn m) p (draw-back m P l .0)), go P); named = draw-back m P }
+  draw-refuses m (d, p, e) = says-refuses (drawTrials job i q (length before)) (after ≡ before) m narrow (rw e (says d p))
     where
-      go : DrawPromise job i q before m after → ¬ Passed (drawTrials job i q (length before)) → m ≤ℤ negℤ (pos 65536)
-      go (Straight d, p, e) n = absurd (n (p .0))
-      go (Bent d, p, e) n = absurd (n (p .0))
-      go (NotDrawn r, p, e) n = rw e (refusal-low r (drawn-small r p))
+      says : (d : Drawn) → DrawAnswers job i q before d after → Says (drawTrials job i q (length before)) (after ≡ before) (drawnNumber d)
+      says (Straight d) p = inr (p .0, omega whole)
+      says (Bent d) p = inr (p .0, omega whole)
+      says (NotDrawn r) p = inl (r, p .0, p .1, refl)
