@@ -7,7 +7,7 @@ use mathlib.Core.Bool.{false}
 use mathlib.Core.List.{List}
 use Prim.Native.Nat.{ℕ, _+_, _*_, _≤_, _<_}
 use lib.ListN.{length}
-use lib.IntN.{ℤ, pos, negsuc, negℤ}
+use lib.IntN.{ℤ, pos, negsuc, negℤ, _+ℤ_}
 use lib.Signed.{_≤ℤ_}
 use lib.Ieee.{Float, binary32, fin, mul, ofInt}
 use Rattle.paper.specs.declared.Refusal.{Refusal}
@@ -15,7 +15,7 @@ use Rattle.paper.specs.declared.Answer.the-variants.{Total, End}
 use Rattle.paper.specs.declared.Two.{Two}
 use Rattle.paper.specs.declared.Three.{Three}
 use Rattle.paper.specs.declared.Drawn.the-variants.{Straight, Bent}
-use Rattle.paper.specs.Job.{count}
+use Rattle.paper.specs.Job.{count, portOf}
 use Rattle.paper.specs.Leaders.{Leader, Between, Touch, lengthOf, bendsOf}
 use Rattle.paper.specs.Plane.{Line, TouchIn}
 use Rattle.paper.specs.Layouts.{Board, boardOf, held, leader, Layout, EachOnce, Untouching, sum, weighted, total, Same, Differ, Proper}
@@ -135,6 +135,11 @@ measure-passed job lw bw list = (by.Accepted.measure-accepted job lw bw list, λ
 pub next-passed : (job : List ℕ) (lw bw : ℕ) (list : List ℕ) → Passed (nextTrials job lw bw list)
     ↔ (Passed (firstTrials job lw bw (length list)) × Best (labelingOf job lw bw) (held list))
 next-passed job lw bw = regular job lw bw .next-is
+
+-- In every accepted job each port is at least 8 above those before it (02), so that ports rise.
+pub ports-apart : (job : List ℕ) (lw bw room : ℕ) → Passed (firstTrials job lw bw room)
+    → (a c : ℕ) → a < c → c < count job → (portOf job a +ℤ pos 8) ≤ℤ portOf job c
+ports-apart job lw bw room p = by.Accepted.first-accepted job lw bw room p .0 .spaced
 
 -- In a layout each port number stands exactly once, and where each does, that is a layout (with as many ports as pads, as in every job).
 pub each-port-once : (b : Board) (f : ℕ → ℕ) → b .ports ≡ b .pads → Layout b f ↔ EachOnce b f
