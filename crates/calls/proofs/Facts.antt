@@ -1,9 +1,10 @@
 -- From what the search replies on an accepted job to what the calls promise.
+use mathlib.Core.Path.{_≡_}
+use mathlib.Core.Bool.{true, false}
 use mathlib.Core.List.{List}
 use Prim.Native.Nat.{ℕ}
 use lib.ListN.{length}
-use Rattle.walks.specs.declared.Tally.{Tally}
-use Rattle.walks.specs.declared.Reply.the-variants.{Walked, NotBest as NotWalked}
+use Rattle.walks.specs.declared.Walked.{Walked}
 use Rattle.sheets.specs.declared.Step.the-variants.{Total, End, NotBest}
 use Rattle.paper.specs.declared.Answer.the-variants.{Total as Sum, End as Last, Refused}
 use Rattle.paper.specs.declared.Paged.the-variants.{Wrote, Refused as NotPaged}
@@ -27,8 +28,9 @@ module _ (job : List ℕ) (lw bw : ℕ) (before : List ℕ) where
     pub not-best-answers : (after : List ℕ) → NextOn job lw bw before after NotBest → NextAnswers job lw bw before (Refused (refusal 10 0 0)) after
     not-best-answers after n = (not-best-refused job lw bw before p (n .0), n .1)
 
-    pub page-answers : (lent after : List ℕ) (r : Tally) → PageOn job lw bw before lent after (Walked r) → PageAnswers job lw bw before lent (Wrote (r .count)) after
-    page-answers lent after r n = (best-passed job lw bw before p (n .0), n .1)
+    module _ (lent after : List ℕ) (r : Walked) (n : PageOn job lw bw before lent after r) where
+      pub page-answers : r .best ≡ true → PageAnswers job lw bw before lent (Wrote (r .count)) after
+      page-answers e = (best-passed job lw bw before p (n .0 e .0), n .0 e .1)
 
-    pub not-paged-answers : (lent after : List ℕ) → PageOn job lw bw before lent after NotWalked → PageAnswers job lw bw before lent (NotPaged (refusal 10 0 0)) after
-    not-paged-answers lent after n = (not-best-refused job lw bw before p (n .0), n .1)
+      pub not-paged-answers : r .best ≡ false → PageAnswers job lw bw before lent (NotPaged (refusal 10 0 0)) after
+      not-paged-answers e = (not-best-refused job lw bw before p (n .1 e .0), n .1 e .1)

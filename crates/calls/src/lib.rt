@@ -5,7 +5,6 @@ use paper::Drawn;
 use paper::Paged;
 use paper::Refusal;
 use sheets::Step;
-use walks::Reply;
 ghost use mathlib.Core.Path.{_≡_};
 ghost use lib.ListN.{length};
 ghost use Rattle.paper.specs.Layouts.{boardOf, leader};
@@ -65,9 +64,10 @@ fn follow(job: &[u8], lw: u32, bw: u32, list: &[u16], page: &mut [u16]) -> Paged
     ensures { λ r. ⌜ PageAnswers (now (job .entry)) lw bw (now (list .entry)) (now (page .entry)) r (now (page .exit)) ⌝ }
 {
     let s = sheets::page_on(job, lw, bw, list, page);
-    match s {
-        Reply::Walked(t) => Paged::Wrote(t.count),
-        Reply::NotBest => Paged::Refused(not_best()),
+    if s.best {
+        Paged::Wrote(s.count)
+    } else {
+        Paged::Refused(not_best())
     }
 }
 

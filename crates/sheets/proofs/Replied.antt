@@ -1,109 +1,100 @@
 -- What First, Next and Page make of a walk.
 use mathlib.Core.Path.{_≡_, refl, sym, _∙_}
+use mathlib.Core.Bool.{true, false}
 use mathlib.Core.Logic.{⊎-elim}
 use mathlib.Core.List.{List}
 use Prim.Native.Nat.{ℕ, zero, suc, _+_, _*_, _≤_, _<_}
-use native.Mathlib.Nat.{mul-le-mul-right}
+use native.Mathlib.Nat.{suc-mul}
 use native.Mathlib.Omega.{arith}
 use lib.ListN.{length}
 use Rattle.paper.specs.Job.{count}
-use Rattle.paper.specs.Layouts.{boardOf, held, weighted, Untouching, total}
-use Rattle.paper.specs.Problem.{Problem, Best, NextBest, LastBest, labelingOf}
-use Rattle.paper.specs.Promises.{Following}
-use Rattle.paper.specs.Layouts.{Same}
-use Rattle.paper.specs.laws.Order.{best-same}
+use Rattle.paper.specs.Layouts.{boardOf, held, weighted, Untouching, Same}
+use Rattle.paper.specs.Problem.{labelingOf}
+use Rattle.paper.specs.Promises.{inTurn, Following}
 use Rattle.paper.specs.laws.Boards.{untouching-same}
 use Rattle.paper.specs.laws.Trying.{labeling-steady}
-use Rattle.paper.specs.laws.Order.{first-best-same, next-best-same}
-use Rattle.paper.specs.laws.Kept.{kept-trans, kept-one}
-use Rattle.paper.specs.laws.Pages.{Copied, following-same}
-use Rattle.turns.specs.declared.Start.the-variants.{First, Given}
-use Rattle.turns.specs.Turns.{cost, Startable, Turned}
-use Rattle.walks.specs.declared.Tally.{Tally}
-use Rattle.walks.specs.declared.Reply.{Reply}
-use Rattle.walks.specs.declared.Reply.the-variants.{Walked, NotBest}
-use Rattle.walks.specs.Walks.{Walking, Walks}
-use Rattle.sheets.specs.declared.Step.the-variants.{Total, End}
-use Rattle.sheets.specs.Replies.{FirstOn, NextOn, PageOn}
+use Rattle.paper.specs.laws.Order.{Steady, best-same, next-of-same, last-of-same}
+use Rattle.paper.specs.laws.Pages.{Paging, paging-none, paging-here, paging-more, page-full, page-ends, following-same}
+use Rattle.walks.specs.declared.Start.the-variants.{First, Given}
+use Rattle.walks.specs.declared.Walked.{Walked}
+use Rattle.numbers.specs.Copies.{Copied}
+use Rattle.walks.specs.Walks.{Stepped, Turned, Walks}
+use Rattle.sheets.specs.declared.Step.the-variants.{Total, End, NotBest}
+use Rattle.sheets.specs.Replies.{jobRules, StartOn, FirstOn, NextOn, PageOn}
 
--- ---- First: with room for none
+module _ (job : List ℕ) (lw bw : ℕ) (some : 0 < count job) (w page v after : List ℕ) (r : Walked) where
+  -- First: with room for none
+  pub first-walked : length page ≡ 0 → Walks (jobRules job lw bw) (count job) First w page v after r → FirstOn job lw bw w v (r .total)
+  unfolding Stepped
+  first-walked room W = go (r .count) (rw (W .begins .0) at (W .turns))
+    where
+      go : (k : ℕ) → Turned (jobRules job lw bw) (count job) (W .from) page v after k → FirstOn job lw bw w v (r .total)
+      go zero T = let e = W .begins .1 in rw (T .steps .0) (e .0, W .least (W .from) (e .0 .best), e .1)
+      go (suc k) T = absurd (omega (arith, T .fit, suc-mul k (count job)))
 
-none-fits : (k n : ℕ) → 0 < n → k * n ≤ 0 → k ≡ 0
-none-fits zero n h l = refl
-none-fits (suc k) n h l = absurd (omega (arith, mul-le-mul-right {m = 1} {n = suc k} n (omega arith)))
+  -- Next: with room for one
+  module _ (room : length page ≡ count job) (W : Walks (jobRules job lw bw) (count job) Given w page v after r) where
+    pub not-walked : r .best ≡ false → NextOn job lw bw w v NotBest
+    not-walked e = (rw e at (W .begins .0), (rw e at (W .turns)) .0 ∙ W .begins .1)
 
-module _ (job : List ℕ) (lw bw : ℕ) (some : 0 < count job) (w page v after : List ℕ) (r : Tally) where
-  pub first-walked : length page ≡ 0 → Walking First job lw bw w page v after r → FirstOn job lw bw w v (r .total)
-  first-walked room W =
-      let T = W .turned in
-      let z = none-fits (r .count) (count job) some (omega (arith, T .following .fit)) in (
-        first-best-same (labelingOf job lw bw) (labeling-steady (boardOf job) (weighted (boardOf job) lw bw)) (held (W .from)) (held v) (rw z at (T .reached)) (W .began .0),
-        W .totals,
-        kept-trans (count job) w (W .from) v (W .began .1) (T .kept),
+    pub end-walked : r .best ≡ true → r .count ≡ 0 → NextOn job lw bw w v End
+    unfolding Stepped
+    end-walked e z =
+        let T : Turned (jobRules job lw bw) (count job) (W .from) page v after 0 = rw (e, z) at (W .turns) in
+        let same : v ≡ w = T .steps .0 ∙ W .begins .1 in
+        (rw e at (W .begins .0), ⊎-elim (λ h. absurd (omega (arith, h))) (λ l. rw same at l) (T .all), same)
+
+    pub next-walked : r .best ≡ true → 0 < r .count → NextOn job lw bw w v (Total (r .total))
+    unfolding Stepped
+    next-walked e h = go (r .count) h (rw e at (W .turns))
+      where
+        go : (k : ℕ) → 0 < k → Turned (jobRules job lw bw) (count job) (W .from) page v after k → NextOn job lw bw w v (Total (r .total))
+        go zero h T = absurd (omega arith)
+        go (suc zero) h T = let (u, half, s, next, here) = T .steps in let n = rw (s .0 ∙ W .begins .1) at next in
+            (rw e at (W .begins .0), n .0, W .least v (n .0 .best), n .1)
+        go (suc (suc k)) h T = absurd (omega (arith, T .fit, suc-mul (suc k) (count job), suc-mul k (count job)))
+
+-- Page: from a copy
+module _ (job : List ℕ) (lw bw : ℕ) where
+  steady : Steady (labelingOf job lw bw)
+  steady = labeling-steady (boardOf job) (weighted (boardOf job) lw bw)
+
+  -- Layouts that came on the page one after the other stand there in turn.
+  paged : (w page v after : List ℕ) (k : ℕ) → k * count job ≤ length page → Stepped (jobRules job lw bw) (count job) w page v after k
+      → Paging (labelingOf job lw bw) w page k after × Same (boardOf job) (inTurn (count job) w after k) (held v)
+  unfolding Stepped
+  paged w page v after zero fit (e, f) = rw (e, f) (paging-none (labelingOf job lw bw) w page, λ i h. refl)
+  paged w page v after (suc k) fit (u, half, s, next, here) =
+      let (P, reached) = paged w page u half k (omega (arith, suc-mul k (count job))) s in
+      (
+        paging-more (labelingOf job lw bw) w page k half P v after here steady fit
+            (next-of-same (labelingOf job lw bw) (held u) (inTurn (count job) w half k) (held v) (λ i h. sym (reached i h)) (next .0)),
+        paging-here (labelingOf job lw bw) w page k half P v after here,
       )
 
-  -- ---- Next: with room for one
+  follows : (w page v after : List ℕ) (k : ℕ) → Turned (jobRules job lw bw) (count job) w page v after k → Following (labelingOf job lw bw) w page k after
+  follows w page v after k T =
+      let (P, reached) = paged w page v after k (T .fit) (T .steps) in
+      ⊎-elim (page-full (labelingOf job lw bw) w page k after P)
+      (λ l. page-ends (labelingOf job lw bw) w page k after P
+      (last-of-same (labelingOf job lw bw) (held v) (inTurn (count job) w after k) (λ i h. sym (reached i h)) l)) (T .all)
 
-  module _ (room : length page ≡ count job) (W : Walking Given job lw bw w page v after r) where
-    abbrev T : Turned job lw bw (W .from) page v after (r .count)
-    T = W .turned
+  module _ {given w₀ w : List ℕ} (C : Copied (count job) 0 given w₀ w) where
+    alike : Same (boardOf job) (held w) (held given)
+    alike i h = let e : 0 + i ≡ i = omega arith in rw e at (C .here i h)
 
-    few : r .count ≤ 1
-    few = go (r .count) (T .following .fit)
-      where
-        go : (k : ℕ) → k * count job ≤ length page → k ≤ 1
-        go zero h = omega arith
-        go (suc zero) h = omega arith
-        go (suc (suc k)) h = absurd (omega (arith, mul-le-mul-right {m = 2} {n = suc (suc k)} (count job) (omega arith)))
+    back : Same (boardOf job) (held given) (held w)
+    back i h = sym (alike i h)
 
-    from-best : Best (labelingOf job lw bw) (held w)
-    from-best = rw (W .began .1) at (W .began .0)
+    pub copy-startable : count job ≤ length w₀ → Untouching (boardOf job) (held given) → StartOn Given job w
+    copy-startable h u = (omega (arith, C .long), untouching-same (boardOf job) (held given) (held w) back u)
 
-    pub end-walked : r .count ≡ 0 → NextOn job lw bw w v End
-    end-walked z = (from-best, last, same)
-      where
-        F : Following (labelingOf job lw bw) w page 0 after
-        F = rw (W .began .1, z) at (T .following)
-
-        last : LastBest (labelingOf job lw bw) (held w)
-        last = ⊎-elim (λ h. absurd (omega (arith, h))) (λ l. l) (F .all)
-
-        same : v ≡ w
-        same = sym (kept-one (count job) (W .from) (W .from) v (record { long = refl; rest = λ i h. refl }) (T .kept) (rw z at (T .reached))) ∙ W .began .1
-
-    pub next-walked : 0 < r .count → NextOn job lw bw w v (Total (r .total))
-    next-walked h = (from-best, next, W .totals, rw (W .began .1) at (T .kept))
-      where
-        one : r .count ≡ 1
-        one = omega (arith, few)
-
-        F : Following (labelingOf job lw bw) w page 1 after
-        F = rw (W .began .1, one) at (T .following)
-
-        next : NextBest (labelingOf job lw bw) (held w) (held v)
-        next = next-best-same (labelingOf job lw bw) (labeling-steady (boardOf job) (weighted (boardOf job) lw bw)) (held w) (λ i. held after (0 * count job + i)) (held v) (rw one at (T .reached)) (F .follow 0
-            (omega arith))
-
--- ---- Page: from a copy
-
--- Best layouts have one total.
-best-totals : (p : Problem) (f g : ℕ → ℕ) → Best p f → Best p g → p .value f ≡ p .value g
-best-totals p f g s t = omega (arith, s .least g (t .counts), t .least f (s .counts))
-
-module _ (job : List ℕ) (lw bw : ℕ) {given w₀ w : List ℕ} (C : Copied (count job) 0 given w₀ w) where
-  alike : Same (boardOf job) (held w) (held given)
-  alike i h = let e : 0 + i ≡ i = omega arith in rw e at (C .here i h)
-
-  pub copy-startable : count job ≤ length w₀ → Untouching (boardOf job) (held given) → Startable Given job w
-  copy-startable h u = (omega (arith, C .long), untouching-same (boardOf job) (held given) (held w) (λ i l. sym (alike i l)) u)
-
-  given-best : {page v after : List ℕ} {r : Tally} → Walking Given job lw bw w page v after r → Best (labelingOf job lw bw) (held given)
-  given-best W = best-same (labelingOf job lw bw) (labeling-steady (boardOf job) (weighted (boardOf job) lw bw)) (held w) (held given) alike (rw (W .began .1) at (W .began .0))
-
-  pub page-walked : (page v after : List ℕ) (r : Reply) → Walks Given job lw bw w page v after r → PageOn job lw bw given page after r
-  page-walked page v after (Walked r) W = (
-    given-best W,
-    following-same (labelingOf job lw bw) (labeling-steady (boardOf job) (weighted (boardOf job) lw bw)) w given alike page (r .count) after (rw (W .began .1) at (W .turned .following)),
-    W .totals ∙ best-totals (labelingOf job lw bw) (held v) (held given) (W .turned .best) (given-best W),
-  )
-  page-walked page v after NotBest (n, e) = ((λ s. n .0 (best-same (labelingOf job lw bw) (labeling-steady (boardOf job) (weighted (boardOf job) lw bw)) (held given) (held w) (λ i l. sym (alike i l)) s)), e)
+    pub page-walked : (page v after : List ℕ) (r : Walked) → Walks (jobRules job lw bw) (count job) Given w page v after r → PageOn job lw bw given page after r
+    page-walked page v after r W = (
+      λ e. let best = best-same (labelingOf job lw bw) steady (held w) (held given) alike (rw e at (W .begins .0)) in (
+        best,
+        following-same (labelingOf job lw bw) steady w given alike page (r .count) after (follows w page v after (r .count) (rw (e, W .begins .1) at (W .turns))),
+        W .least given best,
+      ),
+      λ e. ((λ s. (rw e at (W .begins .0)) (best-same (labelingOf job lw bw) steady (held given) (held w) back s)), (rw e at (W .turns)) .1),
+    )

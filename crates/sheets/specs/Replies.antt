@@ -1,17 +1,35 @@
 -- What First, Next and Page make of a walk, in the paper's words.
 use mathlib.Core.Path.{_≡_}
+use mathlib.Core.Bool.{true, false}
 use mathlib.Core.List.{List}
-use Prim.Native.Nat.{ℕ}
+use Prim.Native.Nat.{ℕ, _≤_}
+use lib.ListN.{length}
 use Rattle.paper.specs.Job.{count}
-use Rattle.paper.specs.Layouts.{boardOf, held}
+use Rattle.paper.specs.Layouts.{boardOf, held, weighted, Untouching}
 use Rattle.paper.specs.Problem.{Best, FirstBest, NextBest, LastBest, labelingOf}
 use Rattle.paper.specs.Promises.{Kept, Following}
 use Rattle.paper.specs.laws.Totals.{totalOf}
-use Rattle.walks.specs.declared.Reply.{Reply}
-use Rattle.walks.specs.declared.Reply.the-variants.{Walked, NotBest}
+use Rattle.walks.specs.declared.Start.{Start}
+use Rattle.walks.specs.declared.Start.the-variants.{First, Given}
+use Rattle.walks.specs.declared.Walked.{Walked}
+use Rattle.walks.specs.Walks.{Rules}
 use Rattle.sheets.specs.declared.Step.{Step}
-use Rattle.sheets.specs.declared.Step.the-variants.{Total, End, NotBest as Worse}
-use Rattle.turns.specs.Turns.{cost}
+use Rattle.sheets.specs.declared.Step.the-variants.{Total, End, NotBest}
+
+-- The rules of a walk through the best layouts of a job.
+abbrev pub jobRules : List ℕ → ℕ → ℕ → Rules
+jobRules job lw bw = record {
+  Earliest = λ w v. FirstBest (labelingOf job lw bw) (held v) × Kept (count job) w v;
+  Best = λ w. Best (labelingOf job lw bw) (held w);
+  Next = λ w v. NextBest (labelingOf job lw bw) (held w) (held v) × Kept (count job) w v;
+  Last = λ w. LastBest (labelingOf job lw bw) (held w);
+  Least = λ t. (w : List ℕ) → Best (labelingOf job lw bw) (held w) → t ≡ totalOf job lw bw w;
+}
+
+-- A walk starts with room for a layout, and with an untouching one if it is given.
+abbrev pub StartOn : Start → List ℕ → List ℕ → Type 0
+StartOn First job w = count job ≤ length w
+StartOn Given job w = (count job ≤ length w) × Untouching (boardOf job) (held w)
 
 -- FIRST: the list holds the earliest best layout, t is its total, and the entries from n on are kept.
 abbrev pub FirstOn : List ℕ → ℕ → ℕ → List ℕ → List ℕ → ℕ → Type 0
@@ -30,12 +48,13 @@ NextOn job lw bw before after End =
     Best (labelingOf job lw bw) (held before)
     × LastBest (labelingOf job lw bw) (held before)
     × (after ≡ before)
-NextOn job lw bw before after Worse = (¬ Best (labelingOf job lw bw) (held before)) × (after ≡ before)
+NextOn job lw bw before after NotBest = (¬ Best (labelingOf job lw bw) (held before)) × (after ≡ before)
 
 -- PAGE, asked of an untouching layout: it is best, and those that follow stand on the page; or it is not best, and the page is kept.
-abbrev pub PageOn : List ℕ → ℕ → ℕ → List ℕ → List ℕ → List ℕ → Reply → Type 0
-PageOn job lw bw given before after (Walked r) =
-    Best (labelingOf job lw bw) (held given)
+abbrev pub PageOn : List ℕ → ℕ → ℕ → List ℕ → List ℕ → List ℕ → Walked → Type 0
+PageOn job lw bw given before after r =
+    ((r .best ≡ true)
+    → Best (labelingOf job lw bw) (held given)
     × Following (labelingOf job lw bw) given before (r .count) after
-    × (r .total ≡ totalOf job lw bw given)
-PageOn job lw bw given before after NotBest = (¬ Best (labelingOf job lw bw) (held given)) × (after ≡ before)
+    × (r .total ≡ totalOf job lw bw given))
+    × ((r .best ≡ false) → (¬ Best (labelingOf job lw bw) (held given)) × (after ≡ before))

@@ -1,2 +1,2 @@
 -- Laws that belong to no one function.
-pub mod Walked
+pub mod Turning

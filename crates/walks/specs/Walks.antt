@@ -1,22 +1,66 @@
--- What a walk through the best layouts of a job comes to, in the paper's words.
+-- What a walk from layout to layout comes to. It is said for any rules of what its layouts are; those of the lists are in the words of `steps`.
 use mathlib.Core.Path.{_≡_}
+use mathlib.Core.Logic.{_⊎_}
+use mathlib.Core.Bool.{Bool, true, false}
 use mathlib.Core.List.{List}
-use Prim.Native.Nat.{ℕ}
-use Rattle.paper.specs.Job.{count}
-use Rattle.paper.specs.laws.Totals.{totalOf}
-use Rattle.turns.specs.declared.Start.{Start}
-use Rattle.walks.specs.declared.Tally.{Tally}
-use Rattle.walks.specs.declared.Reply.{Reply}
-use Rattle.walks.specs.declared.Reply.the-variants.{Walked, NotBest}
-use Rattle.turns.specs.Turns.{Began, NotBegun, Turned}
+use Prim.Native.Nat.{ℕ, zero, suc, _*_, _≤_, _<_}
+use lib.ListN.{length}
+use Rattle.totals.specs.Cell.{leastOf}
+use Rattle.steps.specs.Steps.{Untouching, Solvable, BestLayout, FirstIs, NextIs, EndIs, Told}
+use Rattle.numbers.specs.Copies.{Copied}
+use Rattle.walks.specs.declared.Start.{Start}
+use Rattle.walks.specs.declared.Start.the-variants.{First, Given}
+use Rattle.walks.specs.declared.Walked.{Walked}
 
--- A walk, from where it starts; the total is that of the layout it comes to.
-pub record Walking (start : Start) (job : List ℕ) (lw bw : ℕ) (w page v after : List ℕ) (r : Tally) : Type 0 where
+-- v holds the earliest best layout, where w was lent; w holds a best one; v holds the next one after that of w, and takes its place; w holds the
+-- last one; t is the total of all.
+pub record Rules : Type 1 where
+  pub Earliest : (w v : List ℕ) → Type 0
+  pub Best : (w : List ℕ) → Type 0
+  pub Next : (w v : List ℕ) → Type 0
+  pub Last : (w : List ℕ) → Type 0
+  pub Least : (t : ℕ) → Type 0
+
+-- The rules of the lists.
+abbrev pub listRules : List ℕ → List ℕ → List ℕ → List ℕ → Rules
+listRules order cs lo hi = record {
+  Earliest = FirstIs order cs lo hi;
+  Best = BestLayout order cs lo hi;
+  Next = NextIs order cs lo hi;
+  Last = λ w. EndIs order cs lo hi w w;
+  Least = λ t. t ≡ leastOf order cs lo hi;
+}
+
+-- A walk can start at the earliest layout if there is one, and at a given one if that is untouching.
+abbrev pub Startable : Start → List ℕ → List ℕ → List ℕ → List ℕ → List ℕ → Type 0
+Startable First order cs lo hi w = Solvable order cs lo hi
+Startable Given order cs lo hi w = Untouching order cs lo hi w
+
+-- l holds its first layout, where w was lent; r says whether that is best.
+abbrev pub Begins : Rules → Start → List ℕ → List ℕ → Bool → Type 0
+Begins R First w l r = (r ≡ true) × R .Earliest w l
+Begins R Given w l r = Told r (R .Best w) × (l ≡ w)
+
+-- From w on k layouts of n entries came on the page, one after the other, each the next after the one before it; v holds the last.
+unfoldable pub Stepped : Rules → ℕ → List ℕ → List ℕ → List ℕ → List ℕ → ℕ → Type 0
+Stepped R n w page v after zero = (v ≡ w) × (after ≡ page)
+Stepped R n w page v after (suc k) =
+    (u : List ℕ) × (half : List ℕ) × Stepped R n w page u half k × R .Next u v × Copied n (k * n) v half after
+
+-- All of them came that fit the page, or there are no more.
+pub record Turned (R : Rules) (n : ℕ) (w page v after : List ℕ) (k : ℕ) : Type 0 where
+  pub fit : k * n ≤ length page
+  pub steps : Stepped R n w page v after k
+  pub all : (length page < suc k * n) ⊎ R .Last v
+
+-- Where the first layout is not best, none came.
+abbrev pub Turns : Rules → ℕ → List ℕ → List ℕ → List ℕ → List ℕ → Bool → ℕ → Type 0
+Turns R n w page v after true k = Turned R n w page v after k
+Turns R n w page v after false k = (v ≡ w) × (after ≡ page) × (k ≡ 0)
+
+-- A walk, with its first layout.
+pub record Walks (R : Rules) (n : ℕ) (start : Start) (w page v after : List ℕ) (r : Walked) : Type 0 where
   pub from : List ℕ
-  pub began : Began start job lw bw w from
-  pub turned : Turned job lw bw from page v after (r .count)
-  pub totals : r .total ≡ totalOf job lw bw v
-
-abbrev pub Walks : Start → List ℕ → ℕ → ℕ → List ℕ → List ℕ → List ℕ → List ℕ → Reply → Type 0
-Walks start job lw bw w page v after (Walked r) = Walking start job lw bw w page v after r
-Walks start job lw bw w page v after NotBest = NotBegun start job lw bw w v × (after ≡ page)
+  pub begins : Begins R start w from (r .best)
+  pub turns : Turns R n from page v after (r .best) (r .count)
+  pub least : R .Least (r .total)

@@ -1,118 +1,121 @@
-// A walk through the best layouts of a job that has passed the checks, over one table.
-use turns::Start;
+// A walk from best layout to best layout, over plain lists: those of the crate `steps`, and the table's least total.
 ghost use mathlib.Core.Path.{_≡_};
-ghost use Prim.Native.Nat.{_≤_};
+ghost use Prim.Native.Nat.{_+_, _≤_, _<_};
 ghost use lib.ListN.{length};
-ghost use Rattle.paper.specs.Job.{count};
-ghost use Rattle.paper.specs.laws.Accepted.{Accepted};
 ghost use Rattle.totals.specs.Cell.{leastOf};
-ghost use Rattle.board.specs.Lists.{Lent};
-ghost use Rattle.turns.specs.Turns.{Ready, Startable};
-ghost use Rattle.walks.specs.Walks.{Walks};
+ghost use Rattle.choices.specs.Choices.{Working};
+ghost use Rattle.steps.specs.Steps.{BestLayout};
+ghost use Rattle.numbers.specs.Copies.{Copied};
+ghost use Rattle.walks.specs.Walks.{listRules, Startable, Begins, Turned, Walks};
 
-// How many layouts a walk put on its page, and the total of each.
-pub struct Tally {
+// A walk starts at the earliest best layout, or at the one that is given.
+pub enum Start {
+    First,
+    Given,
+}
+
+// What a walk comes to: whether the layout that it starts at is best, how many it put on its page, and the least total.
+pub struct Walked {
+    pub best: bool,
     pub count: u64,
     pub total: u64,
 }
 
-// What a walk comes to: it does not start at a layout that is not best.
-pub enum Reply {
-    Walked(Tally),
-    NotBest,
-}
-
-// A walk over the work lists and their table; t is the least total.
-fn walk_on(
+// Has the walk's first layout in w; false where the given one is not best.
+fn begin(
     start: Start,
-    job: &[u8],
-    lw: u32,
-    bw: u32,
-    order: &[u8],
-    lo: &[u8],
-    hi: &[u8],
-    cost: &[u32],
     heads: &[u8],
     totals: &[u64],
+    order: &[u8],
+    cost: &[u32],
+    lo: &[u8],
+    hi: &[u8],
     w: &mut [u16],
-    page: &mut [u16],
-    t: u64,
-) -> Reply
-    requires { ⌜ Accepted (now job) × Ready (now job) lw bw (now order) (now lo) (now hi) (now cost) (now heads) (now totals) ⌝ }
-    requires { ⌜ (t ≡ leastOf (now order) (now cost) (now lo) (now hi)) × Startable start (now job) (now w) ⌝ }
-    ensures { λ r. ⌜ Walks start (now (job .entry)) lw bw (now (w .entry)) (now (page .entry)) (now (w .exit)) (now (page .exit)) r ⌝ }
+    least: u64,
+) -> bool
+    requires { ⌜ Working (now order) (now cost) (now lo) (now hi) (now heads) (now totals) (now w) ⌝ }
+    requires { ⌜ (least ≡ leastOf (now order) (now cost) (now lo) (now hi)) × Startable start (now order) (now cost) (now lo) (now hi) (now w) ⌝ }
+    ensures { λ r. ⌜ Begins (listRules (now (order .entry)) (now (cost .entry)) (now (lo .entry)) (now (hi .entry))) start (now (w .entry)) (now (w .exit)) r ⌝ }
 {
-    if turns::begin(start, job, lw, bw, order, lo, hi, cost, heads, totals, w, t) {
-        let k = turns::turn(job, lw, bw, order, lo, hi, cost, heads, totals, w, page);
-        Reply::Walked(Tally { count: k, total: t })
-    } else {
-        Reply::NotBest
+    match start {
+        Start::First => {
+            steps::first(heads, totals, order, cost, lo, hi, w);
+            true
+        }
+        Start::Given => steps::is_best(order, cost, lo, hi, w, least),
     }
 }
 
-// A walk, with lists lent for the work lists and their table.
-fn walk_at(
-    start: Start,
-    job: &[u8],
-    lw: u32,
-    bw: u32,
-    order: &mut [u8],
-    lo: &mut [u8],
-    hi: &mut [u8],
-    cost: &mut [u32],
-    heads: &mut [u8],
-    totals: &mut [u64],
+// The first n entries of `from`, to `to` from place `at` on.
+pub fn copy(from: &[u16], n: usize, to: &mut [u16], at: usize)
+    requires { ⌜ (n ≤ length (now from)) × (at + n ≤ length (now to)) ⌝ }
+    ensures { λ _. ⌜ Copied n at (now (from .entry)) (now (to .entry)) (now (to .exit)) ⌝ }
+{
+    let mut i = 0;
+    while i < n {
+        to[at + i] = from[i];
+        i += 1;
+    }
+}
+
+// Goes on from the best layout in w: each next one goes to the page, as many as fit, or fewer where the end comes.
+fn turn(
+    heads: &[u8],
+    totals: &[u64],
+    order: &[u8],
+    cost: &[u32],
+    lo: &[u8],
+    hi: &[u8],
     w: &mut [u16],
     page: &mut [u16],
-) -> Reply
-    requires { ⌜ Accepted (now job) × (lw ≤ 1000) × (bw ≤ 1000) × Startable start (now job) (now w) ⌝ }
-    requires { ⌜ Lent (count (now job)) (now order) (now lo) (now hi) (now cost) × (length (now heads) ≡ 2145) × (length (now totals) ≡ 2145) ⌝ }
-    ensures { λ r. ⌜ Walks start (now (job .entry)) lw bw (now (w .entry)) (now (page .entry)) (now (w .exit)) (now (page .exit)) r ⌝ }
+) -> u64
+    requires { ⌜ (0 < length (now order)) × Working (now order) (now cost) (now lo) (now hi) (now heads) (now totals) (now w) ⌝ }
+    requires { ⌜ BestLayout (now order) (now cost) (now lo) (now hi) (now w) ⌝ }
+    ensures { λ k. ⌜ Turned (listRules (now (order .entry)) (now (cost .entry)) (now (lo .entry)) (now (hi .entry))) (length (now (order .entry))) (now (w .entry))
+        (now (page .entry)) (now (w .exit)) (now (page .exit)) k ⌝ }
 {
-    board::prepare(job, lw, bw, order, lo, hi, cost);
-    let least = table::fill(heads, totals, order, cost, lo, hi);
-    walk_on(
-        start,
-        job,
-        lw,
-        bw,
-        order,
-        lo,
-        hi,
-        cost,
-        heads,
-        totals,
-        w,
-        page,
-        least,
-    )
+    let n = order.len();
+    let mut known = [0u8; 256];
+    let mut at = 0;
+    let mut k = 0;
+    while n <= page.len() - at {
+        if steps::step(heads, totals, order, cost, lo, hi, w, &mut known) {
+            copy(w, n, page, at);
+            at += n;
+            k += 1;
+        } else {
+            return k;
+        }
+    }
+    k
 }
 
 // A walk: from its start, which w then holds, on to the last layout that fits the page.
-pub fn walk(start: Start, job: &[u8], lw: u32, bw: u32, w: &mut [u16], page: &mut [u16]) -> Reply
-    requires { ⌜ Accepted (now job) × (lw ≤ 1000) × (bw ≤ 1000) × Startable start (now job) (now w) ⌝ }
-    ensures { λ r. ⌜ Walks start (now (job .entry)) lw bw (now (w .entry)) (now (page .entry)) (now (w .exit)) (now (page .exit)) r ⌝ }
+pub fn walk(
+    start: Start,
+    heads: &[u8],
+    totals: &[u64],
+    order: &[u8],
+    cost: &[u32],
+    lo: &[u8],
+    hi: &[u8],
+    w: &mut [u16],
+    page: &mut [u16],
+    least: u64,
+) -> Walked
+    requires { ⌜ (0 < length (now order)) × Working (now order) (now cost) (now lo) (now hi) (now heads) (now totals) (now w) ⌝ }
+    requires { ⌜ (least ≡ leastOf (now order) (now cost) (now lo) (now hi)) × Startable start (now order) (now cost) (now lo) (now hi) (now w) ⌝ }
+    ensures { λ r. ⌜ Walks (listRules (now (order .entry)) (now (cost .entry)) (now (lo .entry)) (now (hi .entry))) (length (now (order .entry))) start
+        (now (w .entry)) (now (page .entry)) (now (w .exit)) (now (page .exit)) r ⌝ }
 {
-    let n = job.len() / 16;
-    let square = n * n;
-    let mut order = [0u8; 64];
-    let mut lo = [0u8; 64];
-    let mut hi = [0u8; 64];
-    let mut cost = [0u32; 4096];
-    let mut heads = [0u8; 2145];
-    let mut totals = [0u64; 2145];
-    walk_at(
-        start,
-        job,
-        lw,
-        bw,
-        &mut order[..n],
-        &mut lo[..n],
-        &mut hi[..n],
-        &mut cost[..square],
-        &mut heads,
-        &mut totals,
-        w,
-        page,
-    )
+    let best = begin(start, heads, totals, order, cost, lo, hi, w, least);
+    let mut count = 0;
+    if best {
+        count = turn(heads, totals, order, cost, lo, hi, w, page);
+    }
+    Walked {
+        best: best,
+        count: count,
+        total: least,
+    }
 }

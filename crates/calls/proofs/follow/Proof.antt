@@ -12,12 +12,6 @@ page-on-requires c κs =
     let a = s .args in
     (measure-facts (now (a .job)) (a .lw) (a .bw) (now (a .list)) (s .pre), measure-accepted (now (a .job)) (a .lw) (a .bw) (now (a .list)) (s .pre) .1)
 
-enum-known-s : tie.Need-enum-known-s
-enum-known-s c = search needs
-
-enum-told : tie.Need-enum-told
-enum-told c = search needs
-
 not-best-requires : tie.Need-not-best-requires
 not-best-requires c κs = search needs
 
@@ -26,24 +20,23 @@ same-length c = search needs
 
 returns : tie.Need-returns
 returns c =
-    let d = c .before .before .before .before .before in
+    let d = c .before .before .before in
     let s = d .before .before .before .before .before in
     let a = s .args in
-    page-answers (now (a .job)) (a .lw) (a .bw) (now (a .list)) (s .pre) (now (a .page)) _ (c .before .s .given .0 .0)
-    (rw (c .before .s .given .1) at (d .page-on .ensures))
+    page-answers (now (a .job)) (a .lw) (a .bw) (now (a .list)) (s .pre) (now (a .page)) _ (d .page-on .result) (d .page-on .ensures) (c .if1 .taken)
 
 same-length-2 : tie.Need-same-length-2
 same-length-2 c = search needs
 
 returns-2 : tie.Need-returns-2
 returns-2 c =
-    let d = c .before .before .before .before .before in
+    let d = c .before .before .before .before in
     let s = d .before .before .before .before .before in
     let a = s .args in
     rw (c .not-best .ensures)
-    (not-paged-answers (now (a .job)) (a .lw) (a .bw) (now (a .list)) (s .pre) (now (a .page)) _ (rw (c .before .enum-told .given .1) at (d .page-on .ensures)))
+    (not-paged-answers (now (a .job)) (a .lw) (a .bw) (now (a .list)) (s .pre) (now (a .page)) _ (d .page-on .result) (d .page-on .ensures) (c .before .if1 .left))
 
 pub follow-spec : {M : Type 1} → statement M
 follow-spec =
     tie.close
-    (tie.spec page-on-requires enum-known-s enum-told not-best-requires same-length returns same-length-2 returns-2)
+    (tie.spec page-on-requires not-best-requires same-length returns same-length-2 returns-2)

@@ -14,40 +14,17 @@ slice-aggregate-walk c = search needs
 walk-requires : tie.Need-walk-requires
 walk-requires c κs = search needs
 
-enum-known-r : tie.Need-enum-known-r
-enum-known-r c = search needs
-
-enum-told : tie.Need-enum-told
-enum-told c = search needs
-
 same-length : tie.Need-same-length
 same-length c = search needs
 
 returns : tie.Need-returns
 returns c =
-    let w = c .before .before .before .before .before .before in
+    let w = c .before .before .before in
     let s = w .before .before .before .before .before in
     let a = s .args in
-    first-walked (a .job .now) (a .lw) (a .bw) (s .pre .0 .some) (a .layout .now) _ _ _ (c .before .r .given .0 .0) refl
-    (rw (c .before .r .given .1) at (w .walk .ensures))
-
-same-length-2 : tie.Need-same-length-2
-same-length-2 c = search needs
-
-returns-2 : tie.Need-returns-2
-returns-2 c =
-    absurd ((rw (c .enum-told .given .1) at (c .before .before .before .before .before .walk .ensures)) .0)
+    first-walked (a .job .now) (a .lw) (a .bw) (s .pre .0 .some) (a .layout .now) _ _ _ (w .walk .result) refl (w .walk .ensures)
 
 pub first-on-spec : {M : Type 1} → statement M
 first-on-spec =
     tie.close
-    (tie.spec
-    array-borrow-prefix-page
-    slice-aggregate-walk
-    walk-requires
-    enum-known-r
-    enum-told
-    same-length
-    returns
-    same-length-2
-    returns-2)
+    (tie.spec array-borrow-prefix-page slice-aggregate-walk walk-requires same-length returns)

@@ -1,9 +1,9 @@
--- `sheets::next_on` meets its contract (`end-walked`, `next-walked`). Assumes nothing.
+-- `sheets::next_on` meets its contract (`not-walked`, `end-walked`, `next-walked`). Assumes nothing.
 use borrow.Author.Needs.{needs}
 use mathlib.Core.Path.{sym}
 use native.Mathlib.Omega.{arith}
 use lib.Seq.{length-take-le}
-use Rattle.sheets.proofs.Replied.{end-walked, next-walked}
+use Rattle.sheets.proofs.Replied.{not-walked, end-walked, next-walked}
 use Rattle.sheets.proofs.next_on.Statement.{statement}
 use Rattle.sheets.proofs.next_on.Tie as tie
 
@@ -11,48 +11,43 @@ array-borrow-prefix-page : tie.Need-array-borrow-prefix-page
 array-borrow-prefix-page c = search needs
 
 slice-aggregate-walk : tie.Need-slice-aggregate-walk
-slice-aggregate-walk c =
-    sym (length-take-le _ _ (c .before .before .before .before .pre .0 .0 .few))
+slice-aggregate-walk c = sym (length-take-le _ _ (c .before .before .before .before .pre .0 .0 .few))
 
 walk-requires : tie.Need-walk-requires
 walk-requires c κs = search needs
-
-enum-known-r : tie.Need-enum-known-r
-enum-known-r c = search needs
-
-enum-told : tie.Need-enum-told
-enum-told c = search needs
 
 same-length : tie.Need-same-length
 same-length c = search needs
 
 returns : tie.Need-returns
 returns c =
-    let w = c .before .before .before .before .before .before .before .before in
+    let w = c .before .before .before .before .before .before in
     let s = w .before .before .before .before .before in
     let a = s .args in
-    end-walked (a .job .now) (a .lw) (a .bw) (s .pre .0 .0 .some) (a .layout .now) _ _ _ (c .before .before .before .r .given .0 .0) (length-take-le _ _
-    (s .pre .0 .0 .few))
-    (rw (c .before .before .before .r .given .1) at (w .walk .ensures)) (c .if1 .taken)
+    end-walked (a .job .now) (a .lw) (a .bw) (s .pre .0 .0 .some) (a .layout .now) _ _ _ (w .walk .result) (length-take-le _ _ (s .pre .0 .0 .few)) (w .walk .ensures)
+    (c .before .before .if1 .taken) (c .if2 .taken)
 
 same-length-2 : tie.Need-same-length-2
 same-length-2 c = search needs
 
 returns-2 : tie.Need-returns-2
 returns-2 c =
-    let w = c .before .before .before .before .before .before .before .before in
+    let w = c .before .before .before .before .before .before in
     let s = w .before .before .before .before .before in
     let a = s .args in
-    next-walked (a .job .now) (a .lw) (a .bw) (s .pre .0 .0 .some) (a .layout .now) _ _ _ (c .before .before .before .r .given .0 .0) (length-take-le _ _
-    (s .pre .0 .0 .few))
-    (rw (c .before .before .before .r .given .1) at (w .walk .ensures)) (omega (arith, c .if1 .left))
+    next-walked (a .job .now) (a .lw) (a .bw) (s .pre .0 .0 .some) (a .layout .now) _ _ _ (w .walk .result) (length-take-le _ _ (s .pre .0 .0 .few)) (w .walk .ensures)
+    (c .before .before .if1 .taken) (omega (arith, c .if2 .left))
 
 same-length-3 : tie.Need-same-length-3
 same-length-3 c = search needs
 
 returns-3 : tie.Need-returns-3
 returns-3 c =
-    (rw (c .enum-told .given .1) at (c .before .before .before .before .before .walk .ensures)) .0
+    let w = c .before .before .before .before in
+    let s = w .before .before .before .before .before in
+    let a = s .args in
+    not-walked (a .job .now) (a .lw) (a .bw) (s .pre .0 .0 .some) (a .layout .now) _ _ _ (w .walk .result) (length-take-le _ _ (s .pre .0 .0 .few)) (w .walk .ensures)
+    (c .if1 .left)
 
 pub next-on-spec : {M : Type 1} → statement M
 next-on-spec =
@@ -61,8 +56,6 @@ next-on-spec =
     array-borrow-prefix-page
     slice-aggregate-walk
     walk-requires
-    enum-known-r
-    enum-told
     same-length
     returns
     same-length-2

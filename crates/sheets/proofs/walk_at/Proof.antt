@@ -1,8 +1,8 @@
--- `walks::walk_at` meets its contract: the lists, then the walk over them. Assumes nothing.
+-- `sheets::walk_at` meets its contract: the lists, then the walk over them, in the paper's words (`walks-on`). Assumes nothing.
 use borrow.Author.Needs.{needs}
-use Rattle.turns.proofs.Starts.{proper-on}
-use Rattle.walks.proofs.walk_at.Statement.{statement}
-use Rattle.walks.proofs.walk_at.Tie as tie
+use Rattle.sheets.proofs.Translated.{proper-on, working-on, startable-on, walks-on}
+use Rattle.sheets.proofs.walk_at.Statement.{statement}
+use Rattle.sheets.proofs.walk_at.Tie as tie
 
 prepare-requires : tie.Need-prepare-requires
 prepare-requires c κs = search needs
@@ -14,12 +14,16 @@ fill-requires c κs =
     let p = proper-on (s .args .job .now) (s .args .lw) (s .args .bw) (w .prepare .ensures) in
     (p .pads, (s .pre .1 .1, s .pre .1 .2, p .square))
 
-walk-on-requires : tie.Need-walk-on-requires
-walk-on-requires c κs =
+walk-requires : tie.Need-walk-requires
+walk-requires c κs =
     let f = c .before .before .before .before .before .before .before .before .before .before .before .before in
     let w = f .before .before .before .before .before .before .before .before .before .before .before .before .before .before .before in
     let s = w .before .before .before .before .before .before .before .before .before .before .before .before .before .before in
-    ((s .pre .0 .0, record { work = w .prepare .ensures; table = f .fill .ensures .0 }), (f .fill .ensures .1, s .pre .0 .3))
+    let a = s .args in
+    let p = w .prepare .ensures in (
+      working-on (a .job .now) (a .lw) (a .bw) p (a .start) (a .w .now) (s .pre .0 .0 .some) (f .fill .ensures .0) (s .pre .0 .3),
+      (f .fill .ensures .1, startable-on (a .job .now) (a .lw) (a .bw) p (a .start) (a .w .now) (s .pre .0 .3)),
+    )
 
 same-length : tie.Need-same-length
 same-length c = search needs
@@ -46,7 +50,13 @@ same-length-8 : tie.Need-same-length-8
 same-length-8 c = search needs
 
 returns : tie.Need-returns
-returns c = search needs
+returns c =
+    let d = c .before .before .before .before in
+    let f = d .before .before .before .before .before .before .before .before .before .before .before .before .before in
+    let w = f .before .before .before .before .before .before .before .before .before .before .before .before .before .before .before in
+    let s = w .before .before .before .before .before .before .before .before .before .before .before .before .before .before in
+    let a = s .args in
+    walks-on (a .job .now) (a .lw) (a .bw) (w .prepare .ensures) (a .start) (a .w .now) (a .page .now) _ _ (d .walk .result) (d .walk .ensures)
 
 pub walk-at-spec : {M : Type 1} → statement M
 walk-at-spec =
@@ -54,7 +64,7 @@ walk-at-spec =
     (tie.spec
     prepare-requires
     fill-requires
-    walk-on-requires
+    walk-requires
     same-length
     same-length-2
     same-length-3

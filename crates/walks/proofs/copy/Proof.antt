@@ -1,11 +1,11 @@
--- `turns::copy` meets its contract. The loop's invariant: the first i entries are copied. Assumes nothing.
+-- `walks::copy` meets its contract. The loop's invariant: the first i entries are copied. Assumes nothing.
 use mathlib.Core.Path.{_≡_}
 use Prim.Native.Nat.{_-_, _≤_, zero-le}
 use native.Mathlib.Numerals.{add-one}
 use native.Mathlib.Omega.{arith}
-use Rattle.paper.specs.laws.Pages.{Copied, copied-none, copied-more}
-use Rattle.turns.proofs.copy.Statement.{statement}
-use Rattle.turns.proofs.copy.Tie as tie
+use Rattle.numbers.specs.Copies.{Copied, copied-none, copied-more}
+use Rattle.walks.proofs.copy.Statement.{statement}
+use Rattle.walks.proofs.copy.Tie as tie
 
 abbrev Inv-loop : tie.InvT-loop
 Inv-loop from n to₀ at i₀ to i = (i ≤ n) × Copied i at from to₀ to
@@ -42,8 +42,7 @@ loop-again c =
     let s = c .before .before .before in
     let l = c .before .before .loop in (
       omega (arith, c .before .loop-test .taken),
-      rw (add-one (l .i)) (copied-more (l .i) (s .args .at) (s .args .from .now) (s .args .to .now) (l .to) (omega (arith, s .pre .1, c .before .loop-test .taken))
-          (l .inv .1)),
+      rw add-one (copied-more (l .i) (s .args .at) (s .args .from .now) (s .args .to .now) (l .to) (omega (arith, s .pre .1, c .before .loop-test .taken)) (l .inv .1)),
     )
 
 same-length : tie.Need-same-length Inv-loop μ-loop
