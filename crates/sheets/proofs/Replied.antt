@@ -7,20 +7,20 @@ use Prim.Native.Nat.{ℕ, zero, suc, _+_, _*_, _≤_, _<_}
 use native.Mathlib.Nat.{suc-mul}
 use native.Mathlib.Omega.{arith}
 use lib.ListN.{length}
+use Rattle.numbers.specs.Copies.{Copied}
 use Rattle.paper.specs.Job.{count}
 use Rattle.paper.specs.Layouts.{boardOf, held, weighted, Untouching, Same}
-use Rattle.paper.specs.Problem.{labelingOf}
+use Rattle.paper.specs.Problem.{Problem, labelingOf}
 use Rattle.paper.specs.Promises.{inTurn, Following}
 use Rattle.paper.specs.laws.Boards.{untouching-same}
-use Rattle.paper.specs.laws.Trying.{labeling-steady}
 use Rattle.paper.specs.laws.Order.{Steady, best-same, next-of-same, last-of-same}
+use Rattle.paper.specs.laws.Trying.{labeling-steady}
 use Rattle.paper.specs.laws.Pages.{Paging, paging-none, paging-here, paging-more, page-full, page-ends, following-same}
 use Rattle.walks.specs.declared.Start.the-variants.{First, Given}
 use Rattle.walks.specs.declared.Walked.{Walked}
-use Rattle.numbers.specs.Copies.{Copied}
 use Rattle.walks.specs.Walks.{Stepped, Turned, Walks}
 use Rattle.sheets.specs.declared.Step.the-variants.{Total, End, NotBest}
-use Rattle.sheets.specs.Replies.{jobRules, StartOn, FirstOn, NextOn, PageOn}
+use Rattle.sheets.specs.Replies.{rulesOf, jobRules, StartOn, FirstOn, NextOn, PageOn}
 
 module _ (job : List ℕ) (lw bw : ℕ) (some : 0 < count job) (w page v after : List ℕ) (r : Walked) where
   -- First: with room for none
@@ -55,46 +55,43 @@ module _ (job : List ℕ) (lw bw : ℕ) (some : 0 < count job) (w page v after :
         go (suc (suc k)) h T = absurd (omega (arith, T .fit, suc-mul (suc k) (count job), suc-mul k (count job)))
 
 -- Page: from a copy
-module _ (job : List ℕ) (lw bw : ℕ) where
+module _ (p : Problem) (steady : Steady p) where
+  -- Layouts that came on the page one after the other stand there in turn.
+  paged : (w page v after : List ℕ) (k : ℕ) → k * p .board .pads ≤ length page → Stepped (rulesOf p) (p .board .pads) w page v after k
+      → Paging p w page k after × Same (p .board) (held v) (inTurn (p .board .pads) w after k)
+  unfolding Stepped
+  paged w page v after zero fit (e, f) = rw (e, f) (paging-none p w page, λ i h. refl)
+  paged w page v after (suc k) fit (u, half, s, next, here) =
+      let (P, reached) = paged w page u half k (omega (arith, suc-mul k (p .board .pads))) s in (
+        paging-more p w page k half P v after here steady fit (next-of-same p (held u) (inTurn (p .board .pads) w half k) (held v) reached (next .0)),
+        λ i h. sym (paging-here p w page k half P v after here i h),
+      )
+
+  follows : (w page v after : List ℕ) (k : ℕ) → Turned (rulesOf p) (p .board .pads) w page v after k → Following p w page k after
+  follows w page v after k T =
+      let (P, reached) = paged w page v after k (T .fit) (T .steps) in
+      ⊎-elim (page-full p w page k after P) (λ l. page-ends p w page k after P (last-of-same p (held v) (inTurn (p .board .pads) w after k) reached l)) (T .all)
+
+module _ (job : List ℕ) (lw bw : ℕ) {given w₀ w : List ℕ} (C : Copied (count job) 0 given w₀ w) where
   steady : Steady (labelingOf job lw bw)
   steady = labeling-steady (boardOf job) (weighted (boardOf job) lw bw)
 
-  -- Layouts that came on the page one after the other stand there in turn.
-  paged : (w page v after : List ℕ) (k : ℕ) → k * count job ≤ length page → Stepped (jobRules job lw bw) (count job) w page v after k
-      → Paging (labelingOf job lw bw) w page k after × Same (boardOf job) (inTurn (count job) w after k) (held v)
-  unfolding Stepped
-  paged w page v after zero fit (e, f) = rw (e, f) (paging-none (labelingOf job lw bw) w page, λ i h. refl)
-  paged w page v after (suc k) fit (u, half, s, next, here) =
-      let (P, reached) = paged w page u half k (omega (arith, suc-mul k (count job))) s in
-      (
-        paging-more (labelingOf job lw bw) w page k half P v after here steady fit
-            (next-of-same (labelingOf job lw bw) (held u) (inTurn (count job) w half k) (held v) (λ i h. sym (reached i h)) (next .0)),
-        paging-here (labelingOf job lw bw) w page k half P v after here,
-      )
+  alike : Same (boardOf job) (held w) (held given)
+  alike i h = let e : 0 + i ≡ i = omega arith in rw e at (C .here i h)
 
-  follows : (w page v after : List ℕ) (k : ℕ) → Turned (jobRules job lw bw) (count job) w page v after k → Following (labelingOf job lw bw) w page k after
-  follows w page v after k T =
-      let (P, reached) = paged w page v after k (T .fit) (T .steps) in
-      ⊎-elim (page-full (labelingOf job lw bw) w page k after P)
-      (λ l. page-ends (labelingOf job lw bw) w page k after P
-      (last-of-same (labelingOf job lw bw) (held v) (inTurn (count job) w after k) (λ i h. sym (reached i h)) l)) (T .all)
+  back : Same (boardOf job) (held given) (held w)
+  back i h = sym (alike i h)
 
-  module _ {given w₀ w : List ℕ} (C : Copied (count job) 0 given w₀ w) where
-    alike : Same (boardOf job) (held w) (held given)
-    alike i h = let e : 0 + i ≡ i = omega arith in rw e at (C .here i h)
+  pub copy-startable : count job ≤ length w₀ → Untouching (boardOf job) (held given) → StartOn Given (boardOf job) w
+  copy-startable h u = (omega (arith, C .long), untouching-same (boardOf job) (held given) (held w) back u)
 
-    back : Same (boardOf job) (held given) (held w)
-    back i h = sym (alike i h)
-
-    pub copy-startable : count job ≤ length w₀ → Untouching (boardOf job) (held given) → StartOn Given job w
-    copy-startable h u = (omega (arith, C .long), untouching-same (boardOf job) (held given) (held w) back u)
-
-    pub page-walked : (page v after : List ℕ) (r : Walked) → Walks (jobRules job lw bw) (count job) Given w page v after r → PageOn job lw bw given page after r
-    page-walked page v after r W = (
-      λ e. let best = best-same (labelingOf job lw bw) steady (held w) (held given) alike (rw e at (W .begins .0)) in (
-        best,
-        following-same (labelingOf job lw bw) steady w given alike page (r .count) after (follows w page v after (r .count) (rw (e, W .begins .1) at (W .turns))),
-        W .least given best,
-      ),
-      λ e. ((λ s. (rw e at (W .begins .0)) (best-same (labelingOf job lw bw) steady (held given) (held w) back s)), (rw e at (W .turns)) .1),
-    )
+  pub page-walked : (page v after : List ℕ) (r : Walked) → Walks (jobRules job lw bw) (count job) Given w page v after r → PageOn job lw bw given page after r
+  page-walked page v after r W = (
+    λ e. let best = best-same (labelingOf job lw bw) steady (held w) (held given) alike (rw e at (W .begins .0)) in (
+      best,
+      following-same (labelingOf job lw bw) steady w given alike page (r .count) after
+          (follows (labelingOf job lw bw) steady w page v after (r .count) (rw (e, W .begins .1) at (W .turns))),
+      W .least given best,
+    ),
+    λ e. ((λ s. (rw e at (W .begins .0)) (best-same (labelingOf job lw bw) steady (held given) (held w) back s)), (rw e at (W .turns)) .1),
+  )

@@ -5,8 +5,8 @@ use mathlib.Core.List.{List}
 use Prim.Native.Nat.{ℕ, _≤_}
 use lib.ListN.{length}
 use Rattle.paper.specs.Job.{count}
-use Rattle.paper.specs.Layouts.{boardOf, held, weighted, Untouching}
-use Rattle.paper.specs.Problem.{Best, FirstBest, NextBest, LastBest, labelingOf}
+use Rattle.paper.specs.Layouts.{Board, held, Untouching}
+use Rattle.paper.specs.Problem.{Problem, Best, FirstBest, NextBest, LastBest, labelingOf}
 use Rattle.paper.specs.Promises.{Kept, Following}
 use Rattle.paper.specs.laws.Totals.{totalOf}
 use Rattle.walks.specs.declared.Start.{Start}
@@ -16,20 +16,23 @@ use Rattle.walks.specs.Walks.{Rules}
 use Rattle.sheets.specs.declared.Step.{Step}
 use Rattle.sheets.specs.declared.Step.the-variants.{Total, End, NotBest}
 
--- The rules of a walk through the best layouts of a job.
-abbrev pub jobRules : List ℕ → ℕ → ℕ → Rules
-jobRules job lw bw = record {
-  Earliest = λ w v. FirstBest (labelingOf job lw bw) (held v) × Kept (count job) w v;
-  Best = λ w. Best (labelingOf job lw bw) (held w);
-  Next = λ w v. NextBest (labelingOf job lw bw) (held w) (held v) × Kept (count job) w v;
-  Last = λ w. LastBest (labelingOf job lw bw) (held w);
-  Least = λ t. (w : List ℕ) → Best (labelingOf job lw bw) (held w) → t ≡ totalOf job lw bw w;
+-- The rules of a walk through the best layouts of a problem, and of a job's.
+abbrev pub rulesOf : Problem → Rules
+rulesOf p = record {
+  Earliest = λ w v. FirstBest p (held v) × Kept (p .board .pads) w v;
+  Best = λ w. Best p (held w);
+  Next = λ w v. NextBest p (held w) (held v) × Kept (p .board .pads) w v;
+  Last = λ w. LastBest p (held w);
+  Least = λ t. (w : List ℕ) → Best p (held w) → t ≡ p .value (held w);
 }
 
+abbrev pub jobRules : List ℕ → ℕ → ℕ → Rules
+jobRules job lw bw = rulesOf (labelingOf job lw bw)
+
 -- A walk starts with room for a layout, and with an untouching one if it is given.
-abbrev pub StartOn : Start → List ℕ → List ℕ → Type 0
-StartOn First job w = count job ≤ length w
-StartOn Given job w = (count job ≤ length w) × Untouching (boardOf job) (held w)
+abbrev pub StartOn : Start → Board → List ℕ → Type 0
+StartOn First b w = b .pads ≤ length w
+StartOn Given b w = (b .pads ≤ length w) × Untouching b (held w)
 
 -- FIRST: the list holds the earliest best layout, t is its total, and the entries from n on are kept.
 abbrev pub FirstOn : List ℕ → ℕ → ℕ → List ℕ → List ℕ → ℕ → Type 0

@@ -33,7 +33,7 @@ fn walk_at(
     w: &mut [u16],
     page: &mut [u16],
 ) -> Walked
-    requires { ⌜ Accepted (now job) × (lw ≤ 1000) × (bw ≤ 1000) × StartOn start (now job) (now w) ⌝ }
+    requires { ⌜ Accepted (now job) × (lw ≤ 1000) × (bw ≤ 1000) × StartOn start (boardOf (now job)) (now w) ⌝ }
     requires { ⌜ Lent (count (now job)) (now order) (now lo) (now hi) (now cost) × (length (now heads) ≡ 2145) × (length (now totals) ≡ 2145) ⌝ }
     ensures { λ r. ⌜ Walks (jobRules (now (job .entry)) lw bw) (count (now (job .entry))) start (now (w .entry)) (now (page .entry)) (now (w .exit))
         (now (page .exit)) r ⌝ }
@@ -45,7 +45,7 @@ fn walk_at(
 
 // A walk through the best layouts of a job.
 fn walk(start: Start, job: &[u8], lw: u32, bw: u32, w: &mut [u16], page: &mut [u16]) -> Walked
-    requires { ⌜ Accepted (now job) × (lw ≤ 1000) × (bw ≤ 1000) × StartOn start (now job) (now w) ⌝ }
+    requires { ⌜ Accepted (now job) × (lw ≤ 1000) × (bw ≤ 1000) × StartOn start (boardOf (now job)) (now w) ⌝ }
     ensures { λ r. ⌜ Walks (jobRules (now (job .entry)) lw bw) (count (now (job .entry))) start (now (w .entry)) (now (page .entry)) (now (w .exit))
         (now (page .exit)) r ⌝ }
 {

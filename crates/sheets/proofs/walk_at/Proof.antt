@@ -1,28 +1,38 @@
 -- `sheets::walk_at` meets its contract: the lists, then the walk over them, in the paper's words (`walks-on`). Assumes nothing.
 use borrow.Author.Needs.{needs}
-use Rattle.sheets.proofs.Translated.{proper-on, working-on, startable-on, walks-on}
+use Prim.Native.Nat.{ℕ}
+use Rattle.paper.specs.Layouts.{Board, boardOf, weighted}
+use Rattle.board.specs.Bridge.{proper}
+use Rattle.sheets.proofs.Translated.{working-on, startable-on, walks-on}
 use Rattle.sheets.proofs.walk_at.Statement.{statement}
 use Rattle.sheets.proofs.walk_at.Tie as tie
+
+-- the function's entry, from where the lists are made; the board, and what its leaders cost
+abbrev start : tie.After-prepare → tie.Start
+start p = p .before .before .before .before .before .before .before .before .before .before .before .before .before .before
+
+abbrev board : tie.After-prepare → Board
+board p = boardOf (start p .args .job .now)
+
+abbrev costs : tie.After-prepare → ℕ → ℕ → ℕ
+costs p = weighted (board p) (start p .args .lw) (start p .args .bw)
 
 prepare-requires : tie.Need-prepare-requires
 prepare-requires c κs = search needs
 
 fill-requires : tie.Need-fill-requires
 fill-requires c κs =
-    let w = c .before .before .before .before .before .before .before .before .before .before .before .before .before .before in
-    let s = w .before .before .before .before .before .before .before .before .before .before .before .before .before .before in
-    let p = proper-on (s .args .job .now) (s .args .lw) (s .args .bw) (w .prepare .ensures) in
-    (p .pads, (s .pre .1 .1, s .pre .1 .2, p .square))
+    let p = c .before .before .before .before .before .before .before .before .before .before .before .before .before .before in
+    let proper = proper {cost = costs p} (p .prepare .ensures) in
+    (proper .pads, (start p .pre .1 .1, start p .pre .1 .2, proper .square))
 
 walk-requires : tie.Need-walk-requires
 walk-requires c κs =
     let f = c .before .before .before .before .before .before .before .before .before .before .before .before in
-    let w = f .before .before .before .before .before .before .before .before .before .before .before .before .before .before .before in
-    let s = w .before .before .before .before .before .before .before .before .before .before .before .before .before .before in
-    let a = s .args in
-    let p = w .prepare .ensures in (
-      working-on (a .job .now) (a .lw) (a .bw) p (a .start) (a .w .now) (s .pre .0 .0 .some) (f .fill .ensures .0) (s .pre .0 .3),
-      (f .fill .ensures .1, startable-on (a .job .now) (a .lw) (a .bw) p (a .start) (a .w .now) (s .pre .0 .3)),
+    let p = f .before .before .before .before .before .before .before .before .before .before .before .before .before .before .before in
+    let s = start p in (
+      working-on (board p) (costs p) (p .prepare .ensures) (s .args .start) (s .args .w .now) (s .pre .0 .0 .some) (f .fill .ensures .0) (s .pre .0 .3),
+      (f .fill .ensures .1, startable-on (board p) (costs p) (p .prepare .ensures) (s .args .start) (s .args .w .now) (s .pre .0 .3)),
     )
 
 same-length : tie.Need-same-length
@@ -52,11 +62,9 @@ same-length-8 c = search needs
 returns : tie.Need-returns
 returns c =
     let d = c .before .before .before .before in
-    let f = d .before .before .before .before .before .before .before .before .before .before .before .before .before in
-    let w = f .before .before .before .before .before .before .before .before .before .before .before .before .before .before .before in
-    let s = w .before .before .before .before .before .before .before .before .before .before .before .before .before .before in
-    let a = s .args in
-    walks-on (a .job .now) (a .lw) (a .bw) (w .prepare .ensures) (a .start) (a .w .now) (a .page .now) _ _ (d .walk .result) (d .walk .ensures)
+    let p = d .before .before .before .before .before .before .before .before .before .before .before .before .before .before .before .before .before .before .before .before .before .before .before .before .before .before .before .before in
+    let a = start p .args in
+    walks-on (board p) (costs p) (p .prepare .ensures) (a .start) (a .w .now) (a .page .now) _ _ (d .walk .result) (d .walk .ensures)
 
 pub walk-at-spec : {M : Type 1} → statement M
 walk-at-spec =
