@@ -2,14 +2,15 @@
 use crate::Verdict;
 use find::Check;
 use find::Found;
+use find::Own;
 use paper::Refusal;
 ghost use mathlib.Core.Path.{_≡_};
 ghost use Prim.Native.Nat.{_≤_};
 ghost use lib.ListN.{length};
 ghost use Rattle.paper.specs.Job.{count};
 ghost use Rattle.paper.specs.Layouts.{boardOf, held};
-ghost use Rattle.paper.specs.laws.Tests.{meetAt, atEach, atPairs, atWhole, jobTests, layoutTests, firstTests, measureTests, drawTests};
-ghost use Rattle.find.specs.Dispatch.{testOf, Sized, Led};
+ghost use Rattle.paper.specs.laws.Tests.{badEntry, meetAt, atEach, atPairs, atWhole, jobTests, layoutTests, firstTests, measureTests, drawTests};
+ghost use Rattle.find.specs.Dispatch.{testOf, Led};
 ghost use Rattle.checks.specs.Verdicts.{outcome, andThen, verdictAfter};
 
 // What a check found, as a verdict.
@@ -42,24 +43,38 @@ fn try_whole(v: Verdict, reason: u16, fault: bool) -> Verdict
     }
 }
 
-// One more check, of the records.
-fn try_records(v: Verdict, reason: u16, c: Check, job: &[u8], list: &[u16]) -> Verdict
-    requires { ⌜ (v ≡ Verdict.Sound → (length (now job) ≤ 1024) × Sized c (now list) (count (now job))) ⌝ }
-    ensures { λ r. ⌜ r ≡ andThen v (atEach reason (count (now (job .entry))) (testOf c (now (job .entry)) (now (list .entry)) (count (now (job .entry))))) ⌝ }
+// One more check, of the job's records.
+fn try_records(v: Verdict, reason: u16, c: Check, job: &[u8]) -> Verdict
+    requires { ⌜ (v ≡ Verdict.Sound → length (now job) ≤ 1024) ⌝ }
+    ensures { λ r. ⌜ r ≡ andThen v (atEach reason (count (now (job .entry))) (testOf c (now (job .entry)))) ⌝ }
 {
     match v {
-        Verdict::Sound => verdict(reason, find::first_failing(c, job, list, job::records(job))),
+        Verdict::Sound => verdict(reason, find::first_failing(c, job, job::records(job))),
         Verdict::Refused(r) => Verdict::Refused(r),
     }
 }
 
-// One more check, of the records two at a time.
+// 8: the entries of the list.
+fn try_entries(v: Verdict, job: &[u8], list: &[u16]) -> Verdict
+    requires { ⌜ (v ≡ Verdict.Sound → (length (now job) ≤ 1024) × (count (now job) ≤ length (now list))) ⌝ }
+    ensures { λ r. ⌜ r ≡ andThen v (atEach 8 (count (now (job .entry))) (badEntry (count (now (job .entry))) (now (list .entry)))) ⌝ }
+{
+    match v {
+        Verdict::Sound => verdict(8, find::layout::first_bad_entry(list, job::records(job))),
+        Verdict::Refused(r) => Verdict::Refused(r),
+    }
+}
+
+// 9: the leaders of the records, two at a time.
 fn try_touching(v: Verdict, job: &[u8], list: &[u16]) -> Verdict
     requires { ⌜ (v ≡ Verdict.Sound → (length (now job) ≤ 1024) × Led (now list) (count (now job))) ⌝ }
     ensures { λ r. ⌜ r ≡ andThen v (atPairs 9 (count (now (job .entry))) (meetAt (boardOf (now (job .entry))) (held (now (list .entry))))) ⌝ }
 {
     match v {
-        Verdict::Sound => verdict(9, find::pairs::first_touching(job, list, job::records(job))),
+        Verdict::Sound => verdict(
+            9,
+            find::layout::first_touching(job, list, job::records(job)),
+        ),
         Verdict::Refused(r) => Verdict::Refused(r),
     }
 }
@@ -69,14 +84,11 @@ pub fn of_job(v: Verdict, job: &[u8]) -> Verdict
     requires { ⌜ (v ≡ Verdict.Sound → length (now job) ≤ 1024) ⌝ }
     ensures { λ r. ⌜ r ≡ verdictAfter v (jobTests (now (job .entry))) ⌝ }
 {
-    // none of these checks reads a list; one slice serves them all
-    let entries = [0u16; 1];
-    let none: &[u16] = &entries;
-    let v4 = try_records(v, 4, Check::Field, job, none);
-    let v5 = try_records(v4, 5, Check::Rise, job, none);
-    let v12 = try_records(v5, 12, Check::Space, job, none);
-    let v6 = try_records(v12, 6, Check::Name, job, none);
-    try_records(v6, 7, Check::Place, job, none)
+    let v4 = try_records(v, 4, Check::Field, job);
+    let v5 = try_records(v4, 5, Check::Rise, job);
+    let v12 = try_records(v5, 12, Check::Space, job);
+    let v6 = try_records(v12, 6, Check::Once(Own::Name), job);
+    try_records(v6, 7, Check::Once(Own::Place), job)
 }
 
 // 8 and 9: the layout.
@@ -84,7 +96,7 @@ pub fn of_layout(v: Verdict, job: &[u8], list: &[u16]) -> Verdict
     requires { ⌜ (v ≡ Verdict.Sound → (length (now job) ≤ 1024) × (count (now job) ≤ length (now list))) ⌝ }
     ensures { λ r. ⌜ r ≡ verdictAfter v (layoutTests (boardOf (now (job .entry))) (now (list .entry))) ⌝ }
 {
-    let v8 = try_records(v, 8, Check::Entry, job, list);
+    let v8 = try_entries(v, job, list);
     try_touching(v8, job, list)
 }
 

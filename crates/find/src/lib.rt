@@ -1,12 +1,12 @@
-// The first record that fails a check: one loop for all checks that name one record, and one below it for those on two.
-pub mod pairs;
+// The first record at fault: one loop for all checks of the job's records, and one below it for those on two. `layout` has those of a layout.
+pub mod layout;
 
 ghost use mathlib.Core.Path.{_≡_};
 ghost use Prim.Native.Nat.{_<_};
 ghost use Rattle.paper.specs.Job.{count};
-ghost use Rattle.paper.specs.laws.Tests.{somewhere};
+ghost use Rattle.paper.specs.laws.Tests.{withEarlier};
 ghost use Rattle.find.specs.Search.{firstWhere};
-ghost use Rattle.find.specs.Dispatch.{pairOf, testOf, Sized};
+ghost use Rattle.find.specs.Dispatch.{pairOf, testOf};
 
 // What a search for a record finds: the record, and the earlier one found with it (0 where none is looked for).
 pub enum Found {
@@ -14,39 +14,39 @@ pub enum Found {
     Nowhere,
 }
 
-// The checks that look for one record. What each stands for is in specs/Dispatch.antt.
+// What no two records share. What this and each check stand for is in specs/Dispatch.antt.
+pub enum Own {
+    Name, // 6
+    Place, // 7
+}
+
+// The checks of one record, alone or with those before it.
 pub enum Check {
     Field, // 4
     Rise, // 5
-    Name, // 6
-    Place, // 7
-    Entry, // 8
     Space, // 12
+    Once(Own),
 }
 
-// Whether a check on two records fails at i and j.
-fn clash(c: Check, job: &[u8], list: &[u16], n: u16, i: u16, j: u16) -> bool
-    requires { ⌜ (n ≡ count (now job)) × (i < n) × (j < n) × Sized c (now list) n ⌝ }
-    ensures { λ r. ⌜ r ≡ pairOf c (now (job .entry)) (now (list .entry)) i j ⌝ }
+// Whether records i and j share what they should not.
+fn same(o: Own, job: &[u8], i: u16, j: u16) -> bool
+    requires { ⌜ (i < count (now job)) × (j < count (now job)) ⌝ }
+    ensures { λ r. ⌜ r ≡ pairOf o (now (job .entry)) i j ⌝ }
 {
-    match c {
-        Check::Field => false,
-        Check::Rise => false,
-        Check::Name => faults::same_name(job, i, j),
-        Check::Place => faults::same_x(job, i, j),
-        Check::Entry => faults::same_entry(list, i, j),
-        Check::Space => false,
+    match o {
+        Own::Name => faults::same_name(job, i, j),
+        Own::Place => faults::same_x(job, i, j),
     }
 }
 
-// Whether it fails at i and an earlier record.
-fn clashes(c: Check, job: &[u8], list: &[u16], n: u16, i: u16) -> bool
-    requires { ⌜ (n ≡ count (now job)) × (i < n) × Sized c (now list) n ⌝ }
-    ensures { λ r. ⌜ r ≡ somewhere (pairOf c (now (job .entry)) (now (list .entry)) i) i ⌝ }
+// Whether record i and an earlier one do.
+fn stood(o: Own, job: &[u8], i: u16) -> bool
+    requires { ⌜ i < count (now job) ⌝ }
+    ensures { λ r. ⌜ r ≡ withEarlier (pairOf o (now (job .entry))) i ⌝ }
 {
     let mut j = 0;
     while j < i {
-        if clash(c, job, list, n, i, j) {
+        if same(o, job, i, j) {
             return true;
         }
         j += 1;
@@ -55,28 +55,26 @@ fn clashes(c: Check, job: &[u8], list: &[u16], n: u16, i: u16) -> bool
 }
 
 // Whether a check fails at i.
-fn fails(c: Check, job: &[u8], list: &[u16], n: u16, i: u16) -> bool
-    requires { ⌜ (n ≡ count (now job)) × (i < n) × Sized c (now list) n ⌝ }
-    ensures { λ r. ⌜ r ≡ testOf c (now (job .entry)) (now (list .entry)) n i ⌝ }
+fn fails(c: Check, job: &[u8], i: u16) -> bool
+    requires { ⌜ i < count (now job) ⌝ }
+    ensures { λ r. ⌜ r ≡ testOf c (now (job .entry)) i ⌝ }
 {
     match c {
         Check::Field => faults::bad_field(job, i),
         Check::Rise => faults::not_above(job, i),
-        Check::Name => clashes(c, job, list, n, i),
-        Check::Place => clashes(c, job, list, n, i),
-        Check::Entry => (n <= list[i as usize]) | clashes(c, job, list, n, i),
         Check::Space => faults::too_close(job, i),
+        Check::Once(o) => stood(o, job, i),
     }
 }
 
 // The first of the n records that fails a check.
-pub fn first_failing(c: Check, job: &[u8], list: &[u16], n: u16) -> Found
-    requires { ⌜ (n ≡ count (now job)) × Sized c (now list) n ⌝ }
-    ensures { λ r. ⌜ r ≡ firstWhere (testOf c (now (job .entry)) (now (list .entry)) n) n ⌝ }
+pub fn first_failing(c: Check, job: &[u8], n: u16) -> Found
+    requires { ⌜ n ≡ count (now job) ⌝ }
+    ensures { λ r. ⌜ r ≡ firstWhere (testOf c (now (job .entry))) n ⌝ }
 {
     let mut i = 0;
     while i < n {
-        if fails(c, job, list, n, i) {
+        if fails(c, job, i) {
             return Found::At(i, 0);
         }
         i += 1;

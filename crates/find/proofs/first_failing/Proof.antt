@@ -9,10 +9,10 @@ use Rattle.find.proofs.first_failing.Statement.{statement}
 use Rattle.find.proofs.first_failing.Tie as tie
 
 abbrev Inv-loop : tie.InvT-loop
-Inv-loop c job list n i₀ i = (i ≤ n) × (firstWhere (testOf c job list n) i ≡ Nowhere)
+Inv-loop c job n i₀ i = (i ≤ n) × (firstWhere (testOf c job) i ≡ Nowhere)
 
 abbrev μ-loop : tie.MeasureT-loop
-μ-loop c job list n i₀ i = n - i
+μ-loop c job n i₀ i = n - i
 
 loop-holds : tie.Need-loop-holds Inv-loop μ-loop
 loop-holds c = (search needs, none-below _)

@@ -1,49 +1,42 @@
 -- `checks::verdicts::of_job` meets its contract. Assumes nothing.
 use mathlib.Core.Path.{_≡_}
 use Rattle.checks.specs.declared.Verdict.the-variants.{Sound}
-use Rattle.find.specs.Dispatch.{testOf}
+use Rattle.find.specs.Dispatch.{pairOf, testOf}
 use Rattle.paper.specs.laws.Tests.{jobTests}
 use Rattle.checks.specs.Sound.{was-sound}
-use borrow.Author.Needs.{needs}
 use Rattle.checks.proofs.verdicts.of_job.Statement.{statement}
 use Rattle.checks.proofs.verdicts.of_job.Tie as tie
 
-abbrev begin : tie.After-entries → tie.Start
-begin c = c .before .before
-
 -- a verdict that is sound after a check was so at the start
-after-4 : (c : tie.After-try-records) → c .try-records .result ≡ Sound → begin (c .before) .args .v ≡ Sound
+after-4 : (c : tie.After-try-records) → c .try-records .result ≡ Sound → c .before .before .args .v ≡ Sound
 after-4 c sound = was-sound _ _ _ (c .try-records .ensures) sound .0
 
-after-5 : (c : tie.After-try-records2) → c .try-records2 .result ≡ Sound → begin (c .before .before) .args .v ≡ Sound
+after-5 : (c : tie.After-try-records2) → c .try-records2 .result ≡ Sound → c .before .before .before .args .v ≡ Sound
 after-5 c sound = after-4 (c .before) (was-sound _ _ _ (c .try-records2 .ensures) sound .0)
 
-after-12 : (c : tie.After-try-records3) → c .try-records3 .result ≡ Sound → begin (c .before .before .before) .args .v ≡ Sound
+after-12 : (c : tie.After-try-records3) → c .try-records3 .result ≡ Sound → c .before .before .before .before .args .v ≡ Sound
 after-12 c sound = after-5 (c .before) (was-sound _ _ _ (c .try-records3 .ensures) sound .0)
 
-after-6 : (c : tie.After-try-records4) → c .try-records4 .result ≡ Sound → begin (c .before .before .before .before) .args .v ≡ Sound
+after-6 : (c : tie.After-try-records4) → c .try-records4 .result ≡ Sound → c .before .before .before .before .before .args .v ≡ Sound
 after-6 c sound = after-12 (c .before) (was-sound _ _ _ (c .try-records4 .ensures) sound .0)
 
-slice-aggregate-none : tie.Need-slice-aggregate-none
-slice-aggregate-none c = search needs
-
 try-records-requires : tie.Need-try-records-requires
-try-records-requires c κs = λ sound. (begin c .pre sound, tt)
+try-records-requires c κs = λ sound. c .before .pre sound
 
 try-records-requires-2 : tie.Need-try-records-requires-2
-try-records-requires-2 c κs = λ sound. (begin (c .before) .pre (after-4 c sound), tt)
+try-records-requires-2 c κs = λ sound. c .before .before .pre (after-4 c sound)
 
 try-records-requires-3 : tie.Need-try-records-requires-3
-try-records-requires-3 c κs = λ sound. (begin (c .before .before) .pre (after-5 c sound), tt)
+try-records-requires-3 c κs = λ sound. c .before .before .before .pre (after-5 c sound)
 
 try-records-requires-4 : tie.Need-try-records-requires-4
-try-records-requires-4 c κs = λ sound. (begin (c .before .before .before) .pre (after-12 c sound), tt)
+try-records-requires-4 c κs = λ sound. c .before .before .before .before .pre (after-12 c sound)
 
 try-records-requires-5 : tie.Need-try-records-requires-5
-try-records-requires-5 c κs = λ sound. (begin (c .before .before .before .before) .pre (after-6 c sound), tt)
+try-records-requires-5 c κs = λ sound. c .before .before .before .before .before .pre (after-6 c sound)
 
 returns : tie.Need-returns
-unfolding jobTests testOf
+unfolding jobTests testOf pairOf
 returns c =
     let c6 = c .before in
     let c12 = c6 .before in
@@ -54,7 +47,6 @@ pub of-job-spec : {M : Type 1} → statement M
 of-job-spec =
     tie.close
     (tie.spec
-    slice-aggregate-none
     try-records-requires
     try-records-requires-2
     try-records-requires-3

@@ -2,29 +2,27 @@
 use denote.Ref.{now}
 use Rattle.paper.specs.Job.{count}
 use Rattle.paper.specs.laws.Tests.{badEntry, atEach, layoutTests}
-use Rattle.find.specs.Dispatch.{testOf}
 use Rattle.checks.specs.Sound.{was-sound, entries-below}
 use borrow.Author.Needs.{needs}
 use Rattle.checks.proofs.verdicts.of_layout.Statement.{statement}
 use Rattle.checks.proofs.verdicts.of_layout.Tie as tie
 
-try-records-requires : tie.Need-try-records-requires
-try-records-requires c κs = search needs
+try-entries-requires : tie.Need-try-entries-requires
+try-entries-requires c κs = search needs
 
 try-touching-requires : tie.Need-try-touching-requires
-unfolding testOf
 try-touching-requires c κs =
     λ sound.
     let s = c .before .before .before in
     let n = count (now (s .args .job)) in
     let list = now (s .args .list) in
-    let none = was-sound (s .args .v) _ (atEach 8 n (badEntry n list)) (c .try-records .ensures) sound in
+    let none = was-sound (s .args .v) _ (atEach 8 n (badEntry n list)) (c .try-entries .ensures) sound in
     let given = s .pre (none .0) in
     (given .0, (given .1, entries-below n list (none .1)))
 
 returns : tie.Need-returns
-unfolding layoutTests testOf
-returns c = rw (c .try-touching .ensures, c .before .try-records .ensures)
+unfolding layoutTests
+returns c = rw (c .try-touching .ensures, c .before .try-entries .ensures)
 
 pub of-layout-spec : {M : Type 1} → statement M
-of-layout-spec = tie.close (tie.spec try-records-requires try-touching-requires returns)
+of-layout-spec = tie.close (tie.spec try-entries-requires try-touching-requires returns)

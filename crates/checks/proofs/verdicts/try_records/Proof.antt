@@ -8,12 +8,10 @@ enum-told : tie.Need-enum-told
 enum-told c = search needs
 
 records-requires : tie.Need-records-requires
-records-requires c κs = omega (arith, c .before .before .before .before .pre (c .enum-told .given .1) .0)
+records-requires c κs = omega (arith, c .before .before .before .pre (c .enum-told .given .1))
 
 first-failing-requires : tie.Need-first-failing-requires
-first-failing-requires c κs =
-    let e = c .records .ensures in
-    (e, rw e (c .before .before .before .before .before .pre (c .before .enum-told .given .1) .1))
+first-failing-requires c κs = c .records .ensures
 
 verdict-requires : tie.Need-verdict-requires
 verdict-requires c κs = search needs

@@ -1,28 +1,27 @@
--- `find::clashes` meets its contract. Assumes nothing.
+-- `find::layout::entry_stood` meets its contract. Assumes nothing.
 use Prim.Native.Nat.{_≤_, _-_}
 use mathlib.Core.Bool.{false}
 use mathlib.Core.Path.{_≡_, sym, _∙_}
 use borrow.Author.Needs.{needs}
-use Rattle.paper.specs.laws.Tests.{somewhere}
+use Rattle.paper.specs.laws.Tests.{somewhere, sameEntry}
 use Rattle.find.specs.Search.{not-some, not-some-more, not-some-end, some-here}
-use Rattle.find.specs.Dispatch.{pairOf}
-use Rattle.find.proofs.clashes.Statement.{statement}
-use Rattle.find.proofs.clashes.Tie as tie
+use Rattle.find.proofs.layout.entry_stood.Statement.{statement}
+use Rattle.find.proofs.layout.entry_stood.Tie as tie
 
 abbrev Inv-loop : tie.InvT-loop
-Inv-loop c job list n i j₀ j = (j ≤ i) × (somewhere (pairOf c job list i) j ≡ false)
+Inv-loop list i j₀ j = (j ≤ i) × (somewhere (sameEntry list i) j ≡ false)
 
 abbrev μ-loop : tie.MeasureT-loop
-μ-loop c job list n i j₀ j = i - j
+μ-loop list i j₀ j = i - j
 
 loop-holds : tie.Need-loop-holds Inv-loop μ-loop
 loop-holds c = (search needs, not-some _)
 
-clash-requires : tie.Need-clash-requires Inv-loop μ-loop
-clash-requires c κs = search needs
+same-entry-requires : tie.Need-same-entry-requires Inv-loop μ-loop
+same-entry-requires c κs = search needs
 
 returns : tie.Need-returns Inv-loop μ-loop
-returns c = sym (some-here _ _ (sym (c .before .clash .ensures) ∙ c .if1 .taken) _ (c .before .before .loop-test .taken))
+returns c = sym (some-here _ _ (sym (c .before .same-entry .ensures) ∙ c .if1 .taken) _ (c .before .before .loop-test .taken))
 
 add-j : tie.Need-add-j Inv-loop μ-loop
 add-j c = search needs
@@ -31,19 +30,19 @@ loop-less : tie.Need-loop-less Inv-loop μ-loop
 loop-less c = search needs
 
 loop-again : tie.Need-loop-again Inv-loop μ-loop
-loop-again c = (search needs, not-some-more _ _ (c .before .before .before .loop .inv .1) (sym (c .before .clash .ensures) ∙ c .if1 .left))
+loop-again c = (search needs, not-some-more _ _ (c .before .before .before .loop .inv .1) (sym (c .before .same-entry .ensures) ∙ c .if1 .left))
 
 returns-2 : tie.Need-returns-2 Inv-loop μ-loop
 returns-2 c = sym (not-some-end _ _ _ (c .before .loop .inv .1) (c .before .loop .inv .0) (c .loop-test .left))
 
-pub clashes-spec : {M : Type 1} → statement M
-clashes-spec =
+pub entry-stood-spec : {M : Type 1} → statement M
+entry-stood-spec =
     tie.close
     (tie.spec
     Inv-loop
     μ-loop
     loop-holds
-    clash-requires
+    same-entry-requires
     returns
     add-j
     loop-less

@@ -1,4 +1,4 @@
--- `find::pairs::first_touching` meets its contract. Assumes nothing.
+-- `find::layout::first_touching` meets its contract. Assumes nothing.
 use Prim.Native.Nat.{_≤_, _-_}
 use mathlib.Core.Path.{_≡_, refl, sym, _∙_}
 use native.Mathlib.Omega.{arith}
@@ -7,8 +7,8 @@ use Rattle.find.specs.declared.Found.the-variants.{Nowhere}
 use Rattle.paper.specs.Layouts.{boardOf, held}
 use Rattle.find.specs.Search.{firstWhere, none-below, none-more, none-end, pairs-more, pairs-end, pair-here}
 use Rattle.paper.specs.laws.Tests.{withEarlier, meetAt}
-use Rattle.find.proofs.pairs.first_touching.Statement.{statement}
-use Rattle.find.proofs.pairs.first_touching.Tie as tie
+use Rattle.find.proofs.layout.first_touching.Statement.{statement}
+use Rattle.find.proofs.layout.first_touching.Tie as tie
 
 abbrev Inv-loop : tie.InvT-loop
 Inv-loop job list n found₀ i j₀ found j = (j ≤ i) × (firstWhere (meetAt (boardOf job) (held list) i) j ≡ Nowhere) × (found ≡ found₀)

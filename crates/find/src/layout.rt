@@ -1,0 +1,61 @@
+// The first fault of a layout: an entry that is no port number or stood earlier, and the first touching pair.
+use crate::Found;
+ghost use mathlib.Core.Path.{_≡_};
+ghost use Prim.Native.Nat.{_≤_, _<_};
+ghost use lib.ListN.{length};
+ghost use Rattle.paper.specs.Job.{count};
+ghost use Rattle.paper.specs.Layouts.{boardOf, held};
+ghost use Rattle.paper.specs.laws.Tests.{withEarlier, sameEntry, badEntry, meetAt};
+ghost use Rattle.find.specs.Search.{firstWhere, firstPairWhere};
+ghost use Rattle.find.specs.Dispatch.{Led};
+
+// Whether entry i stood earlier.
+fn entry_stood(list: &[u16], i: u16) -> bool
+    requires { ⌜ i < length (now list) ⌝ }
+    ensures { λ r. ⌜ r ≡ withEarlier (sameEntry (now (list .entry))) i ⌝ }
+{
+    let mut j = 0;
+    while j < i {
+        if faults::same_entry(list, i, j) {
+            return true;
+        }
+        j += 1;
+    }
+    false
+}
+
+// The first of the n entries that is n or more, or stood earlier.
+pub fn first_bad_entry(list: &[u16], n: u16) -> Found
+    requires { ⌜ n ≤ length (now list) ⌝ }
+    ensures { λ r. ⌜ r ≡ firstWhere (badEntry n (now (list .entry))) n ⌝ }
+{
+    let mut i = 0;
+    while i < n {
+        if (n <= list[i as usize]) | entry_stood(list, i) {
+            return Found::At(i, 0);
+        }
+        i += 1;
+    }
+    Found::Nowhere
+}
+
+// The smallest record that touches an earlier one, and with it the smallest such earlier record.
+pub fn first_touching(job: &[u8], list: &[u16], n: u16) -> Found
+    requires { ⌜ (n ≡ count (now job)) × Led (now list) n ⌝ }
+    ensures { λ r. ⌜ r ≡ firstPairWhere (meetAt (boardOf (now (job .entry))) (held (now (list .entry)))) n ⌝ }
+{
+    let mut found = Found::Nowhere;
+    let mut i: u16 = 0;
+    'records: while i < n {
+        let mut j: u16 = 0;
+        while j < i {
+            if faults::touches(job, list, i, j) {
+                found = Found::At(i, j);
+                break 'records;
+            }
+            j += 1;
+        }
+        i += 1;
+    }
+    found
+}
