@@ -67,17 +67,6 @@ module _ (p : ℕ → Bool) where
   pub none-end : (i n : ℕ) → firstWhere p i ≡ Nowhere → i ≤ n → n ≤ i → firstWhere p n ≡ Nowhere
   none-end i n before h k = rw (← le-antisymm h k) before
 
-  pub not-some : somewhere p 0 ≡ false
-  unfolding somewhere
-  not-some = refl
-
-  pub not-some-more : (i : ℕ) → somewhere p i ≡ false → p i ≡ false → somewhere p (i + 1) ≡ false
-  unfolding somewhere
-  not-some-more i before here = rw (add-one, before, here)
-
-  pub not-some-end : (i n : ℕ) → somewhere p i ≡ false → i ≤ n → n ≤ i → somewhere p n ≡ false
-  not-some-end i n before h k = rw (← le-antisymm h k) before
-
   pub some-here : (i : ℕ) → p i ≡ true → (n : ℕ) → i < n → somewhere p n ≡ true
   unfolding somewhere
   some-here i here zero l = absurd (not-suc-le-zero l)
@@ -126,7 +115,7 @@ module _ (p : ℕ → Bool) where
       here Nowhere false e = refl
 
   -- so it holds at none of them
-  none-some : (n : ℕ) → firstWhere p n ≡ Nowhere → somewhere p n ≡ false
+  pub none-some : (n : ℕ) → firstWhere p n ≡ Nowhere → somewhere p n ≡ false
   unfolding somewhere
   none-some zero e = refl
   none-some (suc n) e = rw (none-some n (none-fewer n e), none-at (suc n) e n (omega arith))

@@ -1,22 +1,21 @@
 -- `find::stood` meets its contract. Assumes nothing.
 use Prim.Native.Nat.{_≤_, _-_}
-use mathlib.Core.Bool.{false}
 use mathlib.Core.Path.{_≡_, sym, _∙_}
 use borrow.Author.Needs.{needs}
-use Rattle.paper.specs.laws.Tests.{somewhere}
-use Rattle.find.specs.Search.{not-some, not-some-more, not-some-end, some-here}
+use Rattle.find.specs.declared.Found.the-variants.{Nowhere}
+use Rattle.find.specs.Search.{firstWhere, none-below, none-more, none-end, none-some, some-here}
 use Rattle.find.specs.Dispatch.{pairOf}
 use Rattle.find.proofs.stood.Statement.{statement}
 use Rattle.find.proofs.stood.Tie as tie
 
 abbrev Inv-loop : tie.InvT-loop
-Inv-loop o job i j₀ j = (j ≤ i) × (somewhere (pairOf o job i) j ≡ false)
+Inv-loop o job i j₀ j = (j ≤ i) × (firstWhere (pairOf o job i) j ≡ Nowhere)
 
 abbrev μ-loop : tie.MeasureT-loop
 μ-loop o job i j₀ j = i - j
 
 loop-holds : tie.Need-loop-holds Inv-loop μ-loop
-loop-holds c = (search needs, not-some _)
+loop-holds c = (search needs, none-below _)
 
 same-requires : tie.Need-same-requires Inv-loop μ-loop
 same-requires c κs = search needs
@@ -31,10 +30,10 @@ loop-less : tie.Need-loop-less Inv-loop μ-loop
 loop-less c = search needs
 
 loop-again : tie.Need-loop-again Inv-loop μ-loop
-loop-again c = (search needs, not-some-more _ _ (c .before .before .before .loop .inv .1) (sym (c .before .same .ensures) ∙ c .if1 .left))
+loop-again c = (search needs, none-more _ _ (c .before .before .before .loop .inv .1) (sym (c .before .same .ensures) ∙ c .if1 .left))
 
 returns-2 : tie.Need-returns-2 Inv-loop μ-loop
-returns-2 c = sym (not-some-end _ _ _ (c .before .loop .inv .1) (c .before .loop .inv .0) (c .loop-test .left))
+returns-2 c = sym (none-some _ _ (none-end _ _ _ (c .before .loop .inv .1) (c .before .loop .inv .0) (c .loop-test .left)))
 
 pub stood-spec : {M : Type 1} → statement M
 stood-spec =
