@@ -206,7 +206,7 @@ before-total = by.Order.before-total
 
 -- For every accepted job and pair of weights, in the words of Runs.
 pub demand-3 : (job : List ℕ) (lw bw : ℕ) (list : List ℕ) → Passed (firstTrials job lw bw (length list)) → Demand3 (callsOf job lw bw) list
-demand-3 job lw bw list = by.Demand.demand-3 (callsOf job lw bw) list (regular job lw bw)
+demand-3 job lw bw list = by.Demand.demand-3 (callsOf job lw bw) (regular job lw bw) list
 
 -- Whoever asks on from any list that Next accepts comes to the end.
 pub asking-ends : (job : List ℕ) (lw bw : ℕ) (list : List ℕ) → Passed (nextTrials job lw bw list) → (ls : List (List ℕ)) × NextRun (callsOf job lw bw) list ls

@@ -4,160 +4,166 @@
 use mathlib.Core.Path.{_≡_, refl, sym, _∙_}
 use mathlib.Core.Logic.{_⊎_, inl, inr}
 use mathlib.Core.List.{List, [], _∷_, _++_}
-use Prim.Native.Nat.{ℕ, suc}
+use Prim.Native.Nat.{ℕ, zero, suc, _+_, _≤_, _<_}
+use native.Mathlib.Decide.{decLt}
 use native.Mathlib.Omega.{arith}
 use lib.ListN.{length, getD}
 use lib.IntN.{pos, negsuc}
-use Rattle.listing.specs.Calls as list
-use Rattle.listing.specs.Listing.{listing}
+use Rattle.numbers.specs.Whole.{whole, eq-num}
 use Rattle.paper.specs.declared.Answer.the-variants.{Total, End}
 use Rattle.paper.specs.Layouts.{Board, held, Same}
-use Rattle.paper.specs.Problem.{Best, Before}
+use Rattle.paper.specs.Problem.{Best, Before, FirstBest, NextBest}
 use Rattle.paper.specs.Refusals.{Passed, Calls, entries}
-use Rattle.paper.specs.Promises.{Kept, FirstOver, NextOver, FirstReplies, NextReplies}
+use Rattle.paper.specs.Promises.{Kept, FirstReplies, NextReplies}
 use Rattle.paper.specs.Runs.{NextRun, Run, NextSoFar, SoFar, Once, Demand3}
-use Rattle.paper.specs.laws.Order.{before-irrefl, before-trans, before-total, best-same}
+use Rattle.paper.specs.laws.Order.{before-irrefl, before-trans, before-total, before-same}
 use Rattle.paper.specs.laws.Rank.{rank, rank-rises, rank-top}
 use Rattle.paper.specs.laws.Trying.{words, Searchable, best-inside}
 use Rattle.paper.specs.laws.Numbers.{total-told, next-total-told, end-told}
-use Rattle.paper.specs.laws.Kept.{kept-trans, kept-one, listed}
+use Rattle.paper.specs.laws.Kept.{kept-trans}
+use Rattle.paper.specs.laws.Determined.{first-determined, next-determined}
 use Rattle.paper.specs.laws.Regular.{Regular}
 use Rattle.paper.specs.laws.Met.{Steps, first-made, next-made}
 
-module _ (c : Calls) (lent : List ℕ) where
+-- ---- there is one run only, for each reply is determined
+
+one-next : (c : Calls) (l : List ℕ) (ms ns : List (List ℕ)) → NextRun c l ms → NextRun c l ns → ms ≡ ns
+one-next c l [] [] r s = refl
+one-next c l [] (n ∷ ns) r (t, q, s) = absurd (omega (whole, eq-num (negsuc 0) (pos t) (next-determined c l (negsuc 0) (pos t) l n r q .0)))
+one-next c l (m ∷ ms) [] (t, p, r) s = absurd (omega (whole, eq-num (negsuc 0) (pos t) (next-determined c l (negsuc 0) (pos t) l m s p .0)))
+one-next c l (m ∷ ms) (n ∷ ns) (t, p, r) (u, q, s) =
+    let e : m ≡ n = next-determined c l (pos t) (pos u) m n p q .1 in
+    λ i. e i ∷ one-next c m ms ns r (rw e s) i
+
+one-run : (c : Calls) (lent : List ℕ) (ls ms : List (List ℕ)) → Run c lent ls → Run c lent ms → ls ≡ ms
+one-run c lent [] ms r s = absurd r
+one-run c lent (l ∷ ls) [] r s = absurd s
+one-run c lent (l ∷ ls) (m ∷ ms) (t, p, r) (u, q, s) =
+    let e : l ≡ m = first-determined c lent (pos t) (pos u) l m p q .1 in
+    λ i. e i ∷ one-next c l ls ms r (rw e s) i
+
+module _ (c : Calls) (R : Regular c) (lent : List ℕ) (accepted : Passed (c .first (length lent))) where
   abbrev b : Board
   b = c .problem .board
 
-  -- The sheets: lists that hold a best layout and keep the rest of the lent list.
-  abbrev Good : list.Property
-  Good l = Kept (entries c) lent l × Best (c .problem) (held l)
+  S : Searchable (c .problem)
+  S = R .searchable (length lent) accepted
 
-  abbrev Earlier : list.Relation
-  Earlier l m = Before b (held l) (held m)
+  -- A sheet: a list that holds a best layout and keeps the rest of the lent list.
+  abbrev Sheet : List ℕ → Type 0
+  Sheet l = Kept (entries c) lent l × Best (c .problem) (held l)
 
-  -- The calls, as C sees them.
-  abbrev First : list.Answer → Type 0
-  First (list.sheet l) = (t : ℕ) × FirstReplies c lent (pos t) l
-  First list.end = ⊥
+  abbrev at : List (List ℕ) → ℕ → ℕ → ℕ
+  at ls k = held (getD ls k [])
 
-  abbrev Next : List ℕ → list.Answer → Type 0
-  Next l (list.sheet m) = (t : ℕ) × NextReplies c l (pos t) m
-  Next l list.end = NextReplies c l (negsuc 0) l
+  -- The calls leave sheets, the first and the next.
+  first-is : (l : List ℕ) (t : ℕ) → FirstReplies c lent (pos t) l → FirstBest (c .problem) (held l) × Sheet l
+  first-is l t p = let f = total-told c (R .numbered) lent l t p in (f .1, (f .3, f .1 .best))
 
-  module _ (R : Regular c) (accepted : Passed (c .first (length lent))) where
-    S : Searchable (c .problem)
-    S = R .searchable (length lent) accepted
+  next-is : (l m : List ℕ) (t : ℕ) → Sheet l → NextReplies c l (pos t) m → NextBest (c .problem) (held l) (held m) × Sheet m
+  next-is l m t g p = let n = next-total-told c (R .numbered) l m t p in (n .1, (kept-trans (entries c) lent l m (g .0) (n .3), n .1 .best))
 
-    same-list : (l m : List ℕ) → Good l → Good m → Same b (held l) (held m) → l ≡ m
-    same-list l m g h s = kept-one (entries c) lent l m (g .0) (h .0) s
+  -- ---- what a run holds, from a sheet on
 
-    order : list.Order Earlier Good (suc (length (words (b .pads) (b .ports))))
-    order = record {
-      irrefl = λ l. before-irrefl b (held l);
-      trans = λ l m o. before-trans b (S .differ) (held l) (held m) (held o);
-      total = λ l m g h. go l m g h (before-total b (held l) (held m));
-      rank = λ l. rank b (held l);
-      low = λ l g. omega (arith, rank-top b (held l));
-      rises = λ l m g h. rank-rises b (S .differ) (held l) (held m) (best-inside (c .problem) S (held l) (g .1));
-    }
-      where
-        go : (l m : List ℕ) → Good l → Good m → Before b (held l) (held m) ⊎ Same b (held l) (held m) ⊎ Before b (held m) (held l) → list.Compared Earlier l m
-        go l m g h (inl e) = list.before e
-        go l m g h (inr (inl s)) = list.same (same-list l m g h s)
-        go l m g h (inr (inr e)) = list.after e
+  -- best layouts, each after the sheet,
+  later : (l : List ℕ) (ls : List (List ℕ)) → Sheet l → NextRun c l ls → (k : ℕ) → k < length ls → Before b (held l) (at ls k) × Best (c .problem) (at ls k)
+  later l [] g r k h = absurd (omega arith)
+  later l (m ∷ ls) g (t, n, r) zero h = let s = next-is l m t g n in (s .0 .later, s .0 .best)
+  later l (m ∷ ls) g (t, n, r) (suc k) h =
+      let s = next-is l m t g n in
+      let q = later m ls (s .1) r k (omega arith) in
+      (before-trans b (S .differ) (held l) (held m) (at ls k) (s .0 .later) (q .0), q .1)
 
-    -- a good list is accepted again
-    again : (l : List ℕ) → Good l → Passed (c .next l)
-    again l g = R .next-is l .1 (rw (g .0 .long) accepted, g .1)
+  -- in order,
+  rising : (l : List ℕ) (ls : List (List ℕ)) → Sheet l → NextRun c l ls → (j k : ℕ) → j < k → k < suc (length ls) → Before b (at (l ∷ ls) j) (at (l ∷ ls) k)
+  rising l ls g r j zero h i = absurd (omega arith)
+  rising l ls g r zero (suc k) h i = later l ls g r k (omega arith) .0
+  rising l [] g r (suc j) (suc k) h i = absurd (omega arith)
+  rising l (m ∷ ls) g (t, n, r) (suc j) (suc k) h i = rising m ls (next-is l m t g n .1) r j k (omega arith) (omega arith)
 
-    first-is : (l : List ℕ) (t : ℕ) → FirstOver c lent (Total t) l → list.Earliest Earlier Good l
-    first-is l t f = record { good = (f .3, f .1 .best); least = λ m g. f .1 .earliest (held m) (g .1) }
+  -- and every best one that is not before the sheet.
+  abbrev In : List (List ℕ) → (ℕ → ℕ) → Type 0
+  In ls f = (k : ℕ) × (k < length ls) × Same b (at ls k) f
 
-    next-is : (l m : List ℕ) (t : ℕ) → Good l → NextOver c l (Total t) m → list.EarliestAfter Earlier Good l m
-    next-is l m t g n = record {
-      good = (kept-trans (entries c) lent l m (g .0) (n .3), n .1 .best);
-      later = n .1 .later;
-      least = λ o h. n .1 .earliest (held o) (h .1);
-    }
+  here-or-later : (l : List ℕ) (ls : List (List ℕ)) (f : ℕ → ℕ) → ¬ Before b f (held l) → (Before b (held l) f → In ls f)
+      → Before b (held l) f ⊎ Same b (held l) f ⊎ Before b f (held l) → In (l ∷ ls) f
+  here-or-later l ls f low rest (inl h) = let q = rest h in (suc (q .0), omega (arith, q .1), q .2)
+  here-or-later l ls f low rest (inr (inl same)) = (0, omega arith, same)
+  here-or-later l ls f low rest (inr (inr h)) = absurd (low h)
 
-    calls : list.Calls Earlier Good First Next
-    calls = record { first-answers = made; first-meets = meets; next-answers = λ l g. next-gives l (next-made c R l (again l g)); next-meets = next-keeps }
-      where
-        made : (r : list.Answer) × First r
-        made = let m = first-made c R lent accepted in (list.sheet (m .1), (m .0, (Total (m .0), m .2, refl)))
+  every : (l : List ℕ) (ls : List (List ℕ)) → Sheet l → NextRun c l ls → (f : ℕ → ℕ) → Best (c .problem) f → ¬ Before b f (held l) → In (l ∷ ls) f
+  every l [] g r f best low = here-or-later l [] f low (λ h. absurd (end-told c (R .numbered) l l r .1 f best h)) (before-total b (held l) f)
+  every l (m ∷ ls) g (t, n, r) f best low =
+      let s = next-is l m t g n in
+      here-or-later l (m ∷ ls) f low (λ h. every m ls (s .1) r f best (s .0 .earliest f best h)) (before-total b (held l) f)
 
-        meets : (r : list.Answer) → First r → list.FirstMeets Earlier Good r
-        meets (list.sheet l) (t, f) = first-is l t (total-told c (R .numbered) lent l t f)
-        meets list.end f = absurd f
+  -- In an order that rises no layout stands twice.
+  once : (ls : List (List ℕ)) → ((j k : ℕ) → j < k → k < length ls → Before b (at ls j) (at ls k)) → (f : ℕ → ℕ) → In ls f → Once b f ls
+  once ls up f (p, l, here) = record { place = p; inside = l; here = here; nowhere-else = λ k h s. go k h s (decLt k p) (decLt p k) }
+    where
+      clash : (j k : ℕ) → j < k → k < length ls → Same b (at ls j) f → Same b (at ls k) f → ⊥
+      clash j k h i s t = before-irrefl b f (before-same b (at ls j) (at ls k) f f s t (up j k h i))
 
-        next-gives : (l : List ℕ) → Steps c R l → (r : list.Answer) × Next l r
-        next-gives l (inl (t, m, n)) = (list.sheet m, (t, (Total t, n, refl)))
-        next-gives l (inr n) = (list.end, (End, n, refl))
+      go : (k : ℕ) → k < length ls → Same b (at ls k) f → Dec (k < p) → Dec (p < k) → k ≡ p
+      go k h s (yes d) e = absurd (clash k p d l s here)
+      go k h s (no d) (yes e) = absurd (clash p k e h here s)
+      go k h s (no d) (no e) = omega arith
 
-        next-keeps : (l : List ℕ) → Good l → (r : list.Answer) → Next l r → list.NextMeets Earlier Good l r
-        next-keeps l g (list.sheet m) (t, n) = next-is l m t g (next-total-told c (R .numbered) l m t n)
-        next-keeps l g list.end n = λ m h. end-told c (R .numbered) l l n .1 (held m) (h .1)
+  -- ---- the end comes, for a layout's rank rises and has a top
 
-    theorem : list.Listing (suc (length (words (b .pads) (b .ports)))) Earlier Good First Next
-    theorem = listing (suc (length (words (b .pads) (b .ports)))) Earlier Good First Next order calls
+  asks : (k : ℕ) (l : List ℕ) → Sheet l → suc (length (words (b .pads) (b .ports))) ≤ rank b (held l) + k → (ls : List (List ℕ)) × NextRun c l ls
+  asks zero l g h = absurd (omega (arith, rank-top b (held l)))
+  asks (suc k) l g h = go (next-made c R l (R .next-is l .1 (rw (g .0 .long) accepted, g .1))) (asks k)
+    where
+      go : Steps c R l → ((m : List ℕ) → Sheet m → suc (length (words (b .pads) (b .ports))) ≤ rank b (held m) + k → (ls : List (List ℕ)) × NextRun c m ls)
+          → (ls : List (List ℕ)) × NextRun c l ls
+      go (inr n) rest = ([], (End, n, refl))
+      go (inl (t, m, n)) rest =
+          let s = next-is l m t g (Total t, n, refl) in
+          let up = rank-rises b (S .differ) (held l) (held m) (best-inside (c .problem) S (held l) (g .1)) (s .0 .later) in
+          let r = rest m (s .1) (omega arith) in
+          (m ∷ r .0, (t, (Total t, n, refl), r .1))
 
-    -- the paper's runs are the theory's
-    from-next : (l : List ℕ) (ls : List (List ℕ)) → NextRun c l ls → list.Asked Next l ls
-    from-next l [] r = r
-    from-next l (m ∷ ls) (t, n, r) = ((t, n), from-next m ls r)
+  pub asks-on : (l : List ℕ) → Sheet l → (ls : List (List ℕ)) × NextRun c l ls
+  asks-on l g = asks (suc (length (words (b .pads) (b .ports)))) l g (omega arith)
 
-    to-next : (l : List ℕ) (ls : List (List ℕ)) → list.Asked Next l ls → NextRun c l ls
-    to-next l [] r = r
-    to-next l (m ∷ ls) ((t, n), r) = (t, n, to-next m ls r)
+  goes-on : (l : List ℕ) (ls : List (List ℕ)) → Sheet l → NextSoFar c l ls → (ms : List (List ℕ)) × NextRun c l (ls ++ ms)
+  goes-on l [] g s = asks-on l g
+  goes-on l (m ∷ ls) g (t, n, s) = let r = goes-on m ls (next-is l m t g n .1) s in (r .0, (t, n, r .1))
 
-    from-run : (ls : List (List ℕ)) → Run c lent ls → list.Run First Next ls
-    from-run [] r = r
-    from-run (l ∷ ls) (t, f, r) = ((t, f), from-next l ls r)
+  run-on : (ls : List (List ℕ)) → SoFar c lent ls → (ms : List (List ℕ)) × Run c lent (ls ++ ms)
+  run-on [] s =
+      let (t, l, f) = first-made c R lent accepted in
+      let r = asks-on l (f .3, f .1 .best) in
+      (l ∷ r .0, (t, (Total t, f, refl), r .1))
+  run-on (l ∷ ls) (t, f, s) = let r = goes-on l ls (first-is l t f .1) s in (r .0, (t, f, r .1))
 
-    to-run : (ls : List (List ℕ)) → list.Run First Next ls → Run c lent ls
-    to-run [] r = r
-    to-run (l ∷ ls) ((t, f), r) = (t, f, to-next l ls r)
+  -- ---- the theorem
 
-    from-steps : (l : List ℕ) (ls : List (List ℕ)) → NextSoFar c l ls → list.Steps Next l ls
-    from-steps l [] r = tt
-    from-steps l (m ∷ ls) (t, n, r) = ((t, n), from-steps m ls r)
+  in-order : (ls : List (List ℕ)) → Run c lent ls → (j k : ℕ) → j < k → k < length ls → Before b (at ls j) (at ls k)
+  in-order [] r = absurd r
+  in-order (l ∷ ls) (t, f, r) = rising l ls (first-is l t f .1) r
 
-    from-so-far : (ls : List (List ℕ)) → SoFar c lent ls → list.SoFar First Next ls
-    from-so-far [] r = tt
-    from-so-far (l ∷ ls) (t, f, r) = ((t, f), from-steps l ls r)
+  all-best : (ls : List (List ℕ)) → Run c lent ls → (k : ℕ) → k < length ls → Best (c .problem) (at ls k)
+  all-best [] r k h = absurd r
+  all-best (l ∷ ls) (t, f, r) zero h = first-is l t f .0 .best
+  all-best (l ∷ ls) (t, f, r) (suc k) h = later l ls (first-is l t f .1) r k (omega arith) .1
 
-    goes-on : (ls : List (List ℕ)) → SoFar c lent ls → (ms : List (List ℕ)) × Run c lent (ls ++ ms)
-    goes-on ls s = let r = theorem .goes-on ls (from-so-far ls s) in (r .0, to-run (ls ++ r .0) (r .1))
+  found : (ls : List (List ℕ)) → Run c lent ls → (f : ℕ → ℕ) → Best (c .problem) f → In ls f
+  found [] r f best = absurd r
+  found (l ∷ ls) (t, p, r) f best = let s = first-is l t p in every l ls (s .1) r f best (s .0 .earliest f best)
 
-    lists : (ls : List (List ℕ)) → Run c lent ls → list.Lists Earlier Good ls
-    lists ls r = theorem .lists ls (from-run ls r)
-
-    -- a best layout stands in the one list that holds it
-    once : (ls : List (List ℕ)) → list.Lists Earlier Good ls → (f : ℕ → ℕ) → Best (c .problem) f → Once b f ls
-    once ls r f best =
-        let l = listed (entries c) f lent (R .room (length lent) accepted) in
-        let g : Good (l .0) = (l .2, best-same (c .problem) (S .steady) f (held (l .0)) (λ i h. sym (l .1 i h)) best) in
-        let o = r .every (l .0) g in
-        record {
-          place = o .place;
-          inside = o .inside;
-          here = λ i h. rw (o .here) (l .1 i h);
-          nowhere-else = λ k h s. o .nowhere-else k h (same-list (getD ls k []) (l .0) (r .only k h) g (λ i j. s i j ∙ sym (l .1 i j)));
-        }
-
-    pub demand-3 : Demand3 c lent
-    demand-3 = record {
-      ends = let r = theorem .ends in (r .0, to-run (r .0) (r .1));
-      goes-on = goes-on;
-      one = λ ls ms r s. theorem .unique ls ms (from-run ls r) (from-run ms s);
-      every = λ ls r. once ls (lists ls r);
-      only = λ ls r k h. lists ls r .only k h .1;
-      rising = λ ls r. lists ls r .rising;
-    }
+  pub demand-3 : Demand3 c lent
+  demand-3 = record {
+    ends = run-on [] tt;
+    goes-on = run-on;
+    one = one-run c lent;
+    every = λ ls r f best. once ls (in-order ls r) f (found ls r f best);
+    only = all-best;
+    rising = in-order;
+  }
 
 pub next-ends : (c : Calls) → Regular c → (list : List ℕ) → Passed (c .next list) → (ls : List (List ℕ)) × NextRun c list ls
 next-ends c R list p =
     let (accepted, best) = R .next-is list .0 p in
-    let same : Kept (entries c) list list = record { long = refl; rest = λ k h. refl } in
-    let r = theorem c list R accepted .asks-on list (same, best) in
-    (r .0, to-next c list R accepted list (r .0) (r .1))
+    asks-on c R list accepted list (record { long = refl; rest = λ k h. refl }, best)

@@ -1,3 +1,0 @@
--- Calls: the definitions. Listing: the theorem.
-pub mod Calls
-pub mod Listing
