@@ -11,7 +11,7 @@ use Rattle.paper.specs.declared.Refusal.{Refusal}
 use Rattle.paper.specs.Refusals.{Trial, Smallest, Passed, RefusedBy, firstTrials, measureTrials, drawTrials}
 use Rattle.paper.specs.laws.Tests.{Test, atEach, atPairs, withEarlier, firstTests, measureTests, drawTests}
 use Rattle.paper.specs.laws.Trials.{passed-append, refused-left, refused-right}
-use Rattle.paper.specs.laws.Decided.{reasonOf, Tells, Told, first-told, measure-told, draw-told}
+use Rattle.paper.specs.laws.Decided.{reasonOf, TestOf, TestsOf, first-tests, measure-tests, draw-tests}
 use Rattle.find.specs.declared.Found.{Found}
 use Rattle.find.specs.declared.Found.the-variants.{At, Nowhere}
 use Rattle.find.specs.Search.{firstWhere, firstPairWhere, andAt, pairAt, at-is, none-at}
@@ -45,7 +45,7 @@ module _ (P : ℕ → Type 0) (p : ℕ → Bool) (n : ℕ) (says : (i : ℕ) →
   first-none e i l x = subst T (none-at p n e i l) (says i l .1 x)
 
 -- What a test finds is what its trial says.
-each-judged : (r n : ℕ) (p : ℕ → Bool) (t : Trial) → Tells (atEach r n p) t → Judged (outcome r (firstWhere p n)) (t ∷ [])
+each-judged : (r n : ℕ) (p : ℕ → Bool) (t : Trial) → TestOf (atEach r n p) t → Judged (outcome r (firstWhere p n)) (t ∷ [])
 each-judged r n p t a = go (firstWhere p n) refl
   where
     says : (i : ℕ) → i < n → T (p i) ↔ t .fault i
@@ -58,7 +58,7 @@ each-judged r n p t a = go (firstWhere p n) refl
         inl (a .reason-same, rw none (record { inside = k; first = s; named = record { here = a .beside-iff i 0 k .0 tt; none-below = λ j m. absurd (omega arith) } }))
     go Nowhere e = ((λ i l. first-none (t .fault) p n says e i (rw (a .among-same) l)), tt)
 
-pairs-judged : (r n : ℕ) (q : ℕ → ℕ → Bool) (t : Trial) → Tells (atPairs r n q) t → Judged (outcome r (firstPairWhere q n)) (t ∷ [])
+pairs-judged : (r n : ℕ) (q : ℕ → ℕ → Bool) (t : Trial) → TestOf (atPairs r n q) t → Judged (outcome r (firstPairWhere q n)) (t ∷ [])
 unfolding firstPairWhere
 pairs-judged r n q t a = go (firstWhere (withEarlier q) n) refl
   where
@@ -83,7 +83,7 @@ pairs-judged r n q t a = go (firstWhere (withEarlier q) n) refl
     go (At i z) e = let (l, none, s) = first-smallest (t .fault) (withEarlier q) n says i z e in with i (rw (← a .among-same) l) s (firstWhere (q i) i) refl
     go Nowhere e = ((λ i l. first-none (t .fault) (withEarlier q) n says e i (rw (a .among-same) l)), tt)
 
-test-judged : (s : Test) (t : Trial) → Tells s t → Judged (outcome (reasonOf s) (foundBy s)) (t ∷ [])
+test-judged : (s : Test) (t : Trial) → TestOf s t → Judged (outcome (reasonOf s) (foundBy s)) (t ∷ [])
 test-judged (atEach r n p) t a = each-judged r n p t a
 test-judged (atPairs r n q) t a = pairs-judged r n q t a
 
@@ -100,18 +100,18 @@ judged-on Sound ss ts us a k = judged-right (verdictAfter Sound ss) ts us a (k a
 judged-on (Refused r) ss ts us a k = rw (after-refused r ss) (refused-left ts us r a)
 
 -- THEOREM. Tests that tell of trials come to the right verdict on them.
-pub told-judged : (ss : List Test) (ts : List Trial) → Told ss ts → Judged (verdictAfter Sound ss) ts
-told-judged [] [] a = tt
-told-judged [] (t ∷ ts) a = absurd a
-told-judged (s ∷ ss) [] a = absurd a
-told-judged (s ∷ ss) (t ∷ ts) (a, k) = judged-on (outcome (reasonOf s) (foundBy s)) ss (t ∷ []) ts (test-judged s t a) (λ p. told-judged ss ts (k (p .0)))
+pub tests-judge : (ss : List Test) (ts : List Trial) → TestsOf ss ts → Judged (verdictAfter Sound ss) ts
+tests-judge [] [] a = tt
+tests-judge [] (t ∷ ts) a = absurd a
+tests-judge (s ∷ ss) [] a = absurd a
+tests-judge (s ∷ ss) (t ∷ ts) (a, k) = judged-on (outcome (reasonOf s) (foundBy s)) ss (t ∷ []) ts (test-judged s t a) (λ p. tests-judge ss ts (k (p .0)))
 
 -- THEOREM, for every input of First, of Measure and of Draw.
 pub first-judged : (job : List ℕ) (lw bw room : ℕ) → Judged (verdictAfter Sound (firstTests job lw bw room)) (firstTrials job lw bw room)
-first-judged job lw bw room = told-judged (firstTests job lw bw room) (firstTrials job lw bw room) (first-told job lw bw room)
+first-judged job lw bw room = tests-judge (firstTests job lw bw room) (firstTrials job lw bw room) (first-tests job lw bw room)
 
 pub measure-judged : (job : List ℕ) (lw bw : ℕ) (list : List ℕ) → Judged (verdictAfter Sound (measureTests job lw bw list)) (measureTrials job lw bw list)
-measure-judged job lw bw list = told-judged (measureTests job lw bw list) (measureTrials job lw bw list) (measure-told job lw bw list)
+measure-judged job lw bw list = tests-judge (measureTests job lw bw list) (measureTrials job lw bw list) (measure-tests job lw bw list)
 
 pub draw-judged : (job : List ℕ) (i q room : ℕ) → Judged (verdictAfter Sound (drawTests job i q room)) (drawTrials job i q room)
-draw-judged job i q room = told-judged (drawTests job i q room) (drawTrials job i q room) (draw-told job i q room)
+draw-judged job i q room = tests-judge (drawTests job i q room) (drawTrials job i q room) (draw-tests job i q room)

@@ -14,7 +14,7 @@ use Rattle.paper.specs.Promises.{Kept}
 use Rattle.paper.specs.laws.Totals.{totalOf}
 use Rattle.paper.specs.Sheets.{J5}
 use Rattle.paper.specs.laws.Tests.{somewhere, outside, between, meet, jobTests, firstTests}
-use Rattle.paper.specs.laws.Decided.{passes-told, first-told}
+use Rattle.paper.specs.laws.Decided.{tests-pass, first-tests}
 use Rattle.paper.specs.laws.Accepted.{first-accepted}
 use Rattle.paper.specs.laws.Trying.{firstTest, bestTest, first-iff, labeling-searchable, heads, words, any, someWord, leastTest}
 use Rattle.paper.specs.laws.Trying.{misled, untouchingTest, differRight, decidedAt, beforeTest, cheaper}
@@ -27,7 +27,7 @@ list = 1 ∷ 2 ∷ 0 ∷ replicate 61 0
 
 passed : Passed (firstTrials J5 1 0 64)
 unfolding somewhere outside jobTests firstTests twos nameOf reservedOf xOf yOf portOf
-passed = passes-told (firstTests J5 1 0 64) (firstTrials J5 1 0 64) (first-told J5 1 0 64) tt
+passed = tests-pass (firstTests J5 1 0 64) (firstTrials J5 1 0 64) (first-tests J5 1 0 64) tt
 
 earliest : FirstBest (labelingOf J5 1 0) (held list)
 unfolding firstTest bestTest heads words any someWord leastTest misled untouchingTest differRight decidedAt beforeTest cheaper somewhere between meet

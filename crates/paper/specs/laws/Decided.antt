@@ -20,52 +20,11 @@ use Rattle.paper.specs.laws.Tests.{badSize, badWeight, badField, notAbov
 use Rattle.paper.specs.laws.Tests.{bad-size-iff, bad-weight-iff, bad-field-iff, not-above-iff, too-close-iff}
 use Rattle.paper.specs.laws.Tests.{same-name-iff, same-x-iff, bad-entry-iff, bad-number-iff}
 use Rattle.paper.specs.laws.Tests.{jobTests, layoutTests, firstTests, measureTests, drawTests}
-use Rattle.paper.specs.laws.Trials.{passed-append, refused-left, refused-right}
 use Rattle.paper.specs.laws.Touching.{meet-iff}
 
 -- The trials are passed, or one of them refuses.
 abbrev pub Decided : List Trial → Type 0
 Decided ts = Passed ts ⊎ ((r : Refusal) × RefusedBy ts r)
-
--- ---- trials whose faults can be decided
-
--- Whether a record is at fault can be decided, and whether another may be named with it; and with one that is at fault, some may be.
-pub record Decidable (t : Trial) : Type 0 where
-  pub fault-dec : (i : ℕ) → i < t .among → Dec (t .fault i)
-  pub beside-dec : (i j : ℕ) → i < t .among → Dec (t .beside i j)
-  pub one-beside : (i : ℕ) → i < t .among → t .fault i → (j : ℕ) × t .beside i j
-
--- Below n, P holds of a smallest number or of none.
-smallest-or-none : (P : ℕ → Type 0) (n : ℕ) → ((i : ℕ) → i < n → Dec (P i)) → ((i : ℕ) × (i < n) × Smallest P i) ⊎ ((i : ℕ) → i < n → ¬ P i)
-smallest-or-none P zero dec = inr (λ i l. absurd (not-suc-le-zero l))
-smallest-or-none P (suc n) dec =
-    ⊎-elim (λ (i, l, s). inl (i, omega arith, s)) (λ none. go none (dec n (omega arith))) (smallest-or-none P n (λ i l. dec i (omega arith)))
-  where
-    go : ((i : ℕ) → i < n → ¬ P i) → Dec (P n) → ((i : ℕ) × (i < suc n) × Smallest P i) ⊎ ((i : ℕ) → i < suc n → ¬ P i)
-    go none (yes x) = inl (n, omega arith, record { here = x; none-below = none })
-    go none (no x) = inr (λ i l. ⊎-elim (λ e. rw e x) (none i) (eq-or-lt-of-le (le-of-suc-le-suc l)))
-
-clean-or-faulty : (t : Trial) → Decidable t → Clean t ⊎ ((i : ℕ) × (j : ℕ) × FirstFault t i j)
-clean-or-faulty t d = ⊎-elim (λ (i, l, s). inr (faulty i l s)) inl (smallest-or-none (t .fault) (t .among) (d .fault-dec))
-  where
-    faulty : (i : ℕ) → i < t .among → Smallest (t .fault) i → (i : ℕ) × (j : ℕ) × FirstFault t i j
-    faulty i l s =
-        let (k, x) = d .one-beside i l (s .here) in
-        ⊎-elim (λ (j, m, named). (i, j, record { inside = l; first = s; named = named })) (λ none. absurd (none k (omega arith) x))
-        (smallest-or-none (t .beside i) (suc k) (λ j m. d .beside-dec i j l))
-
--- THEOREM. Such a trial in front of trials that are decided where it is clean.
-pub decided-more : (t : Trial) (ts : List Trial) → Decidable t → (Clean t → Decided ts) → Decided (t ∷ ts)
-decided-more t ts d k =
-    ⊎-elim
-    (λ c. ⊎-elim (λ p. inl (c, p)) (λ (r, a). inr (r, inr (c, a))) (k c))
-    (λ (i, j, f). inr (record { reason = t .reason; at = i; earlier = j }, inl (refl, f)))
-    (clean-or-faulty t d)
-
--- THEOREM. One list after another; the second may go by the first being passed.
-pub decided-append : (ts us : List Trial) → Decided ts → (Passed ts → Decided us) → Decided (ts ++ us)
-decided-append ts us d k =
-    ⊎-elim (λ p. ⊎-elim (λ q. inl (passed-append ts us p q)) (λ (r, a). inr (r, refused-right ts us r p a)) (k p)) (λ (r, a). inr (r, refused-left ts us r a)) d
 
 -- ---- tests that compute them
 
@@ -87,22 +46,22 @@ besideOf (atEach r n p) i j = eqb j 0
 besideOf (atPairs r n q) i j = ltb j i && q i j
 
 -- The test says what the trial says.
-pub record Tells (s : Test) (t : Trial) : Type 0 where
+pub record TestOf (s : Test) (t : Trial) : Type 0 where
   pub reason-same : reasonOf s ≡ t .reason
   pub among-same : amongOf s ≡ t .among
   pub fault-iff : (i : ℕ) → i < t .among → T (faultOf s i) ↔ t .fault i
   pub beside-iff : (i j : ℕ) → i < t .among → T (besideOf s i j) ↔ t .beside i j
   pub some-beside : (i : ℕ) → i < t .among → t .fault i → (j : ℕ) × t .beside i j
 
-pub tells-each : (r n : ℕ) (fault : ℕ → Type 0) (p : ℕ → Bool) → ((i : ℕ) → i < n → T (p i) ↔ fault i) → Tells (atEach r n p) (ofEach r n fault)
-tells-each r n fault p says =
+pub each-test : (r n : ℕ) (fault : ℕ → Type 0) (p : ℕ → Bool) → ((i : ℕ) → i < n → T (p i) ↔ fault i) → TestOf (atEach r n p) (ofEach r n fault)
+each-test r n fault p says =
     record { reason-same = refl; among-same = refl; fault-iff = says; beside-iff = λ i j l. eqb-iff j 0; some-beside = λ i l x. (0, refl) }
 
-pub tells-whole : (r : ℕ) (P : Type 0) (t : Bool) → T t ↔ P → Tells (atWhole r t) (ofWhole r P)
-tells-whole r P t says = tells-each r 1 (λ i. P) (λ i. t) (λ i l. says)
+pub whole-test : (r : ℕ) (P : Type 0) (t : Bool) → T t ↔ P → TestOf (atWhole r t) (ofWhole r P)
+whole-test r P t says = each-test r 1 (λ i. P) (λ i. t) (λ i l. says)
 
-pub tells-pairs : (r n : ℕ) (R : ℕ → ℕ → Type 0) (q : ℕ → ℕ → Bool) → ((i j : ℕ) → i < n → j < i → T (q i j) ↔ R i j) → Tells (atPairs r n q) (ofPairs r n R)
-tells-pairs r n R q says = record {
+pub pairs-test : (r n : ℕ) (R : ℕ → ℕ → Type 0) (q : ℕ → ℕ → Bool) → ((i j : ℕ) → i < n → j < i → T (q i j) ↔ R i j) → TestOf (atPairs r n q) (ofPairs r n R)
+pairs-test r n R q says = record {
   reason-same = refl;
   among-same = refl;
   fault-iff = λ i l. with-earlier-iff q R i (λ j k. says i j l k);
@@ -113,34 +72,48 @@ tells-pairs r n R q says = record {
   some-beside = λ i l (j, k, x). (j, (k, x));
 }
 
--- A trial of the whole input that no test computes.
-pub whole-decidable : (r : ℕ) (P : Type 0) → Dec P → Decidable (ofWhole r P)
-whole-decidable r P d = record { fault-dec = λ i l. d; beside-dec = λ i j l. dec-iff (eqb j 0) (eqb-iff j 0); one-beside = λ i l x. (0, refl) }
-
 -- The tests say what the trials say; a later one may go by the earlier trials being clean.
-abbrev pub Told : List Test → List Trial → Type 0
-Told [] [] = Unit {0}
-Told [] (t ∷ ts) = ⊥
-Told (s ∷ ss) [] = ⊥
-Told (s ∷ ss) (t ∷ ts) = Tells s t × (Clean t → Told ss ts)
+abbrev pub TestsOf : List Test → List Trial → Type 0
+TestsOf [] [] = Unit {0}
+TestsOf [] (t ∷ ts) = ⊥
+TestsOf (s ∷ ss) [] = ⊥
+TestsOf (s ∷ ss) (t ∷ ts) = TestOf s t × (Clean t → TestsOf ss ts)
 
-pub told-append : (ss us : List Test) (ts vs : List Trial) → Told ss ts → (Passed ts → Told us vs) → Told (ss ++ us) (ts ++ vs)
-told-append [] us [] vs a k = k tt
-told-append [] us (t ∷ ts) vs a k = absurd a
-told-append (s ∷ ss) us [] vs a k = absurd a
-told-append (s ∷ ss) us (t ∷ ts) vs a k = (a .0, λ c. told-append ss us ts vs (a .1 c) (λ p. k (c, p)))
+pub tests-append : (ss us : List Test) (ts vs : List Trial) → TestsOf ss ts → (Passed ts → TestsOf us vs) → TestsOf (ss ++ us) (ts ++ vs)
+tests-append [] us [] vs a k = k tt
+tests-append [] us (t ∷ ts) vs a k = absurd a
+tests-append (s ∷ ss) us [] vs a k = absurd a
+tests-append (s ∷ ss) us (t ∷ ts) vs a k = (a .0, λ c. tests-append ss us ts vs (a .1 c) (λ p. k (c, p)))
+
+-- Below n, P holds of a smallest number or of none.
+smallest-or-none : (P : ℕ → Type 0) (n : ℕ) → ((i : ℕ) → i < n → Dec (P i)) → ((i : ℕ) × (i < n) × Smallest P i) ⊎ ((i : ℕ) → i < n → ¬ P i)
+smallest-or-none P zero dec = inr (λ i l. absurd (not-suc-le-zero l))
+smallest-or-none P (suc n) dec =
+    ⊎-elim (λ (i, l, s). inl (i, omega arith, s)) (λ none. go none (dec n (omega arith))) (smallest-or-none P n (λ i l. dec i (omega arith)))
+  where
+    go : ((i : ℕ) → i < n → ¬ P i) → Dec (P n) → ((i : ℕ) × (i < suc n) × Smallest P i) ⊎ ((i : ℕ) → i < suc n → ¬ P i)
+    go none (yes x) = inl (n, omega arith, record { here = x; none-below = none })
+    go none (no x) = inr (λ i l. ⊎-elim (λ e. rw e x) (none i) (eq-or-lt-of-le (le-of-suc-le-suc l)))
+
+clean-or-faulty : (s : Test) (t : Trial) → TestOf s t → Clean t ⊎ ((i : ℕ) × (j : ℕ) × FirstFault t i j)
+clean-or-faulty s t a = ⊎-elim (λ (i, l, f). inr (faulty i l f)) inl (smallest-or-none (t .fault) (t .among) (λ i l. dec-iff (faultOf s i) (a .fault-iff i l)))
+  where
+    faulty : (i : ℕ) → i < t .among → Smallest (t .fault) i → (i : ℕ) × (j : ℕ) × FirstFault t i j
+    faulty i l f =
+        let (k, x) = a .some-beside i l (f .here) in
+        ⊎-elim (λ (j, m, named). (i, j, record { inside = l; first = f; named = named })) (λ none. absurd (none k (omega arith) x))
+        (smallest-or-none (t .beside i) (suc k) (λ j m. dec-iff (besideOf s i j) (a .beside-iff i j l)))
 
 -- THEOREM. Trials of which tests tell are decided.
-pub told-decided : (ss : List Test) (ts : List Trial) → Told ss ts → Decided ts
-told-decided [] [] a = inl tt
-told-decided [] (t ∷ ts) a = absurd a
-told-decided (s ∷ ss) [] a = absurd a
-told-decided (s ∷ ss) (t ∷ ts) (a, k) =
-    decided-more t ts (record {
-      fault-dec = λ i l. dec-iff (faultOf s i) (a .fault-iff i l);
-      beside-dec = λ i j l. dec-iff (besideOf s i j) (a .beside-iff i j l);
-      one-beside = a .some-beside;
-    }) (λ c. told-decided ss ts (k c))
+pub tests-decide : (ss : List Test) (ts : List Trial) → TestsOf ss ts → Decided ts
+tests-decide [] [] a = inl tt
+tests-decide [] (t ∷ ts) a = absurd a
+tests-decide (s ∷ ss) [] a = absurd a
+tests-decide (s ∷ ss) (t ∷ ts) (a, k) =
+    ⊎-elim
+    (λ c. ⊎-elim (λ p. inl (c, p)) (λ (r, x). inr (r, inr (c, x))) (tests-decide ss ts (k c)))
+    (λ (i, j, f). inr (record { reason = t .reason; at = i; earlier = j }, inl (refl, f)))
+    (clean-or-faulty s t a)
 
 -- ---- which the checker computes
 
@@ -171,10 +144,10 @@ smallest-told p P i says t =
     let (here, below) = both (p i) (not (somewhere p i)) .0 t in
     record { here = says i (omega arith) .0 here; none-below = none-told p P i (λ j l. says j (omega arith)) below }
 
-clean-told : (s : Test) (t : Trial) → Tells s t → T (cleanTest s) → Clean t
+clean-told : (s : Test) (t : Trial) → TestOf s t → T (cleanTest s) → Clean t
 clean-told s t a h = none-told (faultOf s) (t .fault) (t .among) (a .fault-iff) (rw (a .among-same) at h)
 
-faulty-told : (s : Test) (t : Trial) (r : Refusal) → Tells s t → T (faultyTest s r) → (r .reason ≡ t .reason) × FirstFault t (r .at) (r .earlier)
+faulty-told : (s : Test) (t : Trial) (r : Refusal) → TestOf s t → T (faultyTest s r) → (r .reason ≡ t .reason) × FirstFault t (r .at) (r .earlier)
 faulty-told s t r a h =
     let here = smallestTest (faultOf s) (r .at) in
     let named = smallestTest (besideOf s (r .at)) (r .earlier) in
@@ -191,53 +164,53 @@ faulty-told s t r a h =
     )
 
 -- THEOREM. What passes the tests passes the trials;
-pub passes-told : (ss : List Test) (ts : List Trial) → Told ss ts → T (passes ss) → Passed ts
-passes-told [] [] a h = tt
-passes-told [] (t ∷ ts) a h = absurd a
-passes-told (s ∷ ss) [] a h = absurd a
-passes-told (s ∷ ss) (t ∷ ts) (a, k) h =
+pub tests-pass : (ss : List Test) (ts : List Trial) → TestsOf ss ts → T (passes ss) → Passed ts
+tests-pass [] [] a h = tt
+tests-pass [] (t ∷ ts) a h = absurd a
+tests-pass (s ∷ ss) [] a h = absurd a
+tests-pass (s ∷ ss) (t ∷ ts) (a, k) h =
     let (c, p) = both (cleanTest s) (passes ss) .0 h in
     let clean = clean-told s t a c in
-    (clean, passes-told ss ts (k clean) p)
+    (clean, tests-pass ss ts (k clean) p)
 
 -- what they refuse is so refused.
-pub refuses-told : (ss : List Test) (ts : List Trial) (r : Refusal) → Told ss ts → T (refuses ss r) → RefusedBy ts r
-refuses-told [] ts r a h = absurd h
-refuses-told (s ∷ ss) [] r a h = absurd a
-refuses-told (s ∷ ss) (t ∷ ts) r (a, k) h =
+pub tests-refuse : (ss : List Test) (ts : List Trial) (r : Refusal) → TestsOf ss ts → T (refuses ss r) → RefusedBy ts r
+tests-refuse [] ts r a h = absurd h
+tests-refuse (s ∷ ss) [] r a h = absurd a
+tests-refuse (s ∷ ss) (t ∷ ts) r (a, k) h =
     ⊎-elim
     (λ f. inl (faulty-told s t r a f))
     (λ g.
     let (c, f) = both (cleanTest s) (refuses ss r) .0 g in
     let clean = clean-told s t a c in
-    inr (clean, refuses-told ss ts r (k clean) f))
+    inr (clean, tests-refuse ss ts r (k clean) f))
     (either (faultyTest s r) (cleanTest s && refuses ss r) .0 h)
 
 -- ---- each call's
 
-job-told : (job : List ℕ) → Told (jobTests job) (jobTrials job)
+job-tests : (job : List ℕ) → TestsOf (jobTests job) (jobTrials job)
 unfolding jobTests
-job-told job = (
-  tells-each 4 _ _ (badField job) (λ i l. bad-field-iff job i),
+job-tests job = (
+  each-test 4 _ _ (badField job) (λ i l. bad-field-iff job i),
   λ _. (
-    tells-each 5 _ _ (notAbove job) (λ i l. not-above-iff job i),
+    each-test 5 _ _ (notAbove job) (λ i l. not-above-iff job i),
     λ _. (
-      tells-each 12 _ _ (tooClose job) (λ i l. too-close-iff job i),
+      each-test 12 _ _ (tooClose job) (λ i l. too-close-iff job i),
       λ _. (
-        tells-each 6 _ _ (withEarlier (sameName job)) (λ i l. with-earlier-iff (sameName job) (SameName job) i (λ j k. same-name-iff job i j)),
-        λ _. (tells-each 7 _ _ (withEarlier (sameX job)) (λ i l. with-earlier-iff (sameX job) (SameX job) i (λ j k. same-x-iff job i j)), λ _. tt),
+        each-test 6 _ _ (withEarlier (sameName job)) (λ i l. with-earlier-iff (sameName job) (SameName job) i (λ j k. same-name-iff job i j)),
+        λ _. (each-test 7 _ _ (withEarlier (sameX job)) (λ i l. with-earlier-iff (sameX job) (SameX job) i (λ j k. same-x-iff job i j)), λ _. tt),
       ),
     ),
   ),
 )
 
-pub first-told : (job : List ℕ) (lw bw room : ℕ) → Told (firstTests job lw bw room) (firstTrials job lw bw room)
+pub first-tests : (job : List ℕ) (lw bw room : ℕ) → TestsOf (firstTests job lw bw room) (firstTrials job lw bw room)
 unfolding firstTests
-first-told job lw bw room = (
-  tells-whole 1 (BadSize job) (badSize job) (bad-size-iff job),
+first-tests job lw bw room = (
+  whole-test 1 (BadSize job) (badSize job) (bad-size-iff job),
   λ _. (
-    tells-whole 2 (BadWeight lw bw) (badWeight lw bw) (bad-weight-iff lw bw),
-    λ _. (tells-whole 3 (room < count job) (ltb room (count job)) (ltb-iff room (count job)), λ _. job-told job),
+    whole-test 2 (BadWeight lw bw) (badWeight lw bw) (bad-weight-iff lw bw),
+    λ _. (whole-test 3 (room < count job) (ltb room (count job)) (ltb-iff room (count job)), λ _. job-tests job),
   ),
 )
 
@@ -245,31 +218,31 @@ first-told job lw bw room = (
 pub passed-differ : (job : List ℕ) → Passed (jobTrials job) → Differ (boardOf job)
 passed-differ job passed i j k l e = passed .1 .1 .1 .1 .0 i l (j, k, e)
 
-pub layout-told : (b : Board) → Differ b → (list : List ℕ) → Told (layoutTests b list) (layoutTrials b list)
+pub layout-tests : (b : Board) → Differ b → (list : List ℕ) → TestsOf (layoutTests b list) (layoutTrials b list)
 unfolding layoutTests
-layout-told b differ list = (
-  tells-each 8 _ _ (badEntry (b .ports) list) (λ i l. bad-entry-iff (b .ports) list i),
+layout-tests b differ list = (
+  each-test 8 _ _ (badEntry (b .ports) list) (λ i l. bad-entry-iff (b .ports) list i),
   λ _. (
-    tells-pairs 9 (b .pads) (Touching b (held list)) (meetAt b (held list)) (λ i j l k.
+    pairs-test 9 (b .pads) (Touching b (held list)) (meetAt b (held list)) (λ i j l k.
         meet-iff (leader b i (held list i)) (leader b j (held list j)) (differ i j k l)),
     λ _. tt,
   ),
 )
 
-pub measure-told : (job : List ℕ) (lw bw : ℕ) (list : List ℕ) → Told (measureTests job lw bw list) (measureTrials job lw bw list)
+pub measure-tests : (job : List ℕ) (lw bw : ℕ) (list : List ℕ) → TestsOf (measureTests job lw bw list) (measureTrials job lw bw list)
 unfolding measureTests
-measure-told job lw bw list =
-    told-append (firstTests job lw bw (length list)) (layoutTests (boardOf job) list) (firstTrials job lw bw (length list)) _
-    (first-told job lw bw (length list)) (λ passed. layout-told (boardOf job) (passed-differ job (passed .1 .1 .1)) list)
+measure-tests job lw bw list =
+    tests-append (firstTests job lw bw (length list)) (layoutTests (boardOf job) list) (firstTrials job lw bw (length list)) _
+    (first-tests job lw bw (length list)) (λ passed. layout-tests (boardOf job) (passed-differ job (passed .1 .1 .1)) list)
 
-pub draw-told : (job : List ℕ) (i q room : ℕ) → Told (drawTests job i q room) (drawTrials job i q room)
+pub draw-tests : (job : List ℕ) (i q room : ℕ) → TestsOf (drawTests job i q room) (drawTrials job i q room)
 unfolding drawTests
-draw-told job i q room = (
-  tells-whole 1 (BadSize job) (badSize job) (bad-size-iff job),
+draw-tests job i q room = (
+  whole-test 1 (BadSize job) (badSize job) (bad-size-iff job),
   λ _. (
-    tells-whole 3 (room < 6) (ltb room 6) (ltb-iff room 6),
-    λ _. told-append (jobTests job) _ (jobTrials job) _ (job-told job) (λ _. (
-      tells-whole 11 ((count job ≤ i) ⊎ (count job ≤ q)) (badNumber (count job) i q) (bad-number-iff (count job) i q),
+    whole-test 3 (room < 6) (ltb room 6) (ltb-iff room 6),
+    λ _. tests-append (jobTests job) _ (jobTrials job) _ (job-tests job) (λ _. (
+      whole-test 11 ((count job ≤ i) ⊎ (count job ≤ q)) (badNumber (count job) i q) (bad-number-iff (count job) i q),
       λ _. tt,
     )),
   ),
@@ -277,10 +250,10 @@ draw-told job i q room = (
 
 -- THEOREM: for every input, a call's trials are passed or one of them refuses.
 pub first-decided : (job : List ℕ) (lw bw room : ℕ) → Decided (firstTrials job lw bw room)
-first-decided job lw bw room = told-decided (firstTests job lw bw room) (firstTrials job lw bw room) (first-told job lw bw room)
+first-decided job lw bw room = tests-decide (firstTests job lw bw room) (firstTrials job lw bw room) (first-tests job lw bw room)
 
 pub measure-decided : (job : List ℕ) (lw bw : ℕ) (list : List ℕ) → Decided (measureTrials job lw bw list)
-measure-decided job lw bw list = told-decided (measureTests job lw bw list) (measureTrials job lw bw list) (measure-told job lw bw list)
+measure-decided job lw bw list = tests-decide (measureTests job lw bw list) (measureTrials job lw bw list) (measure-tests job lw bw list)
 
 pub draw-decided : (job : List ℕ) (i q room : ℕ) → Decided (drawTrials job i q room)
-draw-decided job i q room = told-decided (drawTests job i q room) (drawTrials job i q room) (draw-told job i q room)
+draw-decided job i q room = tests-decide (drawTests job i q room) (drawTrials job i q room) (draw-tests job i q room)

@@ -1,7 +1,7 @@
 -- DEMAND 3, of all calls that are regular: First and then Next until the end gives every best layout, each exactly once, in order, and no other. It is shown
 -- of the promises, so of every program that keeps to them.
 --     demand-3 : for every list that First accepts;  next-ends : whoever asks on from any list that Next accepts comes to the end
-use mathlib.Core.Path.{_≡_, refl, sym, _∙_}
+use mathlib.Core.Path.{_≡_, refl}
 use mathlib.Core.Logic.{_⊎_, inl, inr}
 use mathlib.Core.List.{List, [], _∷_, _++_}
 use Prim.Native.Nat.{ℕ, zero, suc, _+_, _≤_, _<_}

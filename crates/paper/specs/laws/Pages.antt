@@ -1,14 +1,13 @@
 -- Pages: there is one page that follows a given layout, and it can be filled, layout by layout.
 --     following-one: there is one page;  page-filled: it can be filled;  follow-one, follow-ends: so with layouts that follow one another
 use mathlib.Core.Path.{_≡_, refl, sym, _∙_}
-use mathlib.Core.Logic.{_≢_, _⊎_, inl, inr, ⊎-elim}
+use mathlib.Core.Logic.{_⊎_, inl, inr, ⊎-elim}
 use mathlib.Core.List.{List}
 use Prim.Native.Nat.{ℕ, zero, suc, _+_, _*_, _/_, _%_, _≤_, _<_}
 use native.Mathlib.Nat.{suc-mul, mul-le-mul-right, div-add-mod', mod-lt, div-lt-iff-lt-mul}
 use native.Mathlib.Decide.{decLt}
 use native.Mathlib.Omega.{arith}
-use lib.ListN.{length, getD, set, length-set}
-use lib.Seq.{getD-set-same, getD-set-other}
+use lib.ListN.{length, getD}
 use Rattle.numbers.specs.Copies.{Copied, copied}
 use Rattle.paper.specs.Layouts.{held, Same}
 use Rattle.paper.specs.Problem.{Problem, Best, NextBest, LastBest}

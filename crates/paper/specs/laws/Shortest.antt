@@ -21,7 +21,7 @@ use Rattle.paper.specs.Straightening.{LeastOfAll, CostsNothing, levelPad
 use Rattle.paper.specs.laws.Tests.{somewhere, outside, jobTests, firstTests}
 use Rattle.paper.specs.laws.Totals.{total-is}
 use Rattle.paper.specs.laws.Boards.{layout-iff, layout-same, untouching-same, total-same}
-use Rattle.paper.specs.laws.Decided.{passes-told, first-told}
+use Rattle.paper.specs.laws.Decided.{tests-pass, first-tests}
 use Rattle.paper.specs.laws.Existence.{straight-total}
 use Rattle.paper.specs.laws.Accepted.{first-accepted}
 use Rattle.paper.specs.laws.Numbers.{total-told, numbered}
@@ -93,7 +93,7 @@ only-uncrossed f u = go (ℕ-discrete (f 0) 0) (u .layout .inside 0 (omega arith
 -- The job is accepted, whatever the weights.
 sound : Passed (firstTrials levelPad 0 0 2)
 unfolding somewhere outside jobTests firstTests twos nameOf reservedOf xOf yOf portOf
-sound = passes-told (firstTests levelPad 0 0 2) (firstTrials levelPad 0 0 2) (first-told levelPad 0 0 2) tt
+sound = tests-pass (firstTests levelPad 0 0 2) (firstTrials levelPad 0 0 2) (first-tests levelPad 0 0 2) tt
 
 -- THEOREM. With a bend weight untouching leaders can cost more, whatever the length weight is.
 pub bends-can-cost : BendsCanCost

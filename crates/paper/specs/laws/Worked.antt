@@ -2,33 +2,33 @@
 -- and a lemma that turns the test into the call's promise.
 --     worked, worked-pages
 use mathlib.Core.Path.{_≡_, refl, sym, ap, _∙_}
-use mathlib.Core.Logic.{_↔_}
-use mathlib.Core.Bool.{Bool, true, false, not, _&&_, _||_}
-use mathlib.Core.List.{List, [], _∷_, _++_}
+use mathlib.Core.Bool.{Bool, true, false, _&&_, _||_}
+use mathlib.Core.List.{List, [], _∷_}
 use Prim.Native.Nat.{ℕ, zero, suc, _+_, _*_, _-_, _≤_}
 use native.Mathlib.Omega.{arith}
 use lib.Dec.{T, eqb, eqb→eq, leb, leb→le, ltb}
 use lib.ListN.{length, getD, drop}
 use lib.Seq.{getD-drop}
-use Rattle.numbers.specs.Tests.{both, or-iff, not-iff, ltb-iff}
+use Rattle.numbers.specs.Tests.{both, or-iff, ltb-iff}
 use Rattle.paper.specs.declared.Answer.{Answer}
 use Rattle.paper.specs.declared.Answer.the-variants.{Total, End, Refused}
 use Rattle.paper.specs.declared.Paged.{Paged}
 use Rattle.paper.specs.declared.Paged.the-variants.{Wrote, Refused as NotPaged}
 use Rattle.paper.specs.Job.{count, twos, nameOf, reservedOf, xOf, yOf, portOf}
-use Rattle.paper.specs.Layouts.{Board, boardOf, held, weighted, Untouching, sum, Differ}
-use Rattle.paper.specs.Problem.{Problem, Best, labelingOf}
-use Rattle.paper.specs.Refusals.{Passed, firstTrials, measureTrials, nextTrials}
+use Rattle.paper.specs.Layouts.{Board, boardOf, held, weighted, sum, Differ}
+use Rattle.paper.specs.Problem.{Problem, labelingOf}
+use Rattle.paper.specs.Refusals.{firstTrials, measureTrials, nextTrials}
 use Rattle.paper.specs.Promises.{Kept, inTurn, Following, FirstAnswers, NextAnswers, PageAnswers, MeasureAnswers}
 use Rattle.paper.specs.laws.Totals.{totalOf}
 use Rattle.paper.specs.Sheets.{sheets, Each, Call, First, Next, Measure, Sheet, AllowedBy, Allowed, pages, PageSheet, PageAllowed}
-use Rattle.paper.specs.laws.Tests.{Test, atWhole, somewhere, outside, between, meet, jobTests, layoutTests, firstTests, measureTests}
+use Rattle.paper.specs.laws.Tests.{somewhere, outside, between, meet, jobTests, layoutTests, firstTests, measureTests}
 use Rattle.paper.specs.Leaders.{lengthOf, bendsOf}
 use Rattle.paper.specs.laws.Order.{below-suc}
-use Rattle.paper.specs.laws.Decided.{Told, told-append, tells-whole, passes, refuses, passes-told, refuses-told, first-told, measure-told}
-use Rattle.paper.specs.laws.Accepted.{first-accepted, measure-accepted, measure-facts, next-differ}
+use Rattle.paper.specs.laws.Decided.{passes, refuses, tests-pass, tests-refuse, first-tests, measure-tests}
+use Rattle.paper.specs.laws.Accepted.{first-accepted, next-differ}
+use Rattle.paper.specs.laws.Regular.{nextTests, next-tests}
 use Rattle.paper.specs.laws.Pages.{Follow}
-use Rattle.paper.specs.laws.Trying.{bestTest, firstTest, nextTest, lastTest, best-iff, first-iff, next-iff, last-iff, Searchable, labeling-searchable}
+use Rattle.paper.specs.laws.Trying.{bestTest, firstTest, nextTest, lastTest, first-iff, next-iff, last-iff, Searchable, labeling-searchable}
 use Rattle.paper.specs.laws.Trying.{heads, words, any, someWord, leastTest, misled, untouchingTest, differRight, decidedAt, beforeTest, cheaper, laterTest}
 
 -- ---- the tests
@@ -42,10 +42,6 @@ sameList (x ∷ xs) (y ∷ ys) = eqb x y && sameList xs ys
 -- two lists of the same length that are alike from n on
 abbrev sameRest : ℕ → List ℕ → List ℕ → Bool
 sameRest n l m = eqb (length m) (length l) && sameList (drop n m) (drop n l)
-
--- 10 is tried by trying every assignment
-nextTests : List ℕ → ℕ → ℕ → List ℕ → List Test
-nextTests job lw bw list = measureTests job lw bw list ++ (atWhole 10 (not (bestTest (labelingOf job lw bw) (untouchingTest (boardOf job)) (held list))) ∷ [])
 
 abbrev firstHolds : List ℕ → ℕ → ℕ → List ℕ → Answer → List ℕ → Bool
 firstHolds job lw bw l (Total t) m =
@@ -128,17 +124,6 @@ module _ (job : List ℕ) (lw bw : ℕ) (l : List ℕ) where
   abbrev searchable : Differ b → Searchable p
   searchable = labeling-searchable b (weighted b lw bw)
 
-  next-told : Told (nextTests job lw bw l) (nextTrials job lw bw l)
-  unfolding nextTests
-  next-told =
-      told-append (measureTests job lw bw l) _ (measureTrials job lw bw l) _ (measure-told job lw bw l)
-      (λ q. (tells-whole 10 _ (not (bestTest p counts (held l))) (says q), λ _. tt))
-    where
-      says : Passed (measureTrials job lw bw l) → T (not (bestTest p counts (held l))) ↔ (Untouching b (held l) × ¬ Best p (held l))
-      says q =
-          let none = not-iff (bestTest p counts (held l)) (best-iff p (searchable (measure-facts job lw bw l q .0 .proper .differ)) (held l)) in
-          ((λ t. (measure-accepted job lw bw l q .1, none .0 t)), (λ (u, n). none .1 n))
-
   first-holds : (a : Answer) (m : List ℕ) → T (firstHolds job lw bw l a m) → FirstAnswers job lw bw l a m
   first-holds (Total t) m h =
       let c = eqb t (totalOf job lw bw m) in
@@ -147,13 +132,13 @@ module _ (job : List ℕ) (lw bw : ℕ) (l : List ℕ) where
       let u = both (passes (firstTests job lw bw (length l))) (e && (c && d)) .0 h in
       let w = both e (c && d) .0 (u .1) in
       let x = both c d .0 (w .1) in
-      let q = passes-told (firstTests job lw bw (length l)) (firstTrials job lw bw (length l)) (first-told job lw bw (length l)) (u .0) in
+      let q = tests-pass (firstTests job lw bw (length l)) (firstTrials job lw bw (length l)) (first-tests job lw bw (length l)) (u .0) in
       let differ = first-accepted job lw bw (length l) q .0 .proper .differ in
       (q, first-iff p (searchable differ) (held m) .0 (w .0), eqb→eq t (totalOf job lw bw m) (x .0), same-rest (count job) l m (x .1))
   first-holds End m h = absurd h
   first-holds (Refused r) m h =
       let u = both (refuses (firstTests job lw bw (length l)) r) (sameList m l) .0 h in
-      let q = refuses-told (firstTests job lw bw (length l)) (firstTrials job lw bw (length l)) r (first-told job lw bw (length l)) (u .0) in
+      let q = tests-refuse (firstTests job lw bw (length l)) (firstTrials job lw bw (length l)) r (first-tests job lw bw (length l)) (u .0) in
       (q, same-list m l (u .1))
 
   next-holds : (a : Answer) (m : List ℕ) → T (nextHolds job lw bw l a m) → NextAnswers job lw bw l a m
@@ -164,17 +149,17 @@ module _ (job : List ℕ) (lw bw : ℕ) (l : List ℕ) where
       let u = both (passes (nextTests job lw bw l)) (e && (c && d)) .0 h in
       let w = both e (c && d) .0 (u .1) in
       let x = both c d .0 (w .1) in
-      let q = passes-told (nextTests job lw bw l) (nextTrials job lw bw l) next-told (u .0) in
+      let q = tests-pass (nextTests job lw bw l) (nextTrials job lw bw l) (next-tests job lw bw l) (u .0) in
       (q, next-iff p (searchable (next-differ job lw bw l q)) (held l) (held m) .0 (w .0), eqb→eq t (totalOf job lw bw m) (x .0), same-rest (count job) l m (x .1))
   next-holds End m h =
       let e = lastTest p counts (held l) in
       let u = both (passes (nextTests job lw bw l)) (e && sameList m l) .0 h in
       let w = both e (sameList m l) .0 (u .1) in
-      let q = passes-told (nextTests job lw bw l) (nextTrials job lw bw l) next-told (u .0) in
+      let q = tests-pass (nextTests job lw bw l) (nextTrials job lw bw l) (next-tests job lw bw l) (u .0) in
       (q, last-iff p (searchable (next-differ job lw bw l q)) (held l) .0 (w .0), same-list m l (w .1))
   next-holds (Refused r) m h =
       let u = both (refuses (nextTests job lw bw l) r) (sameList m l) .0 h in
-      (refuses-told (nextTests job lw bw l) (nextTrials job lw bw l) r next-told (u .0), same-list m l (u .1))
+      (tests-refuse (nextTests job lw bw l) (nextTrials job lw bw l) r (next-tests job lw bw l) (u .0), same-list m l (u .1))
 
   module _ (differ : Differ b) where
     follow-told : (f : ℕ → ℕ → ℕ) (k : ℕ) → T (followTest p counts f k) → Follow p k f
@@ -202,18 +187,18 @@ module _ (job : List ℕ) (lw bw : ℕ) (l : List ℕ) where
   page-holds : (before : List ℕ) (a : Paged) (m : List ℕ) → T (pageHolds job lw bw l before a m) → PageAnswers job lw bw l before a m
   page-holds before (Wrote k) m h =
       let u = both (passes (nextTests job lw bw l)) (pageTest p counts l before k m) .0 h in
-      let q = passes-told (nextTests job lw bw l) (nextTrials job lw bw l) next-told (u .0) in
+      let q = tests-pass (nextTests job lw bw l) (nextTrials job lw bw l) (next-tests job lw bw l) (u .0) in
       (q, page-told (next-differ job lw bw l q) before k m (u .1))
   page-holds before (NotPaged r) m h =
       let u = both (refuses (nextTests job lw bw l) r) (sameList m before) .0 h in
-      (refuses-told (nextTests job lw bw l) (nextTrials job lw bw l) r next-told (u .0), same-list m before (u .1))
+      (tests-refuse (nextTests job lw bw l) (nextTrials job lw bw l) r (next-tests job lw bw l) (u .0), same-list m before (u .1))
 
   measure-holds : (a : Answer) → T (measureHolds job lw bw l a) → MeasureAnswers job lw bw l a
   measure-holds (Total t) h =
       let u = both (passes (measureTests job lw bw l)) (eqb t (totalOf job lw bw l)) .0 h in
-      (passes-told (measureTests job lw bw l) (measureTrials job lw bw l) (measure-told job lw bw l) (u .0), eqb→eq t (totalOf job lw bw l) (u .1))
+      (tests-pass (measureTests job lw bw l) (measureTrials job lw bw l) (measure-tests job lw bw l) (u .0), eqb→eq t (totalOf job lw bw l) (u .1))
   measure-holds End h = absurd h
-  measure-holds (Refused r) h = refuses-told (measureTests job lw bw l) (measureTrials job lw bw l) r (measure-told job lw bw l) h
+  measure-holds (Refused r) h = tests-refuse (measureTests job lw bw l) (measureTrials job lw bw l) r (measure-tests job lw bw l) h
 
 -- A sheet that passes its test is one that its call's promise allows.
 holds-allowed : (c : Call) (s : Sheet) → T (holdsFor c s) → AllowedBy c s
