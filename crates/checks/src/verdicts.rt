@@ -62,8 +62,8 @@ pub fn of_job(v: Verdict, job: &[u8]) -> Verdict
     let v4 = try_records(v, 4, Check::Field, job);
     let v5 = try_records(v4, 5, Check::Rise, job);
     let v12 = try_records(v5, 12, Check::Space, job);
-    let v6 = try_records(v12, 6, Check::Once(Own::Name), job);
-    try_records(v6, 7, Check::Once(Own::Place), job)
+    let v6 = try_records(v12, 6, Check::Twice(Own::Name), job);
+    try_records(v6, 7, Check::Twice(Own::Place), job)
 }
 
 // 8 and 9: the layout, once there is room for it.

@@ -4,7 +4,7 @@ ghost use Prim.Native.Nat.{_<_};
 ghost use lib.ListN.{length};
 ghost use Rattle.paper.specs.Job.{count};
 ghost use Rattle.paper.specs.Layouts.{boardOf, held};
-ghost use Rattle.paper.specs.laws.Tests.{badSize, badWeight, outside, badField, notAbove, tooClose, sameName, sameX, sameEntry, between, meet, meetAt, badNumber};
+ghost use Rattle.paper.specs.laws.Tests.{badSize, badWeight, outside, badField, notAbove, tooClose, sameName, sameX, sameEntry, between, leadersMeet, meetAt, badNumber};
 
 // 1: the byte count.
 pub fn bad_size(job: &[u8]) -> bool
@@ -94,7 +94,7 @@ fn lies_between(m: i64, a: i64, b: i64) -> bool
 
 // x says which arm passes the other pad: one test is enough.
 fn leaders_touch(x: u32, y: i64, port: i64, x2: u32, y2: i64, port2: i64) -> bool
-    ensures { λ r. ⌜ r ≡ meet (record { x = x; y = y; port = port }) (record { x = x2; y = y2; port = port2 }) ⌝ }
+    ensures { λ r. ⌜ r ≡ leadersMeet (record { x = x; y = y; port = port }) (record { x = x2; y = y2; port = port2 }) ⌝ }
 {
     if x2 < x {
         lies_between(port, y2, port2)

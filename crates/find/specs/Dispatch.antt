@@ -8,7 +8,7 @@ use Rattle.paper.specs.laws.Tests.{withEarlier, badField, notAbove, tooClose, s
 use Rattle.find.specs.declared.Own.{Own}
 use Rattle.find.specs.declared.Own.the-variants.{Name, Place}
 use Rattle.find.specs.declared.Check.{Check}
-use Rattle.find.specs.declared.Check.the-variants.{Field, Rise, Space, Once}
+use Rattle.find.specs.declared.Check.the-variants.{Field, Rise, Space, Twice}
 
 -- the test on two records
 unfoldable pub pairOf : Own → List ℕ → ℕ → ℕ → Bool
@@ -20,7 +20,7 @@ unfoldable pub testOf : Check → List ℕ → ℕ → Bool
 testOf Field job = badField job
 testOf Rise job = notAbove job
 testOf Space job = tooClose job
-testOf (Once o) job = withEarlier (pairOf o job)
+testOf (Twice o) job = withEarlier (pairOf o job)
 
 -- what the search for a touching pair takes for granted of the layout: its length, and that its entries are port numbers
 abbrev pub Led : List ℕ → ℕ → Type 0

@@ -25,7 +25,7 @@ pub enum Check {
     Field, // 4
     Rise, // 5
     Space, // 12
-    Once(Own),
+    Twice(Own),
 }
 
 // Whether records i and j share what they should not.
@@ -63,7 +63,7 @@ fn fails(c: Check, job: &[u8], i: u16) -> bool
         Check::Field => faults::bad_field(job, i),
         Check::Rise => faults::not_above(job, i),
         Check::Space => faults::too_close(job, i),
-        Check::Once(o) => stood(o, job, i),
+        Check::Twice(o) => stood(o, job, i),
     }
 }
 

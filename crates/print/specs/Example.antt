@@ -13,7 +13,7 @@ use Rattle.paper.specs.Refusals.{Passed, firstTrials}
 use Rattle.paper.specs.Promises.{Kept}
 use Rattle.paper.specs.laws.Totals.{totalOf}
 use Rattle.paper.specs.Sheets.{J5}
-use Rattle.paper.specs.laws.Tests.{somewhere, outside, between, meet, jobTests, firstTests}
+use Rattle.paper.specs.laws.Tests.{somewhere, outside, between, leadersMeet, jobTests, firstTests}
 use Rattle.paper.specs.laws.Decided.{tests-pass, first-tests}
 use Rattle.paper.specs.laws.Accepted.{first-accepted}
 use Rattle.paper.specs.laws.Trying.{firstTest, bestTest, first-iff, labeling-searchable, heads, words, any, someWord, leastTest}
@@ -30,7 +30,7 @@ unfolding somewhere outside jobTests firstTests twos nameOf reservedOf xOf yOf p
 passed = tests-pass (firstTests J5 1 0 64) (firstTrials J5 1 0 64) (first-tests J5 1 0 64) tt
 
 earliest : FirstBest (labelingOf J5 1 0) (held list)
-unfolding firstTest bestTest heads words any someWord leastTest misled untouchingTest differRight decidedAt beforeTest cheaper somewhere between meet
+unfolding firstTest bestTest heads words any someWord leastTest misled untouchingTest differRight decidedAt beforeTest cheaper somewhere between leadersMeet
     twos xOf yOf portOf lengthOf bendsOf sum weighted
 earliest = first-iff (labelingOf J5 1 0) (labeling-searchable (boardOf J5) (weighted (boardOf J5) 1 0) (first-accepted J5 1 0 64 passed .0 .proper .differ)) (held list) .0 tt
 

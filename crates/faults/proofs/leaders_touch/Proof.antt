@@ -5,7 +5,7 @@ use borrow.Author.Tests.{lt-ltb, le-ltb}
 use mathlib.Core.Path.{_≡_, refl, sym}
 use mathlib.Core.Bool.{Bool, true, false, _||_}
 use mir.Facts.{toZ-ofZ}
-use Rattle.paper.specs.laws.Tests.{meet}
+use Rattle.paper.specs.laws.Tests.{leadersMeet}
 use Rattle.faults.proofs.leaders_touch.Statement.{statement}
 use Rattle.faults.proofs.leaders_touch.Tie as tie
 
@@ -21,7 +21,7 @@ lies-between-requires-2 c κs = search needs
 
 -- the first pad is to the right: the other way round nothing touches
 returns : tie.Need-returns
-unfolding meet
+unfolding leadersMeet
 returns c =
     let s = c .before .before in
     rw (
@@ -36,7 +36,7 @@ returns c =
 
 -- it is not: the first way round nothing touches
 returns-2 : tie.Need-returns-2
-unfolding meet
+unfolding leadersMeet
 returns-2 c =
     let s = c .before .before in
     rw (

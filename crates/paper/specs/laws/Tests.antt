@@ -65,11 +65,11 @@ badEntry n list i = leb n (held list i) || withEarlier (sameEntry list) i
 unfoldable pub between : ℤ → ℤ → ℤ → Bool
 between m a b = leZ a m && leZ m b || leZ b m && leZ m a
 
-unfoldable pub meet : Leader → Leader → Bool
-meet l m = ltb (m .x) (l .x) && between (l .port) (m .y) (m .port) || ltb (l .x) (m .x) && between (m .port) (l .y) (l .port)
+unfoldable pub leadersMeet : Leader → Leader → Bool
+leadersMeet l m = ltb (m .x) (l .x) && between (l .port) (m .y) (m .port) || ltb (l .x) (m .x) && between (m .port) (l .y) (l .port)
 
 abbrev pub meetAt : Board → (ℕ → ℕ) → ℕ → ℕ → Bool
-meetAt b f i j = meet (leader b i (f i)) (leader b j (f j))
+meetAt b f i j = leadersMeet (leader b i (f i)) (leader b j (f j))
 
 -- 11
 abbrev pub badNumber : ℕ → ℕ → ℕ → Bool

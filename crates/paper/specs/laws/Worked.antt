@@ -21,7 +21,7 @@ use Rattle.paper.specs.Refusals.{firstTrials, measureTrials, nextTrials}
 use Rattle.paper.specs.Promises.{Kept, inTurn, Following, FirstAnswers, NextAnswers, PageAnswers, MeasureAnswers}
 use Rattle.paper.specs.laws.Totals.{totalOf}
 use Rattle.paper.specs.Sheets.{sheets, Each, Call, First, Next, Measure, Sheet, AllowedBy, Allowed, pages, PageSheet, PageAllowed}
-use Rattle.paper.specs.laws.Tests.{somewhere, outside, between, meet, jobTests, layoutTests, firstTests, measureTests}
+use Rattle.paper.specs.laws.Tests.{somewhere, outside, between, leadersMeet, jobTests, layoutTests, firstTests, measureTests}
 use Rattle.paper.specs.Leaders.{lengthOf, bendsOf}
 use Rattle.paper.specs.laws.Order.{below-suc}
 use Rattle.paper.specs.laws.Decided.{passes, refuses, tests-pass, tests-refuse, first-tests, measure-tests}
@@ -218,7 +218,7 @@ all-allowed test P says (s ∷ ss) h = let u = both (test s) (allHold test ss) .
 -- Each passes its test.
 all-hold : T (allHold holds sheets) × T (allHold pageSheetHolds pages)
 unfolding heads words any someWord leastTest misled untouchingTest differRight decidedAt beforeTest cheaper bestTest firstTest laterTest nextTest lastTest
-    somewhere outside between meet jobTests layoutTests firstTests measureTests nextTests
+    somewhere outside between leadersMeet jobTests layoutTests firstTests measureTests nextTests
     twos nameOf reservedOf xOf yOf portOf lengthOf bendsOf sum weighted
 all-hold = (tt, tt)
 
