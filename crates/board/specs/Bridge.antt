@@ -6,12 +6,12 @@ use Prim.Native.Nat.{ℕ, zero, suc, _≤_, _<_, zero-le}
 use native.Mathlib.Omega.{arith}
 use native.Mathlib.Decide.{decLt, ℕ-discrete}
 use lib.ListN.{length, getD, List·getD-eq-default}
-use Rattle.strips.specs.Board.{Sol, Clear}
-use Rattle.strips.specs.Board as strips
-use Rattle.strips.specs.Order.{Same, Earlier, Earliest, earlier-not-same, earlier-asym}
-use Rattle.strips.specs.Places.{Optimal, Later}
+use Rattle.strips.specs.Grid.{Sol, Misses}
+use Rattle.strips.specs.Grid as strips
+use Rattle.strips.specs.Order.{SameOn, EarlierOn, EarliestOn, earlier-not-same, earlier-asym}
+use Rattle.strips.specs.FirstNext.{Optimal, Later}
 use Rattle.strips.specs.ByPlace.{mem-at, place-mem, free-places, places-free, earlier-differ, differ-earlier, sumTo, sum-order}
-use Rattle.totals.specs.Cell.{boardOf}
+use Rattle.totals.specs.Cell.{gridOf}
 use Rattle.steps.specs.Steps.{figureOf}
 use Rattle.choices.specs.Choices as choices
 use Rattle.choices.specs.Lists.{listed}
@@ -48,7 +48,7 @@ module _ {b : Board} {cost : ℕ → ℕ → ℕ} {order lo hi cs : List ℕ} (W
   most j (no h) = omega (arith, default hi (W .sides .high .long) j h)
 
   -- The work lists are what the search asks for.
-  pub proper : choices.Proper order cs lo hi
+  pub proper : choices.ProperLists order cs lo hi
   proper = record {
     pads = record {
       few = omega (arith, W .few, same-n);
@@ -67,7 +67,7 @@ module _ {b : Board} {cost : ℕ → ℕ → ℕ} {order lo hi cs : List ℕ} (W
   at : (p : ℕ) → p < b .pads → getD order p 0 < b .pads
   at p h = W .listed .arranged .inside p (omega (arith, same-n))
 
-  clear-at : (q j r : ℕ) → j < b .pads → q < b .pads → r < b .pads → Clear (boardOf order cs lo hi) q j r ↔ (¬ Between (b .port q) (b .y j) (b .port r))
+  clear-at : (q j r : ℕ) → j < b .pads → q < b .pads → r < b .pads → Misses (gridOf order cs lo hi) q j r ↔ (¬ Between (b .port q) (b .y j) (b .port r))
   clear-at q j r h l m = clear-iff b (W .proper .rising) (W .sides .low .at j h) (W .sides .high .at j h) q r (omega (arith, W .even)) (omega (arith, W .even))
 
   -- of two pads the right one stands first
@@ -86,7 +86,7 @@ module _ {b : Board} {cost : ℕ → ℕ → ℕ} {order lo hi cs : List ℕ} (W
   below j m = let t = mem-at order j m in subst (λ (i : ℕ). i < b .pads) (t .2) (at (t .0) (omega (arith, t .1, same-n)))
 
   -- What the search calls a layout is untouching,
-  pub sol-untouching : (f : ℕ → ℕ) → Sol (boardOf order cs lo hi) order 0 (length order) f → Untouching b f
+  pub sol-untouching : (f : ℕ → ℕ) → Sol (gridOf order cs lo hi) order 0 (length order) f → Untouching b f
   sol-untouching f s = untouching-of b f (λ j h. omega (arith, port j h, W .even)) (untouched-iff b f (W .proper .differ) .1 apart)
     where
       port : (j : ℕ) → j < b .pads → f j < b .pads
@@ -97,13 +97,13 @@ module _ {b : Board} {cost : ℕ → ℕ → ℕ} {order lo hi cs : List ℕ} (W
           let a = W .listed .arranged .covers i h in
           let c = W .listed .arranged .covers j l in
           let k = earlier-place (a .0) (c .0) (a .1) (c .1) (rw (a .2, c .2) r) in
-          let d = free-places (boardOf order cs lo hi) f order (s .free) (a .0) (c .0) k (omega (arith, c .1, same-n)) in
+          let d = free-places (gridOf order cs lo hi) f order (s .free) (a .0) (c .0) k (omega (arith, c .1, same-n)) in
           clear-at (f i) j (f j) l (port i h) (port j l) .0 (rw (a .2, c .2) at d)
 
   -- and every untouching layout is one.
-  pub untouching-sol : (f : ℕ → ℕ) → Untouching b f → Sol (boardOf order cs lo hi) order 0 (length order) f
+  pub untouching-sol : (f : ℕ → ℕ) → Untouching b f → Sol (gridOf order cs lo hi) order 0 (length order) f
   untouching-sol f u = record {
-    free = places-free (boardOf order cs lo hi) f order (λ p q h l.
+    free = places-free (gridOf order cs lo hi) f order (λ p q h l.
         let k : q < b .pads = omega (arith, same-n) in
         let i = at p (omega arith) in
         let j = at q k in
@@ -118,7 +118,7 @@ module _ {b : Board} {cost : ℕ → ℕ → ℕ} {order lo hi cs : List ℕ} (W
   -- ---- totals
 
   -- The search's sum is the total.
-  pub sum-total : (f : ℕ → ℕ) → Untouching b f → strips.sum (figureOf cs (length order)) order f ≡ total b cost f
+  pub sum-total : (f : ℕ → ℕ) → Untouching b f → strips.costSum (figureOf cs (length order)) order f ≡ total b cost f
   sum-total f u =
       sum-order (figureOf cs (length order)) f (b .pads) order (listed proper .distinct) below member
       ∙ sum-to (λ j. figureOf cs (length order) j (f j)) (b .pads)
@@ -127,20 +127,20 @@ module _ {b : Board} {cost : ℕ → ℕ → ℕ} {order lo hi cs : List ℕ} (W
   -- ---- best layouts and their order
 
   -- The search's best layouts are the best layouts,
-  pub optimal-is-best : (f : ℕ → ℕ) → Optimal (boardOf order cs lo hi) order (length order) f → Best (labeling b cost) f
+  pub optimal-is-best : (f : ℕ → ℕ) → Optimal (gridOf order cs lo hi) order (length order) f → Best (labeling b cost) f
   optimal-is-best f o = let u = sol-untouching f (o .layout) in record {
     counts = u;
     least = λ g v. rw (← sum-total f u, ← sum-total g v) (o .least g (untouching-sol g v));
   }
 
-  pub best-is-optimal : (f : ℕ → ℕ) → Best (labeling b cost) f → Optimal (boardOf order cs lo hi) order (length order) f
+  pub best-is-optimal : (f : ℕ → ℕ) → Best (labeling b cost) f → Optimal (gridOf order cs lo hi) order (length order) f
   best-is-optimal f s = record {
     layout = untouching-sol f (s .counts);
     least = λ g t. rw (sum-total f (s .counts), sum-total g (sol-untouching g t)) (s .least g (sol-untouching g t));
   }
 
   -- its order is the order of layouts,
-  pub earlier-before : (f g : ℕ → ℕ) → Earlier order f g → Before b f g
+  pub earlier-before : (f g : ℕ → ℕ) → EarlierOn order f g → Before b f g
   earlier-before f g e = let d = earlier-differ f g order e in let k : d .place < b .pads = omega (arith, d .inside, same-n) in record {
     pad = getD order (d .place) 0;
     inside = at (d .place) k;
@@ -148,26 +148,26 @@ module _ {b : Board} {cost : ℕ → ℕ → ℕ} {order lo hi cs : List ℕ} (W
     alike = λ i h r. let a = W .listed .arranged .covers i h in rw (a .2) at (d .alike (a .0) (earlier-place (a .0) (d .place) (a .1) k (rw (a .2) r)));
   }
 
-  pub before-earlier : (f g : ℕ → ℕ) → Before b f g → Earlier order f g
+  pub before-earlier : (f g : ℕ → ℕ) → Before b f g → EarlierOn order f g
   before-earlier f g s =
       let a = W .listed .arranged .covers (s .pad) (s .inside) in
       differ-earlier f g order (a .0) (omega (arith, a .1, same-n)) (rw (a .2) (s .smaller))
       (λ p h. let l : p < b .pads = omega (arith, a .1) in s .alike (getD order p 0) (at p l) (rw (a .2) at (W .listed .falls p (a .0) h (a .1))))
 
-  last : (f g : ℕ → ℕ) → Same order f g ⊎ Earlier order f g → ¬ Before b g f
+  last : (f g : ℕ → ℕ) → SameOn order f g ⊎ EarlierOn order f g → ¬ Before b g f
   last f g (inl s) c = earlier-not-same g f order (before-earlier g f c) (λ i m. sym (s i m))
   last f g (inr e) c = earlier-asym f g order e (before-earlier g f c)
 
   -- THEOREMS: the search's first, next and last best layouts are those of the paper.
-  pub earliest-is : (f : ℕ → ℕ) → Earliest order (Optimal (boardOf order cs lo hi) order (length order)) f → FirstBest (labeling b cost) f
-  earliest-is f e = record { best = optimal-is-best f (e .has); earliest = λ g s. last f g (e .first g (best-is-optimal g s)) }
+  pub first-best : (f : ℕ → ℕ) → EarliestOn order (Optimal (gridOf order cs lo hi) order (length order)) f → FirstBest (labeling b cost) f
+  first-best f e = record { best = optimal-is-best f (e .has); earliest = λ g s. last f g (e .first g (best-is-optimal g s)) }
 
-  pub next-is : (l f : ℕ → ℕ) → Earliest order (Later (boardOf order cs lo hi) order (length order) l) f → NextBest (labeling b cost) l f
-  next-is l f e = record {
+  pub next-best : (l f : ℕ → ℕ) → EarliestOn order (Later (gridOf order cs lo hi) order (length order) l) f → NextBest (labeling b cost) l f
+  next-best l f e = record {
     best = optimal-is-best f (e .has .best);
     later = earlier-before l f (e .has .later);
     earliest = λ g s k. last f g (e .first g (record { best = best-is-optimal g s; later = before-earlier l g k }));
   }
 
-  pub end-is : (l : ℕ → ℕ) → ((g : ℕ → ℕ) → ¬ Later (boardOf order cs lo hi) order (length order) l g) → LastBest (labeling b cost) l
-  end-is l e g s k = e g (record { best = best-is-optimal g s; later = before-earlier l g k })
+  pub last-best : (l : ℕ → ℕ) → ((g : ℕ → ℕ) → ¬ Later (gridOf order cs lo hi) order (length order) l g) → LastBest (labeling b cost) l
+  last-best l e g s k = e g (record { best = best-is-optimal g s; later = before-earlier l g k })

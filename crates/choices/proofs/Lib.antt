@@ -1,4 +1,4 @@
 -- Laws that belong to no one function.
 pub mod Stores
-pub mod Search
+pub mod Choosing
 pub mod Memory

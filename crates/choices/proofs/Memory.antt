@@ -7,10 +7,10 @@ use native.Mathlib.Decide.{decLt, ℕ-discrete}
 use lib.ListN.{length, getD, take, set, length-set}
 use lib.Seq.{getD-set-same, getD-set-other}
 use Rattle.strips.specs.Prefix.{floor-cong, ceil-cong, ceil-le}
-use Rattle.strips.specs.Places.{At}
-use Rattle.totals.specs.Cell.{boardOf, Ready}
-use Rattle.places.specs.Places.{portOf}
-use Rattle.choices.specs.Choices.{Proper, Working, Begun, Chosen}
+use Rattle.strips.specs.FirstNext.{At}
+use Rattle.totals.specs.Cell.{gridOf, FullFrom}
+use Rattle.places.specs.Places.{portIn}
+use Rattle.choices.specs.Choices.{ProperLists, Working, Begun, Chosen}
 use Rattle.choices.specs.Memory.{
   startAt,
   stopAt,
@@ -28,7 +28,7 @@ use Rattle.choices.specs.Memory.{
   Learnt,
 }
 use Rattle.choices.proofs.Stores.{store-before}
-use Rattle.choices.proofs.Search.{strip-ready}
+use Rattle.choices.proofs.Choosing.{strip-ready}
 
 -- ---- a store for one place leaves the others
 
@@ -145,12 +145,12 @@ module _ {order cs lo hi xs ys : List ℕ} (w : List ℕ) (m : ℕ) (K : Known o
 
 -- It is one to look in, ..
 pub strip-look : {order cs lo hi hs ts w xs : List ℕ} (m : ℕ) → StripOf order lo hi w xs m → Working order cs lo hi hs ts w → m < length order
-    → Begun order cs lo hi w m → Ready (boardOf order cs lo hi) order m (startAt xs m) (stopAt xs m)
+    → Begun order cs lo hi w m → FullFrom (gridOf order cs lo hi) order m (startAt xs m) (stopAt xs m)
 strip-look m S W inside E = rw (S .start, S .stop) (strip-ready W m inside E)
 
 -- .. and a port chosen in it is chosen for the layout.
 pub strip-chosen : {order lo hi w xs : List ℕ} (cs : List ℕ) (m from q : ℕ) → StripOf order lo hi w xs m → Chosen (LeadsAt order cs lo hi xs m) from q
-    → Chosen (At (boardOf order cs lo hi) (length order) order (portOf w) m) from q
+    → Chosen (At (gridOf order cs lo hi) (length order) order (portIn w) m) from q
 strip-chosen cs m from q S C = rw (S .start, S .stop) at C
 
 -- No locally best port of it is from `from` on where none was found.
@@ -161,14 +161,14 @@ strip-below {order} {lo} {hi} {w} cs m from q few S C none r l = go (decLt r fro
     go : Dec (r < from) → r < from
     go (yes d) = d
     go (no d) = absurd (C .passed r (omega arith)
-        (omega (arith, l .high, S .stop, ceil-le (portOf w) (getD hi (getD order m 0) 0) (take m order) (length order))) l)
+        (omega (arith, l .high, S .stop, ceil-le (portIn w) (getD hi (getD order m 0) 0) (take m order) (length order))) l)
 
 -- Nothing is looked for where the pad's port is remembered as the largest.
 module _ {order cs lo hi w xs : List ℕ} (m : ℕ) (K : Known order cs lo hi xs) (c : Current order lo hi w xs m) where
   pub learnt-same : Learnt order cs lo hi w m xs xs
   learnt-same = record { facts = K; here = c; others = λ k l f. f }
 
-  pub most-chosen : (from : ℕ) → m < 64 → mostAt xs m ≡ from → 0 < from → Chosen (At (boardOf order cs lo hi) (length order) order (portOf w) m) from 64
+  pub most-chosen : (from : ℕ) → m < 64 → mostAt xs m ≡ from → 0 < from → Chosen (At (gridOf order cs lo hi) (length order) order (portIn w) m) from 64
   most-chosen from few e h = strip-chosen cs m from 64 (c some) (record {
     start = λ u. absurd (omega arith);
     found = λ u. absurd (omega arith);
@@ -280,7 +280,7 @@ memory-more {order} {lo = lo} {hi} {w} {ys = ys} m few M L = record { facts = L 
     go k l (no d) = let e : k ≡ m = omega arith in rw e (L .here)
 
 -- .. and up to a place whose pad gets a port.
-pub memory-store : {order cs lo hi w xs : List ℕ} (u m q : ℕ) → Proper order cs lo hi → length order ≤ length w → m < length order → m < u
+pub memory-store : {order cs lo hi w xs : List ℕ} (u m q : ℕ) → ProperLists order cs lo hi → length order ≤ length w → m < length order → m < u
     → Memory order cs lo hi w u xs → Memory order cs lo hi (set w (getD order m 0) q) (m + 1) xs
 memory-store {order} {cs} {lo} {hi} {w} {xs} u m q P room inside h M = record { facts = M .facts; current = λ k l. go k (omega arith) }
   where
@@ -289,6 +289,6 @@ memory-store {order} {cs} {lo} {hi} {w} {xs} u m q P room inside h M = record { 
 
     go : (k : ℕ) → k ≤ m → Current order lo hi v xs k
     go k l t = let s = M .current k (omega arith) t in let e = store-before P w room m inside q k l in record {
-      start = s .start ∙ floor-cong (portOf w) (portOf v) (getD lo (getD order k 0) 0) (take k order) 0 e;
-      stop = s .stop ∙ ceil-cong (portOf w) (portOf v) (getD hi (getD order k 0) 0) (take k order) (length order) e;
+      start = s .start ∙ floor-cong (portIn w) (portIn v) (getD lo (getD order k 0) 0) (take k order) 0 e;
+      stop = s .stop ∙ ceil-cong (portIn w) (portIn v) (getD hi (getD order k 0) 0) (take k order) (length order) e;
     }

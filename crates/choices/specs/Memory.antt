@@ -6,8 +6,8 @@ use Prim.Native.Nat.{ℕ, _+_, _-_, _≤_, _<_}
 use native.Mathlib.Omega.{arith}
 use lib.ListN.{length, getD, take, replicate, getD-replicate}
 use Rattle.strips.specs.Prefix.{floor, ceil}
-use Rattle.totals.specs.Cell.{boardOf, Leads}
-use Rattle.places.specs.Places.{portOf}
+use Rattle.totals.specs.Cell.{gridOf, Leads}
+use Rattle.places.specs.Places.{portIn}
 use Rattle.choices.specs.Choices.{Chosen}
 
 -- The strip of place k: its first port, and the port after its last.
@@ -26,7 +26,7 @@ mostAt known k = getD known (192 + k) 0
 
 -- Port q is a locally best one of the strip that is remembered for place k.
 abbrev pub LeadsAt : List ℕ → List ℕ → List ℕ → List ℕ → List ℕ → ℕ → ℕ → Type 0
-LeadsAt order cs lo hi known k = Leads (boardOf order cs lo hi) order k (startAt known k) (stopAt known k)
+LeadsAt order cs lo hi known k = Leads (gridOf order cs lo hi) order k (startAt known k) (stopAt known k)
 
 -- What is remembered is true.
 pub record Known (order cs lo hi known : List ℕ) : Type 0 where
@@ -36,10 +36,10 @@ pub record Known (order cs lo hi known : List ℕ) : Type 0 where
 
 -- The strip of the pad at place m, when the pads before it have the ports of w.
 abbrev pub firstPort : List ℕ → List ℕ → List ℕ → ℕ → ℕ
-firstPort order lo w m = floor (portOf w) (getD lo (getD order m 0) 0) (take m order) 0
+firstPort order lo w m = floor (portIn w) (getD lo (getD order m 0) 0) (take m order) 0
 
 abbrev pub endPort : List ℕ → List ℕ → List ℕ → ℕ → ℕ
-endPort order hi w m = ceil (portOf w) (getD hi (getD order m 0) 0) (take m order) (length order)
+endPort order hi w m = ceil (portIn w) (getD hi (getD order m 0) 0) (take m order) (length order)
 
 -- It is the one remembered for place k ..
 pub record StripOf (order lo hi w known : List ℕ) (k : ℕ) : Type 0 where

@@ -6,7 +6,7 @@
 ghost use mathlib.Core.Path.{_≡_};
 ghost use Prim.Native.Nat.{_≤_, _<_, max};
 ghost use lib.ListN.{length};
-ghost use Rattle.totals.specs.Cell.{boardOf, Table, Ready};
+ghost use Rattle.totals.specs.Cell.{gridOf, Table, FullFrom};
 ghost use Rattle.pads.specs.Pads.{Pads};
 ghost use Rattle.places.specs.Places.{Placed};
 ghost use Rattle.choices.specs.Choices.{Working, Begun, LocallyBest, Chosen};
@@ -62,7 +62,7 @@ fn choose(
 ) -> usize
     requires { ⌜ Pads (now order) (now lo) (now hi) × Table (now order) (now cost) (now lo) (now hi) (now heads) (now totals) ⌝ }
     requires { ⌜ (length (now known) ≡ 256) × (m < 64) ⌝ }
-    requires { ⌜ Ready (boardOf (now order) (now cost) (now lo) (now hi)) (now order) m (startAt (now known) m) (stopAt (now known) m) ⌝ }
+    requires { ⌜ FullFrom (gridOf (now order) (now cost) (now lo) (now hi)) (now order) m (startAt (now known) m) (stopAt (now known) m) ⌝ }
     ensures { λ q. ⌜ Chosen (LeadsAt (now (order .entry)) (now (cost .entry)) (now (lo .entry)) (now (hi .entry)) (now (known .entry)) m) from q ⌝ }
 {
     let a = known[m] as usize;

@@ -1,3 +1,3 @@
 -- Laws that several proofs of `draw` cite.
 pub mod Bits
-pub mod Places
+pub mod Setting

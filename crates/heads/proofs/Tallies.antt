@@ -9,7 +9,7 @@ use lib.Dec.{leb}
 use lib.ListN.{length, drop, getD, set, replicate, getD-replicate, length-drop}
 use lib.Seq.{getD-set-same, getD-set-other}
 use borrow.Author.Tests.{le-leb, lt-leb}
-use Rattle.pads.specs.Pads.{Sides, spans, fits, bit, count}
+use Rattle.pads.specs.Pads.{Sides, spans, fits, bit, padsIn}
 use Rattle.heads.specs.Heads.{Tally, Tallies, Entering, EnteringAll, Rooms}
 use Rattle.pads.specs.Counts.{le-or-lt, spans-by, spans-not-lo, spans-not-hi, count-step, bit-le, count-end}
 
@@ -35,8 +35,8 @@ bits-other a b l h ne =
 
 -- ---- counts
 
-count-most : (S : Sides) (a b : ℕ) (js : List ℕ) → count S a b js ≤ length js
-unfolding count
+count-most : (S : Sides) (a b : ℕ) (js : List ℕ) → padsIn S a b js ≤ length js
+unfolding padsIn
 count-most S a b [] = zero-le
 count-most S a b (j ∷ js) = let m = count-most S a b js in let one = bit-le (fits S a b j) in omega arith
 
@@ -47,26 +47,26 @@ one-fewer a b l h = go (ℕ-discrete l a)
     go (yes e) = let z = ap bit (spans-not-lo (a + 1) b l h (omega arith)) in omega arith
     go (no n) = let e = bits-other a b l h n in omega arith
 
-count-fewer : (S : Sides) (a b : ℕ) (js : List ℕ) → count S (a + 1) b js ≤ count S a b js
-unfolding count
+count-fewer : (S : Sides) (a b : ℕ) (js : List ℕ) → padsIn S (a + 1) b js ≤ padsIn S a b js
+unfolding padsIn
 count-fewer S a b [] = zero-le
 count-fewer S a b (j ∷ js) = let m = count-fewer S a b js in let one = one-fewer a b (S .lo j) (S .hi j) in omega arith
 
-count-none : (S : Sides) (a b : ℕ) → ((j : ℕ) → S .lo j < a) → (js : List ℕ) → count S a b js ≡ 0
-unfolding count
+count-none : (S : Sides) (a b : ℕ) → ((j : ℕ) → S .lo j < a) → (js : List ℕ) → padsIn S a b js ≡ 0
+unfolding padsIn
 count-none S a b h [] = refl
 count-none S a b h (j ∷ js) = let z = ap bit (spans-not-lo a b (S .lo j) (S .hi j) (h j)) in let m = count-none S a b h js in omega arith
 
 -- ---- one cell
 
 module _ (S : Sides) (order : List ℕ) (a b k : ℕ) where
-  entering-start : (m : ℕ) → k ≤ length order → m ≡ count S (a + 1) b (drop k order) → Entering S order a 0 b k m
+  entering-start : (m : ℕ) → k ≤ length order → m ≡ padsIn S (a + 1) b (drop k order) → Entering S order a 0 b k m
   entering-start m h e = record { placed = h; before = λ u. e; after = λ u. let z : k ≡ 0 = omega arith in rw z (rw z at (e′ e)) }
     where
-      e′ : m ≡ count S (a + 1) b (drop k order) → m + count S a b (drop k order) ≡ count S a b (drop k order) + count S (a + 1) b (drop k order)
+      e′ : m ≡ padsIn S (a + 1) b (drop k order) → m + padsIn S a b (drop k order) ≡ padsIn S a b (drop k order) + padsIn S (a + 1) b (drop k order)
       e′ e = omega arith
 
-  entering-end : (m : ℕ) → Entering S order a (length order) b k m → m ≡ count S a b (drop k order)
+  entering-end : (m : ℕ) → Entering S order a (length order) b k m → m ≡ padsIn S a b (drop k order)
   entering-end m E =
       let s = E .after (E .placed) in
       let z = count-end S order a b (length order) (omega arith) in
@@ -84,7 +84,7 @@ module _ (S : Sides) (order : List ℕ) (a b k : ℕ) where
           let old = E .after v in let new = up v in omega arith)
           (λ (v : i < k).
           let e : k ≡ i + 1 = omega arith in
-          let s = ap (λ (p : ℕ). count S a b (drop p order)) e in let t = ap (λ (p : ℕ). count S (a + 1) b (drop p order)) e in
+          let s = ap (λ (p : ℕ). padsIn S a b (drop p order)) e in let t = ap (λ (p : ℕ). padsIn S (a + 1) b (drop p order)) e in
           let old = E .before (omega arith) in let new = past v in omega arith)
           (le-or-lt k i);
     }
@@ -180,7 +180,7 @@ tallies-none S order a h few b l =
 
 -- another place for the strip a .. b - 1, with its number of pads
 pub tallies-set : (S : Sides) (order at seen all : List ℕ) (a b k m : ℕ) → Rooms at seen all → length order ≤ 64 → b ≤ length order → k ≤ length order
-    → m ≡ count S a b (drop k order)
+    → m ≡ padsIn S a b (drop k order)
     → Tallies S order at seen all a → Tallies S order (set at b k) (set seen b m) all a
 tallies-set S order at seen all a b k m R few bn kn e T b′ l =
     ⊎-elim

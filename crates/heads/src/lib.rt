@@ -7,7 +7,7 @@ ghost use mathlib.Core.Path.{_≡_};
 ghost use Prim.Native.Nat.{_+_, _-_, _≤_, _<_};
 ghost use lib.Dec.{leb};
 ghost use lib.ListN.{length, getD, drop};
-ghost use Rattle.pads.specs.Pads.{spans, fits, bit, count, sides, Pads, Head};
+ghost use Rattle.pads.specs.Pads.{spans, fits, bit, padsIn, sidesOf, Pads, Head};
 ghost use Rattle.heads.specs.Heads.{Tallies, EnteringAll, Rooms, Top};
 
 // 1 where a pad with the sides l and h lies in the strip a .. b - 1, else 0.
@@ -27,7 +27,7 @@ fn inside(a: u8, b: u8, l: u8, h: u8) -> u8
 fn stands(order: &[u8], lo: &[u8], hi: &[u8], a: u8, b: u8, k: usize) -> u8
     requires { ⌜ Pads (now order) (now lo) (now hi) ⌝ }
     requires { ⌜ k < length (now order) ⌝ }
-    ensures { λ r. ⌜ r ≡ bit (fits (sides (now (lo .entry)) (now (hi .entry))) a b (getD (now (order .entry)) k 0)) ⌝ }
+    ensures { λ r. ⌜ r ≡ bit (fits (sidesOf (now (lo .entry)) (now (hi .entry))) a b (getD (now (order .entry)) k 0)) ⌝ }
 {
     let j = order[k] as usize;
     inside(a, b, lo[j], hi[j])
@@ -54,8 +54,8 @@ fn enter_pad(
     requires { ⌜ Pads (now order) (now lo) (now hi) ⌝ }
     requires { ⌜ Rooms (now at) (now seen) (now all) ⌝ }
     requires { ⌜ i < length (now order) ⌝ }
-    requires { ⌜ EnteringAll (sides (now lo) (now hi)) (now order) (now at) (now seen) (now all) a i ⌝ }
-    ensures { λ _. ⌜ EnteringAll (sides (now (lo .entry)) (now (hi .entry))) (now (order .entry)) (now (at .entry)) (now (seen .exit)) (now (all .exit)) a (i + 1) ⌝ }
+    requires { ⌜ EnteringAll (sidesOf (now lo) (now hi)) (now order) (now at) (now seen) (now all) a i ⌝ }
+    ensures { λ _. ⌜ EnteringAll (sidesOf (now (lo .entry)) (now (hi .entry))) (now (order .entry)) (now (at .entry)) (now (seen .exit)) (now (all .exit)) a (i + 1) ⌝ }
 {
     let n = order.len();
     let j = order[i] as usize;
@@ -83,8 +83,8 @@ pub fn enter(
 )
     requires { ⌜ Pads (now order) (now lo) (now hi) ⌝ }
     requires { ⌜ Rooms (now at) (now seen) (now all) ⌝ }
-    requires { ⌜ Tallies (sides (now lo) (now hi)) (now order) (now at) (now seen) (now all) (a + 1) ⌝ }
-    ensures { λ _. ⌜ Tallies (sides (now (lo .entry)) (now (hi .entry))) (now (order .entry)) (now (at .entry)) (now (seen .exit)) (now (all .exit)) a ⌝ }
+    requires { ⌜ Tallies (sidesOf (now lo) (now hi)) (now order) (now at) (now seen) (now all) (a + 1) ⌝ }
+    ensures { λ _. ⌜ Tallies (sidesOf (now (lo .entry)) (now (hi .entry))) (now (order .entry)) (now (at .entry)) (now (seen .exit)) (now (all .exit)) a ⌝ }
 {
     let mut i = 0;
     while i < order.len() {
@@ -96,9 +96,9 @@ pub fn enter(
 // From a place with `here` of the strip's pads from there on, too few, back to the place with b - a.
 fn back(order: &[u8], lo: &[u8], hi: &[u8], a: u8, b: u8, from: usize, here: u8) -> usize
     requires { ⌜ Pads (now order) (now lo) (now hi) ⌝ }
-    requires { ⌜ (from ≤ length (now order)) × (here ≡ count (sides (now lo) (now hi)) a b (drop from (now order))) ⌝ }
-    requires { ⌜ (here < b - a) × (b - a ≤ count (sides (now lo) (now hi)) a b (now order)) ⌝ }
-    ensures { λ k. ⌜ Top (sides (now (lo .entry)) (now (hi .entry))) (now (order .entry)) a b k ⌝ }
+    requires { ⌜ (from ≤ length (now order)) × (here ≡ padsIn (sidesOf (now lo) (now hi)) a b (drop from (now order))) ⌝ }
+    requires { ⌜ (here < b - a) × (b - a ≤ padsIn (sidesOf (now lo) (now hi)) a b (now order)) ⌝ }
+    ensures { λ k. ⌜ Top (sidesOf (now (lo .entry)) (now (hi .entry))) (now (order .entry)) a b k ⌝ }
 {
     let w = b - a;
     let mut k = from;
@@ -113,9 +113,9 @@ fn back(order: &[u8], lo: &[u8], hi: &[u8], a: u8, b: u8, from: usize, here: u8)
 // From a place with `here` of the strip's pads from there on, enough, on to the last place with b - a.
 fn on(order: &[u8], lo: &[u8], hi: &[u8], a: u8, b: u8, from: usize, here: u8) -> usize
     requires { ⌜ Pads (now order) (now lo) (now hi) ⌝ }
-    requires { ⌜ (from ≤ length (now order)) × (here ≡ count (sides (now lo) (now hi)) a b (drop from (now order))) ⌝ }
+    requires { ⌜ (from ≤ length (now order)) × (here ≡ padsIn (sidesOf (now lo) (now hi)) a b (drop from (now order))) ⌝ }
     requires { ⌜ (a < b) × (b - a ≤ here) ⌝ }
-    ensures { λ k. ⌜ Top (sides (now (lo .entry)) (now (hi .entry))) (now (order .entry)) a b k ⌝ }
+    ensures { λ k. ⌜ Top (sidesOf (now (lo .entry)) (now (hi .entry))) (now (order .entry)) a b k ⌝ }
 {
     let w = b - a;
     let mut k = from;
@@ -130,9 +130,9 @@ fn on(order: &[u8], lo: &[u8], hi: &[u8], a: u8, b: u8, from: usize, here: u8) -
 // The place of the strip's rightmost pad, from any place with the number of its pads from there on.
 fn top(order: &[u8], lo: &[u8], hi: &[u8], a: u8, b: u8, from: usize, here: u8) -> usize
     requires { ⌜ Pads (now order) (now lo) (now hi) ⌝ }
-    requires { ⌜ (from ≤ length (now order)) × (here ≡ count (sides (now lo) (now hi)) a b (drop from (now order))) ⌝ }
-    requires { ⌜ (a < b) × (b - a ≤ count (sides (now lo) (now hi)) a b (now order)) ⌝ }
-    ensures { λ k. ⌜ Top (sides (now (lo .entry)) (now (hi .entry))) (now (order .entry)) a b k ⌝ }
+    requires { ⌜ (from ≤ length (now order)) × (here ≡ padsIn (sidesOf (now lo) (now hi)) a b (drop from (now order))) ⌝ }
+    requires { ⌜ (a < b) × (b - a ≤ padsIn (sidesOf (now lo) (now hi)) a b (now order)) ⌝ }
+    ensures { λ k. ⌜ Top (sidesOf (now (lo .entry)) (now (hi .entry))) (now (order .entry)) a b k ⌝ }
 {
     if here < b - a {
         back(order, lo, hi, a, b, from, here)
@@ -155,9 +155,9 @@ pub fn head(
     requires { ⌜ Pads (now order) (now lo) (now hi) ⌝ }
     requires { ⌜ Rooms (now at) (now seen) (now all) ⌝ }
     requires { ⌜ (a ≤ b) × (b ≤ length (now order)) ⌝ }
-    requires { ⌜ Tallies (sides (now lo) (now hi)) (now order) (now at) (now seen) (now all) a ⌝ }
-    ensures { λ h. ⌜ Head (sides (now (lo .entry)) (now (hi .entry))) (now (order .entry)) a b h ⌝ }
-    ensures { λ _. ⌜ Tallies (sides (now (lo .entry)) (now (hi .entry))) (now (order .entry)) (now (at .exit)) (now (seen .exit)) (now (all .entry)) a ⌝ }
+    requires { ⌜ Tallies (sidesOf (now lo) (now hi)) (now order) (now at) (now seen) (now all) a ⌝ }
+    ensures { λ h. ⌜ Head (sidesOf (now (lo .entry)) (now (hi .entry))) (now (order .entry)) a b h ⌝ }
+    ensures { λ _. ⌜ Tallies (sidesOf (now (lo .entry)) (now (hi .entry))) (now (order .entry)) (now (at .exit)) (now (seen .exit)) (now (all .entry)) a ⌝ }
 {
     let n = order.len();
     let w = b - a;

@@ -1,4 +1,4 @@
--- Laws of `count`: how many pads of a list lie in a strip.
+-- Laws of `padsIn`: how many pads of a list lie in a strip.
 use mathlib.Core.Path.{_≡_, refl, sym, ap, _∙_}
 use mathlib.Core.Logic.{_⊎_, inl, inr}
 use mathlib.Core.Bool.{Bool, true, false}
@@ -10,7 +10,7 @@ use lib.ListN.{length, getD, take, drop, take-append-drop, drop-of-length-le}
 use lib.Seq.{drop-cons, drop-drop}
 use lib.Dec.{leb}
 use borrow.Author.Tests.{leb-true, leb-false, le-leb, lt-leb}
-use Rattle.pads.specs.Pads.{Sides, spans, fits, bit, count}
+use Rattle.pads.specs.Pads.{Sides, spans, fits, bit, padsIn}
 
 -- ---- tests
 
@@ -49,12 +49,12 @@ bit-true false e = absurd (omega arith)
 
 -- one pad more
 pub count-step : (S : Sides) (order : List ℕ) (a b k : ℕ) → k < length order
-    → count S a b (drop k order) ≡ bit (fits S a b (getD order k 0)) + count S a b (drop (k + 1) order)
-unfolding count
-count-step S order a b k h = ap (count S a b) (drop-cons order k 0 h) ∙ ap (λ (i : ℕ). bit (fits S a b (getD order k 0)) + count S a b (drop i order)) (sym (add-one k))
+    → padsIn S a b (drop k order) ≡ bit (fits S a b (getD order k 0)) + padsIn S a b (drop (k + 1) order)
+unfolding padsIn
+count-step S order a b k h = ap (padsIn S a b) (drop-cons order k 0 h) ∙ ap (λ (i : ℕ). bit (fits S a b (getD order k 0)) + padsIn S a b (drop i order)) (sym (add-one k))
 
-pub count-append : (S : Sides) (a b : ℕ) (pre js : List ℕ) → count S a b (pre ++ js) ≡ count S a b pre + count S a b js
-unfolding count
+pub count-append : (S : Sides) (a b : ℕ) (pre js : List ℕ) → padsIn S a b (pre ++ js) ≡ padsIn S a b pre + padsIn S a b js
+unfolding padsIn
 count-append S a b [] js = omega arith
 count-append S a b (j ∷ pre) js = let more = count-append S a b pre js in omega arith
 
@@ -64,10 +64,10 @@ drop-split l s s′ h =
     let e : s + (s′ - s) ≡ s′ = omega arith in
     sym (take-append-drop (s′ - s) (drop s l)) ∙ ap (λ (r : List ℕ). take (s′ - s) (drop s l) ++ r) (drop-drop (s′ - s) s l ∙ ap (λ (k : ℕ). drop k l) e)
 
-pub count-drop : (S : Sides) (a b : ℕ) (l : List ℕ) (s s′ : ℕ) → s ≤ s′ → count S a b (drop s l) ≡ count S a b (take (s′ - s) (drop s l)) + count S a b (drop s′ l)
-count-drop S a b l s s′ h = ap (count S a b) (drop-split l s s′ h) ∙ count-append S a b (take (s′ - s) (drop s l)) (drop s′ l)
+pub count-drop : (S : Sides) (a b : ℕ) (l : List ℕ) (s s′ : ℕ) → s ≤ s′ → padsIn S a b (drop s l) ≡ padsIn S a b (take (s′ - s) (drop s l)) + padsIn S a b (drop s′ l)
+count-drop S a b l s s′ h = ap (padsIn S a b) (drop-split l s s′ h) ∙ count-append S a b (take (s′ - s) (drop s l)) (drop s′ l)
 
 -- past the last place there is none
-pub count-end : (S : Sides) (order : List ℕ) (a b k : ℕ) → length order ≤ k → count S a b (drop k order) ≡ 0
-unfolding count
-count-end S order a b k h = ap (count S a b) (drop-of-length-le order h)
+pub count-end : (S : Sides) (order : List ℕ) (a b k : ℕ) → length order ≤ k → padsIn S a b (drop k order) ≡ 0
+unfolding padsIn
+count-end S order a b k h = ap (padsIn S a b) (drop-of-length-le order h)

@@ -24,13 +24,13 @@ bit true = 1
 bit false = 0
 
 -- how many pads of js lie in the strip a .. b - 1
-unfoldable pub count : Sides → ℕ → ℕ → List ℕ → ℕ
-count S a b [] = 0
-count S a b (j ∷ js) = bit (fits S a b j) + count S a b js
+unfoldable pub padsIn : Sides → ℕ → ℕ → List ℕ → ℕ
+padsIn S a b [] = 0
+padsIn S a b (j ∷ js) = bit (fits S a b j) + padsIn S a b js
 
 -- the sides that slices hold
-abbrev pub sides : List ℕ → List ℕ → Sides
-sides lo hi = record { lo = λ j. getD lo j 0; hi = λ j. getD hi j 0 }
+abbrev pub sidesOf : List ℕ → List ℕ → Sides
+sidesOf lo hi = record { lo = λ j. getD lo j 0; hi = λ j. getD hi j 0 }
 
 -- n pads, their numbers in order right to left, and each one's sides
 pub record Pads (order lo hi : List ℕ) : Type 0 where
@@ -45,5 +45,5 @@ pub record Pads (order lo hi : List ℕ) : Type 0 where
 -- 0 where there are fewer than b - a
 pub record Head (S : Sides) (order : List ℕ) (a b h : ℕ) : Type 0 where
   pub top : h ≤ length order + 1
-  pub past : (k : ℕ) → h ≤ k → k ≤ length order → count S a b (drop k order) < b - a
-  pub at : (s : ℕ) → h ≡ s + 1 → count S a b (drop s order) ≡ b - a
+  pub past : (k : ℕ) → h ≤ k → k ≤ length order → padsIn S a b (drop k order) < b - a
+  pub at : (s : ℕ) → h ≡ s + 1 → padsIn S a b (drop s order) ≡ b - a

@@ -12,7 +12,7 @@ use lib.Seq.{getD-set-same, getD-set-other}
 use borrow.Author.Tests.{leb-true, leb-false, ltb-true, ltb-false}
 use Rattle.strips.specs.Lists.{All}
 use Rattle.strips.specs.Prefix.{floor, ceil, floor-le, ceil-le}
-use Rattle.places.specs.Places.{portOf, Placed, Entered, Lowest, Highest}
+use Rattle.places.specs.Places.{portIn, Placed, Entered, Lowest, Highest}
 use Rattle.places.proofs.Taken.{take-mem, mem-take}
 
 -- ---- a strip's ends by the ports taken
@@ -57,43 +57,43 @@ module _ (f : ℕ → ℕ) (l : ℕ) where
 -- ---- .. and by the list
 
 module _ {order w at : List ℕ} (m : ℕ) (P : Placed order w m at) (inside : m ≤ length order) where
-  pub low-floor : (l a : ℕ) → l ≤ length order → Lowest at m l a → a ≡ floor (portOf w) l (take m order) 0
+  pub low-floor : (l a : ℕ) → l ≤ length order → Lowest at m l a → a ≡ floor (portIn w) l (take m order) 0
   low-floor l a h L = omega (arith, most, least (decLt 0 a))
     where
-      passed : (x : ℕ) → List·Memᴰ x (take m order) → portOf w x < l → Dec (portOf w x < a) → portOf w x < a
+      passed : (x : ℕ) → List·Memᴰ x (take m order) → portIn w x < l → Dec (portIn w x < a) → portIn w x < a
       passed x n k (yes d) = d
       passed x n k (no d) =
           let t = take-mem order m x n in
-          absurd (omega (arith, L .free (portOf w x) (omega arith) k, rw (t .2) at (P .taken (t .0) (t .1))))
+          absurd (omega (arith, L .free (portIn w x) (omega arith) k, rw (t .2) at (P .taken (t .0) (t .1))))
 
-      most : floor (portOf w) l (take m order) 0 ≤ a
-      most = floor-below (portOf w) l (take m order) 0 a zero-le (λ x n k. passed x n k (decLt (portOf w x) a))
+      most : floor (portIn w) l (take m order) 0 ≤ a
+      most = floor-below (portIn w) l (take m order) 0 a zero-le (λ x n k. passed x n k (decLt (portIn w x) a))
 
-      least : Dec (0 < a) → a ≤ floor (portOf w) l (take m order) 0
+      least : Dec (0 < a) → a ≤ floor (portIn w) l (take m order) 0
       least (no d) = omega arith
       least (yes d) =
           let s = L .stop d in let e = P .by (a - 1) (omega (arith, L .under)) s in
           let n = mem-take order m (getD at (a - 1) 0) s inside in
-          omega (arith, e, floor-above (portOf w) l (take m order) 0 (getD order (getD at (a - 1) 0) 0) n (omega (arith, L .under)))
+          omega (arith, e, floor-above (portIn w) l (take m order) 0 (getD order (getD at (a - 1) 0) 0) n (omega (arith, L .under)))
 
-  pub high-ceil : (h b : ℕ) → Highest at m h (length order) b → b ≡ ceil (portOf w) h (take m order) (length order)
+  pub high-ceil : (h b : ℕ) → Highest at m h (length order) b → b ≡ ceil (portIn w) h (take m order) (length order)
   high-ceil h b H = omega (arith, least, most (decLt b (length order)))
     where
-      passed : (x : ℕ) → List·Memᴰ x (take m order) → h ≤ portOf w x → Dec (portOf w x < b) → b ≤ portOf w x
+      passed : (x : ℕ) → List·Memᴰ x (take m order) → h ≤ portIn w x → Dec (portIn w x < b) → b ≤ portIn w x
       passed x n k (no d) = omega arith
       passed x n k (yes d) =
           let t = take-mem order m x n in
-          absurd (omega (arith, H .free (portOf w x) k d, rw (t .2) at (P .taken (t .0) (t .1))))
+          absurd (omega (arith, H .free (portIn w x) k d, rw (t .2) at (P .taken (t .0) (t .1))))
 
-      least : b ≤ ceil (portOf w) h (take m order) (length order)
-      least = ceil-above (portOf w) h (take m order) (length order) b (H .inside) (λ x n k. passed x n k (decLt (portOf w x) b))
+      least : b ≤ ceil (portIn w) h (take m order) (length order)
+      least = ceil-above (portIn w) h (take m order) (length order) b (H .inside) (λ x n k. passed x n k (decLt (portIn w x) b))
 
-      most : Dec (b < length order) → ceil (portOf w) h (take m order) (length order) ≤ b
-      most (no d) = omega (arith, ceil-le (portOf w) h (take m order) (length order))
+      most : Dec (b < length order) → ceil (portIn w) h (take m order) (length order) ≤ b
+      most (no d) = omega (arith, ceil-le (portIn w) h (take m order) (length order))
       most (yes d) =
           let s = H .stop d in let e = P .by b d s in
           let n = mem-take order m (getD at b 0) s inside in
-          omega (arith, e, ceil-below (portOf w) h (take m order) (length order) (getD order (getD at b 0) 0) n (omega (arith, H .over)))
+          omega (arith, e, ceil-below (portIn w) h (take m order) (length order) (getD order (getD at b 0) 0) n (omega (arith, H .over)))
 
 -- ---- the walks to a strip's ends: a port more is free
 
@@ -121,7 +121,7 @@ entered-none order w few = record {
 
 -- one place more, whose pad has port q in v
 pub entered-more : {order w at : List ℕ} (v : List ℕ) (m q : ℕ) → m < 64 → q < length at → Entered order w m at
-    → ((i : ℕ) → i < m → portOf w (getD order i 0) ≡ portOf v (getD order i 0)) → portOf v (getD order m 0) ≡ q → Entered order v (m + 1) (set at q m)
+    → ((i : ℕ) → i < m → portIn w (getD order i 0) ≡ portIn v (getD order i 0)) → portIn v (getD order m 0) ≡ q → Entered order v (m + 1) (set at q m)
 entered-more {order} {w} {at} v m q few room E same here =
     record {
       placed = record {
@@ -146,8 +146,8 @@ entered-more {order} {w} {at} v m q few room E same here =
         go (inl e) = omega (arith, e .1)
         go (inr e) = omega (arith, e)
 
-    taken : (i : ℕ) → Dec (i < m) → i < m + 1 → getD (set at q m) (portOf v (getD order i 0)) 0 < m + 1
-    taken i (yes d) h = small (portOf v (getD order i 0)) (rw (← same i d) (omega (arith, E .placed .taken i d)))
+    taken : (i : ℕ) → Dec (i < m) → i < m + 1 → getD (set at q m) (portIn v (getD order i 0)) 0 < m + 1
+    taken i (yes d) h = small (portIn v (getD order i 0)) (rw (← same i d) (omega (arith, E .placed .taken i d)))
     taken i (no d) h = let e : i ≡ m = omega arith in rw (e, here, getD-set-same at q m 0 room) (omega arith)
 
     old : (p : ℕ) → p < length order → getD at p 0 < m + 1 → Dec (getD at p 0 < m) → getD at p 0 < m
@@ -155,7 +155,7 @@ entered-more {order} {w} {at} v m q few room E same here =
     old p l h (no d) = absurd (omega (arith, E .free p l (omega arith)))
 
     by : (p : ℕ) → p < length order → getD (set at q m) p 0 < m + 1 → ((p ≡ q) × (getD (set at q m) p 0 ≡ m)) ⊎ (getD (set at q m) p 0 ≡ getD at p 0)
-        → portOf v (getD order (getD (set at q m) p 0) 0) ≡ p
+        → portIn v (getD order (getD (set at q m) p 0) 0) ≡ p
     by p l h (inl e) = rw (e .1) (here ∙ sym (e .0))
     by p l h (inr e) = let o = old p l (rw e at h) (decLt (getD at p 0) m) in rw e (sym (same (getD at p 0) o) ∙ E .placed .by p l o)
 
@@ -165,12 +165,12 @@ entered-more {order} {w} {at} v m q few room E same here =
     free p l h (inr e) = rw e (E .free p l (let k = rw e at h in omega arith))
 
 -- In a layout whose ports differ, the list of all places is one of the first m.
-pub placed-before : {order w at : List ℕ} (m : ℕ) → m ≤ length order → ((i : ℕ) → i < length order → portOf w (getD order i 0) < length order)
-    → ((i k : ℕ) → i < length order → k < length order → portOf w (getD order i 0) ≡ portOf w (getD order k 0) → i ≡ k)
+pub placed-before : {order w at : List ℕ} (m : ℕ) → m ≤ length order → ((i : ℕ) → i < length order → portIn w (getD order i 0) < length order)
+    → ((i k : ℕ) → i < length order → k < length order → portIn w (getD order i 0) ≡ portIn w (getD order k 0) → i ≡ k)
     → Placed order w (length order) at → Placed order w m at
 placed-before {order} {w} {at} m inside ports apart P = record {
   room = P .room;
   taken = λ i h. let t = P .taken i (omega arith) in
-      omega (arith, apart (getD at (portOf w (getD order i 0)) 0) i t (omega arith) (P .by (portOf w (getD order i 0)) (ports i (omega arith)) t));
+      omega (arith, apart (getD at (portIn w (getD order i 0)) 0) i t (omega arith) (P .by (portIn w (getD order i 0)) (ports i (omega arith)) t));
   by = λ q l h. P .by q l (omega arith);
 }

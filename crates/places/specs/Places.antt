@@ -6,14 +6,14 @@ use Prim.Native.Nat.{ℕ, _-_, _≤_, _<_}
 use lib.ListN.{length, getD}
 
 -- The ports of a layout, by record number.
-abbrev pub portOf : List ℕ → ℕ → ℕ
-portOf w j = getD w j 0
+abbrev pub portIn : List ℕ → ℕ → ℕ
+portIn w j = getD w j 0
 
 -- at has for each port that one of the first m pads has the place of that pad; for any other port it has m or more.
 pub record Placed (order w : List ℕ) (m : ℕ) (at : List ℕ) : Type 0 where
   pub room : length order ≤ length at
-  pub taken : (i : ℕ) → i < m → getD at (portOf w (getD order i 0)) 0 < m
-  pub by : (q : ℕ) → q < length order → getD at q 0 < m → portOf w (getD order (getD at q 0) 0) ≡ q
+  pub taken : (i : ℕ) → i < m → getD at (portIn w (getD order i 0)) 0 < m
+  pub by : (q : ℕ) → q < length order → getD at q 0 < m → portIn w (getD order (getD at q 0) 0) ≡ q
 
 -- The same, with no later place entered.
 pub record Entered (order w : List ℕ) (m : ℕ) (at : List ℕ) : Type 0 where
@@ -25,7 +25,7 @@ pub record Placeable (order w : List ℕ) (m : ℕ) (at : List ℕ) : Type 0 whe
   pub few : m ≤ 64
   pub inside : m ≤ length order
   pub listed : (k : ℕ) → k < m → getD order k 0 < length w
-  pub ports : (k : ℕ) → k < m → portOf w (getD order k 0) < length at
+  pub ports : (k : ℕ) → k < m → portIn w (getD order k 0) < length at
   pub none : Entered order w 0 at
 
 -- A walk from l down ends at a: no place before m has a port from a to l - 1, and one has port a - 1, unless a is 0 ..

@@ -12,7 +12,7 @@ use Rattle.paper.specs.Problem.{labeling}
 use Rattle.paper.specs.Promises.{Kept}
 use Rattle.paper.specs.laws.Existence.{untouching-exists}
 use Rattle.board.specs.Lists.{WorkOf}
-use Rattle.board.specs.Bridge.{proper, untouching-sol, sum-total, optimal-is-best, best-is-optimal, earliest-is, next-is, end-is}
+use Rattle.board.specs.Bridge.{proper, untouching-sol, sum-total, optimal-is-best, best-is-optimal, first-best, next-best, last-best}
 use Rattle.walks.specs.declared.Start.{Start}
 use Rattle.walks.specs.declared.Start.the-variants.{First, Given}
 use Rattle.walks.specs.declared.Walked.{Walked}
@@ -37,15 +37,15 @@ module _ (b : Board) (cost : ℕ → ℕ → ℕ) {order lo hi cs : List ℕ} (W
   startable-on First w s = let u = untouching-exists b (W .proper) in (u .0, untouching-sol W (u .0) (u .1))
   startable-on Given w s = untouching-sol W (held w) (s .1)
 
-  kept-on : (w v : List ℕ) → choices.Kept (length order) w v → Kept (b .pads) w v
+  kept-on : (w v : List ℕ) → choices.KeptFrom (length order) w v → Kept (b .pads) w v
   kept-on w v K = record { long = K .long; rest = λ k h. K .rest k (omega (arith, same-n)) }
 
   says : Says (listRules order cs lo hi) (rulesOf (labeling b cost))
   says = record {
-    earliest = λ w v e. (earliest-is W (held v) (e .earliest), kept-on w v (e .kept));
+    earliest = λ w v e. (first-best W (held v) (e .earliest), kept-on w v (e .kept));
     best = λ w. (optimal-is-best W (held w), best-is-optimal W (held w));
-    next = λ w v e. (next-is W (held w) (held v) (e .earliest), kept-on w v (e .kept));
-    last = λ w e. end-is W (held w) (e .none);
+    next = λ w v e. (next-best W (held w) (held v) (e .earliest), kept-on w v (e .kept));
+    last = λ w e. last-best W (held w) (e .none);
     least = λ t e w s. best-total (proper W) t e w (best-is-optimal W (held w) s) ∙ sum-total W (held w) (s .counts);
   }
 

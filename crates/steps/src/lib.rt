@@ -4,9 +4,9 @@ ghost use mathlib.Core.Path.{_≡_};
 ghost use Prim.Native.Nat.{_≤_};
 ghost use lib.ListN.{length};
 ghost use Rattle.totals.specs.Cell.{leastOf};
-ghost use Rattle.choices.specs.Choices.{Proper, Working, Begun};
+ghost use Rattle.choices.specs.Choices.{ProperLists, Working, Begun};
 ghost use Rattle.choices.specs.Memory.{Memory};
-ghost use Rattle.steps.specs.Steps.{total, Measurable, Untouching, Solvable, BestLayout, FilledUp, FirstIs, StepIs, Told};
+ghost use Rattle.steps.specs.Steps.{totalIn, Measurable, UntouchingLayout, Solvable, BestLayout, FilledUp, FirstIs, StepIs, SaysWhether};
 
 // From place `from` on gives each pad the smallest locally best port.
 fn fill_on(
@@ -80,7 +80,7 @@ pub fn step(
 // The total of a layout.
 fn total_of(order: &[u8], cost: &[u32], w: &[u16]) -> u64
     requires { ⌜ Measurable (now order) (now cost) (now w) ⌝ }
-    ensures { λ r. ⌜ r ≡ total (now (order .entry)) (now (cost .entry)) (now (w .entry)) ⌝ }
+    ensures { λ r. ⌜ r ≡ totalIn (now (order .entry)) (now (cost .entry)) (now (w .entry)) ⌝ }
 {
     let n = order.len();
     let mut sum: u64 = 0;
@@ -95,11 +95,11 @@ fn total_of(order: &[u8], cost: &[u32], w: &[u16]) -> u64
 
 // An untouching layout is best exactly if its total is the table's.
 pub fn is_best(order: &[u8], cost: &[u32], lo: &[u8], hi: &[u8], w: &[u16], least: u64) -> bool
-    requires { ⌜ Proper (now order) (now cost) (now lo) (now hi) ⌝ }
+    requires { ⌜ ProperLists (now order) (now cost) (now lo) (now hi) ⌝ }
     requires { ⌜ length (now order) ≤ length (now w) ⌝ }
-    requires { ⌜ Untouching (now order) (now cost) (now lo) (now hi) (now w) ⌝ }
+    requires { ⌜ UntouchingLayout (now order) (now cost) (now lo) (now hi) (now w) ⌝ }
     requires { ⌜ least ≡ leastOf (now order) (now cost) (now lo) (now hi) ⌝ }
-    ensures { λ r. ⌜ Told r (BestLayout (now (order .entry)) (now (cost .entry)) (now (lo .entry)) (now (hi .entry)) (now (w .entry))) ⌝ }
+    ensures { λ r. ⌜ SaysWhether r (BestLayout (now (order .entry)) (now (cost .entry)) (now (lo .entry)) (now (hi .entry)) (now (w .entry))) ⌝ }
 {
     total_of(order, cost, w) == least
 }

@@ -9,10 +9,10 @@ use native.Mathlib.Omega.{arith}
 use lib.ListN.{length, getD, set, length-set}
 use lib.Seq.{getD-set-same, getD-set-other}
 use Rattle.strips.specs.Lists.{keep-same}
-use Rattle.strips.specs.Board as strip
-use Rattle.pads.specs.Pads.{Sides, fits, bit, count, sides, Pads}
-use Rattle.totals.specs.Strip.{best}
-use Rattle.totals.specs.Cell.{figures, boardOf, cornerOf, place, coded, Sizes, Cell, Rows, Parts, Copied, Table}
+use Rattle.strips.specs.Grid as strip
+use Rattle.pads.specs.Pads.{Sides, fits, bit, padsIn, sidesOf, Pads}
+use Rattle.totals.specs.Strip.{bestWithin}
+use Rattle.totals.specs.Cell.{figures, gridOf, cornerOf, place, coded, Sizes, Cell, Rows, Parts, CopiedRow, Table}
 use Rattle.pads.specs.Counts.{le-or-lt, spans-by}
 use Rattle.totals.proofs.Corners.{corner-top, place-start, place-end}
 use Rattle.totals.proofs.Cells.{cell-right}
@@ -59,7 +59,7 @@ module _ (S : Sides) (C : ℕ → ℕ → Least) (order : List ℕ) where
       (le-or-lt a′ a)
 
 -- the row's short lists get each cell that the tables get
-pub copied-start : (rh rt hs ts : List ℕ) (a : ℕ) → length rh ≡ 65 → length rt ≡ 65 → Copied rh rt hs ts a a
+pub copied-start : (rh rt hs ts : List ℕ) (a : ℕ) → length rh ≡ 65 → length rt ≡ 65 → CopiedRow rh rt hs ts a a
 copied-start rh rt hs ts a lh lt = record { heads = lh; totals = lt; same = λ q u v. absurd (omega arith) }
 
 same-after : (rs hs : List ℕ) (a b h p q : ℕ) → p ≡ place a b → length rs ≡ 65 → length hs ≡ 2145 → a ≤ b → b ≤ 64 → a ≤ q → q < b + 1
@@ -72,7 +72,7 @@ same-after rs hs a b h p q e lr lh ab b64 aq qb was = rw e (⊎-elim
     (le-or-lt b q))
 
 pub copied-step : (rh rt hs ts : List ℕ) (a b h v p : ℕ) → p ≡ place a b → a ≤ b → b ≤ 64 → length hs ≡ 2145 → length ts ≡ 2145
-    → Copied rh rt hs ts a b → Copied (set rh b h) (set rt b v) (set hs p h) (set ts p v) a (b + 1)
+    → CopiedRow rh rt hs ts a b → CopiedRow (set rh b h) (set rt b v) (set hs p h) (set ts p v) a (b + 1)
 copied-step rh rt hs ts a b h v p e ab b64 lh lt K = record {
   heads = length-set rh b h ∙ K .heads;
   totals = length-set rt b v ∙ K .totals;
@@ -84,21 +84,21 @@ copied-step rh rt hs ts a b h v p e ab b64 lh lt K = record {
 
 -- ---- the whole board
 
-pub whole-count : (S : Sides) (n : ℕ) → ((j : ℕ) → S .hi j ≤ n) → (js : List ℕ) → count S 0 n js ≡ length js
-unfolding count
+pub whole-count : (S : Sides) (n : ℕ) → ((j : ℕ) → S .hi j ≤ n) → (js : List ℕ) → padsIn S 0 n js ≡ length js
+unfolding padsIn
 whole-count S n h [] = refl
 whole-count S n h (j ∷ js) =
-    ap (λ (x : Bool). bit x + count S 0 n js) (spans-by 0 n (S .lo j) (S .hi j) zero-le (h j)) ∙ (let more = whole-count S n h js in omega arith)
+    ap (λ (x : Bool). bit x + padsIn S 0 n js) (spans-by 0 n (S .lo j) (S .hi j) zero-le (h j)) ∙ (let more = whole-count S n h js in omega arith)
 
 -- the first row's last cell has the best total of all pads on all ports
 pub whole-best : {order cs lo hi hs ts : List ℕ} → Pads order lo hi → Table order cs lo hi hs ts
-    → getD ts (cornerOf (length order)) 0 ≡ coded (strip.best (boardOf order cs lo hi) order 0 (length order))
-unfolding best
+    → getD ts (cornerOf (length order)) 0 ≡ coded (strip.best (gridOf order cs lo hi) order 0 (length order))
+unfolding bestWithin
 whole-best {order} {cs} {lo} {hi} {hs} {ts} P T =
     let n = length order in
     let e : cornerOf n + 0 ≡ cornerOf n = omega arith in
     ap (λ (k : ℕ). getD ts k 0) (sym e)
-    ∙ cell-right (sides lo hi) (figures cs n) order 0 n (getD hs (place 0 n) 0) (getD ts (place 0 n) 0) (T .rows 0 n zero-le zero-le (omega arith)) 0 zero-le
-    (whole-count (sides lo hi) n (P .top) order ∙ omega arith)
-    ∙ ap (λ (l : List ℕ). coded (strip.best (boardOf order cs lo hi) l 0 n))
-    (keep-same (fits (sides lo hi) 0 n) order (λ j m. spans-by 0 n (getD lo j 0) (getD hi j 0) zero-le (P .top j)))
+    ∙ cell-right (sidesOf lo hi) (figures cs n) order 0 n (getD hs (place 0 n) 0) (getD ts (place 0 n) 0) (T .rows 0 n zero-le zero-le (omega arith)) 0 zero-le
+    (whole-count (sidesOf lo hi) n (P .top) order ∙ omega arith)
+    ∙ ap (λ (l : List ℕ). coded (strip.best (gridOf order cs lo hi) l 0 n))
+    (keep-same (fits (sidesOf lo hi) 0 n) order (λ j m. spans-by 0 n (getD lo j 0) (getD hi j 0) zero-le (P .top j)))

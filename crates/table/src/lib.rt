@@ -3,7 +3,7 @@
 ghost use mathlib.Core.Path.{_≡_};
 ghost use Prim.Native.Nat.{_+_, _*_, _≤_};
 ghost use lib.ListN.{length};
-ghost use Rattle.pads.specs.Pads.{sides, Pads};
+ghost use Rattle.pads.specs.Pads.{sidesOf, Pads};
 ghost use Rattle.heads.specs.Heads.{Tallies, Rooms};
 ghost use Rattle.totals.specs.Cell.{Sizes, RowsOf, Table, leastOf};
 
@@ -26,9 +26,9 @@ fn fill_row(
     requires { ⌜ Sizes (now heads) (now totals) (now order) (now cost) ⌝ }
     requires { ⌜ Rooms (now at) (now seen) (now all) ⌝ }
     requires { ⌜ (length (now lows) ≡ 65) × (length (now sums) ≡ 65) × (a ≤ length (now order)) ⌝ }
-    requires { ⌜ Tallies (sides (now lo) (now hi)) (now order) (now at) (now seen) (now all) a ⌝ }
+    requires { ⌜ Tallies (sidesOf (now lo) (now hi)) (now order) (now at) (now seen) (now all) a ⌝ }
     requires { ⌜ RowsOf (now order) (now cost) (now lo) (now hi) (now heads) (now totals) (a + 1) ⌝ }
-    ensures { λ _. ⌜ Tallies (sides (now (lo .entry)) (now (hi .entry))) (now (order .entry)) (now (at .exit)) (now (seen .exit)) (now (all .entry)) a ⌝ }
+    ensures { λ _. ⌜ Tallies (sidesOf (now (lo .entry)) (now (hi .entry))) (now (order .entry)) (now (at .exit)) (now (seen .exit)) (now (all .entry)) a ⌝ }
     ensures { λ _. ⌜ RowsOf (now (order .entry)) (now (cost .entry)) (now (lo .entry)) (now (hi .entry)) (now (heads .exit)) (now (totals .exit)) a ⌝ }
 {
     let n = order.len();

@@ -12,15 +12,15 @@ use lib.ListN.{length, drop, getD}
 use lib.Seq.{drop-cons}
 use borrow.Author.Tests.{ltb-true, ltb-false, eqb-true, eqb-false}
 use Rattle.numbers.specs.Filled.{place-in}
-use Rattle.pads.specs.Pads.{Sides, fits, bit, count, sides, Pads, Head}
-use Rattle.totals.specs.Strip.{parted, best, local}
+use Rattle.pads.specs.Pads.{Sides, fits, bit, padsIn, sidesOf, Pads, Head}
+use Rattle.totals.specs.Strip.{partedWithin, bestWithin, localWithin}
 use Rattle.totals.specs.Cell.{noTotal, figures, choice, place, coded, Sizes, Strip, Valued, Cell, Parts, Port, sumAt, portTotal}
 use Rattle.pads.specs.Counts.{le-or-lt, bit-le, bit-true, count-step, count-drop, count-end}
 use Rattle.totals.proofs.Parted.{lt-or-le, parted-least, parts-most, parted-less}
 use Rattle.totals.proofs.Corners.{corner-top}
-use Rattle.totals.proofs.Masks.{plus, best-in, local-parted, local-blocked}
+use Rattle.totals.proofs.Masks.{add, best-in, local-parted, local-blocked}
 use Rattle.totals.proofs.Ports.{Lower}
-use Rattle.totals.proofs.Totals.{local-none, crowded, same-from, idle, AtMost, most-best, coded-none, coded-some, local-most, coded-least}
+use Rattle.totals.proofs.Totals.{local-none, crowded, same-from, idle, Capped, most-best, coded-none, coded-some, local-most, coded-least}
 
 -- ---- cells
 
@@ -33,7 +33,7 @@ some-none v e = let z = ap flag e in omega arith
 
 module _ (S : Sides) (C : ℕ → ℕ → Least) (order : List ℕ) (a b h v : ℕ) (L : Cell S C order a b h v) (k : ℕ) where
   -- from a place before the head on there are pads enough
-  cell-more : k < h → b - a ≤ count S a b (drop k order)
+  cell-more : k < h → b - a ≤ padsIn S a b (drop k order)
   cell-more kh =
       let e : h ≡ h - 1 + 1 = omega arith in
       let here = L .full (h - 1) e in
@@ -41,16 +41,16 @@ module _ (S : Sides) (C : ℕ → ℕ → Least) (order : List ℕ) (a b h v : �
       omega arith
 
   -- and the total, where there are no more than enough
-  cell-some : k < h → count S a b (drop k order) ≡ b - a → best S C (drop k order) a b ≡ some v
+  cell-some : k < h → padsIn S a b (drop k order) ≡ b - a → bestWithin S C (drop k order) a b ≡ some v
   cell-some kh e =
       let eh : h ≡ h - 1 + 1 = omega arith in
       same-from S C order k (h - 1) a b (omega arith) (e ∙ sym (L .full (h - 1) eh)) ∙ L .value (h - 1) eh
 
   -- what a user of the table reads: from any place k on that leaves the strip its number of pads
-  pub cell-right : k ≤ length order → count S a b (drop k order) ≡ b - a → v ≡ coded (best S C (drop k order) a b)
+  pub cell-right : k ≤ length order → padsIn S a b (drop k order) ≡ b - a → v ≡ coded (bestWithin S C (drop k order) a b)
   cell-right kn e = ⊎-elim late (λ (u : k < h). ap coded (sym (cell-some u e))) (le-or-lt h k)
     where
-      late : h ≤ k → v ≡ coded (best S C (drop k order) a b)
+      late : h ≤ k → v ≡ coded (bestWithin S C (drop k order) a b)
       late u =
           ⊎-elim
           (λ (z : h ≤ 0). L .nothing (omega arith) ∙ ap coded (sym (L .past k u kn e)))
@@ -62,94 +62,94 @@ module _ (S : Sides) (C : ℕ → ℕ → Least) (order : List ℕ) (a b h v : �
 -- ---- one port of a strip, from the cells of the two parts that it makes
 
 module _ (S : Sides) (C : ℕ → ℕ → Least) (level : (j : ℕ) → S .lo j ≤ S .hi j) (j : ℕ) (rest : List ℕ) (a b q : ℕ) (aq : a ≤ q) (qb : q < b)
-    (full : count S a b rest + 1 ≡ b - a) where
+    (full : padsIn S a b rest + 1 ≡ b - a) where
   -- too few pads below q: too many above
-  short-below : count S a q rest < q - a → local S C j rest a b q ≡ none
-  short-below h = go (parted S a b q rest) refl
+  short-below : padsIn S a q rest < q - a → localWithin S C j rest a b q ≡ none
+  short-below h = go (partedWithin S a b q rest) refl
     where
-      go : (x : Bool) → parted S a b q rest ≡ x → local S C j rest a b q ≡ none
+      go : (x : Bool) → partedWithin S a b q rest ≡ x → localWithin S C j rest a b q ≡ none
       go false e = local-blocked S C j rest a b q aq qb e
       go true e = let all = parted-least S a b q rest e in local-none S C j rest a b q aq qb (inr (crowded S C rest (q + 1) b (omega arith)))
 
-  short-above : count S (q + 1) b rest < b - (q + 1) → local S C j rest a b q ≡ none
-  short-above h = go (parted S a b q rest) refl
+  short-above : padsIn S (q + 1) b rest < b - (q + 1) → localWithin S C j rest a b q ≡ none
+  short-above h = go (partedWithin S a b q rest) refl
     where
-      go : (x : Bool) → parted S a b q rest ≡ x → local S C j rest a b q ≡ none
+      go : (x : Bool) → partedWithin S a b q rest ≡ x → localWithin S C j rest a b q ≡ none
       go false e = local-blocked S C j rest a b q aq qb e
       go true e = let all = parted-least S a b q rest e in local-none S C j rest a b q aq qb (inl (crowded S C rest a q (omega arith)))
 
   -- enough in each: q parts the strip
-  enough : q - a ≤ count S a q rest → b - (q + 1) ≤ count S (q + 1) b rest → parted S a b q rest ≡ true
-  enough u v = go (parted S a b q rest) refl
+  enough : q - a ≤ padsIn S a q rest → b - (q + 1) ≤ padsIn S (q + 1) b rest → partedWithin S a b q rest ≡ true
+  enough u v = go (partedWithin S a b q rest) refl
     where
-      go : (x : Bool) → parted S a b q rest ≡ x → parted S a b q rest ≡ true
+      go : (x : Bool) → partedWithin S a b q rest ≡ x → partedWithin S a b q rest ≡ true
       go true e = e
       go false e = let less = parted-less S level a b q aq qb rest e in absurd (omega arith)
 
-module _ (S : Sides) (C : ℕ → ℕ → Least) (level : (j : ℕ) → S .lo j ≤ S .hi j) (cheap : (j q : ℕ) → AtMost (2 ^ 32) (C j q))
-    (order : List ℕ) (r a b q : ℕ) (rn : r < length order) (b64 : b ≤ 64) (aq : a ≤ q) (qb : q < b) (full : count S a b (drop (r + 1) order) + 1 ≡ b - a)
+module _ (S : Sides) (C : ℕ → ℕ → Least) (level : (j : ℕ) → S .lo j ≤ S .hi j) (cheap : (j q : ℕ) → Capped (2 ^ 32) (C j q))
+    (order : List ℕ) (r a b q : ℕ) (rn : r < length order) (b64 : b ≤ 64) (aq : a ≤ q) (qb : q < b) (full : padsIn S a b (drop (r + 1) order) + 1 ≡ b - a)
     (h x : ℕ) (below : Cell S C order a q h x) (h′ y : ℕ) (above : Cell S C order (q + 1) b h′ y) (j : ℕ) where
-  pub no-below : h ≤ r + 1 → local S C j (drop (r + 1) order) a b q ≡ none
+  pub no-below : h ≤ r + 1 → localWithin S C j (drop (r + 1) order) a b q ≡ none
   no-below u =
       ⊎-elim
-      (λ (less : count S a q (drop (r + 1) order) < q - a). short-below S C level j (drop (r + 1) order) a b q aq qb full less)
-      (λ (more : q - a ≤ count S a q (drop (r + 1) order)). ⊎-elim
-      (λ (most : count S a q (drop (r + 1) order) ≤ q - a).
+      (λ (less : padsIn S a q (drop (r + 1) order) < q - a). short-below S C level j (drop (r + 1) order) a b q aq qb full less)
+      (λ (more : q - a ≤ padsIn S a q (drop (r + 1) order)). ⊎-elim
+      (λ (most : padsIn S a q (drop (r + 1) order) ≤ q - a).
       local-none S C j (drop (r + 1) order) a b q aq qb (inl (below .past (r + 1) u (omega arith) (omega arith))))
-      (λ (many : q - a < count S a q (drop (r + 1) order)).
+      (λ (many : q - a < padsIn S a q (drop (r + 1) order)).
       let parts = parts-most S level a b q aq qb (drop (r + 1) order) in short-above S C level j (drop (r + 1) order) a b q aq qb full (omega arith))
-      (le-or-lt (count S a q (drop (r + 1) order)) (q - a)))
-      (lt-or-le (count S a q (drop (r + 1) order)) (q - a))
+      (le-or-lt (padsIn S a q (drop (r + 1) order)) (q - a)))
+      (lt-or-le (padsIn S a q (drop (r + 1) order)) (q - a))
 
-  pub no-above : h′ ≤ r + 1 → local S C j (drop (r + 1) order) a b q ≡ none
+  pub no-above : h′ ≤ r + 1 → localWithin S C j (drop (r + 1) order) a b q ≡ none
   no-above u =
       ⊎-elim
-      (λ (less : count S (q + 1) b (drop (r + 1) order) < b - (q + 1)). short-above S C level j (drop (r + 1) order) a b q aq qb full less)
-      (λ (more : b - (q + 1) ≤ count S (q + 1) b (drop (r + 1) order)). ⊎-elim
-      (λ (most : count S (q + 1) b (drop (r + 1) order) ≤ b - (q + 1)).
+      (λ (less : padsIn S (q + 1) b (drop (r + 1) order) < b - (q + 1)). short-above S C level j (drop (r + 1) order) a b q aq qb full less)
+      (λ (more : b - (q + 1) ≤ padsIn S (q + 1) b (drop (r + 1) order)). ⊎-elim
+      (λ (most : padsIn S (q + 1) b (drop (r + 1) order) ≤ b - (q + 1)).
       local-none S C j (drop (r + 1) order) a b q aq qb (inr (above .past (r + 1) u (omega arith) (omega arith))))
-      (λ (many : b - (q + 1) < count S (q + 1) b (drop (r + 1) order)).
+      (λ (many : b - (q + 1) < padsIn S (q + 1) b (drop (r + 1) order)).
       let parts = parts-most S level a b q aq qb (drop (r + 1) order) in short-below S C level j (drop (r + 1) order) a b q aq qb full (omega arith))
-      (le-or-lt (count S (q + 1) b (drop (r + 1) order)) (b - (q + 1))))
-      (lt-or-le (count S (q + 1) b (drop (r + 1) order)) (b - (q + 1)))
+      (le-or-lt (padsIn S (q + 1) b (drop (r + 1) order)) (b - (q + 1))))
+      (lt-or-le (padsIn S (q + 1) b (drop (r + 1) order)) (b - (q + 1)))
 
   module _ (u : r + 1 < h) (v : r + 1 < h′) where
-    counts : (count S a q (drop (r + 1) order) ≡ q - a) × (count S (q + 1) b (drop (r + 1) order) ≡ b - (q + 1))
+    counts : (padsIn S a q (drop (r + 1) order) ≡ q - a) × (padsIn S (q + 1) b (drop (r + 1) order) ≡ b - (q + 1))
     counts =
         let most = parts-most S level a b q aq qb (drop (r + 1) order) in
         let low = cell-more S C order a q h x below (r + 1) u in
         let high = cell-more S C order (q + 1) b h′ y above (r + 1) v in
         (omega arith, omega arith)
 
-    is-below : best S C (drop (r + 1) order) a q ≡ some x
+    is-below : bestWithin S C (drop (r + 1) order) a q ≡ some x
     is-below = cell-some S C order a q h x below (r + 1) u (counts .0)
 
-    is-above : best S C (drop (r + 1) order) (q + 1) b ≡ some y
+    is-above : bestWithin S C (drop (r + 1) order) (q + 1) b ≡ some y
     is-above = cell-some S C order (q + 1) b h′ y above (r + 1) v (counts .1)
 
     -- the sums stay far below the largest u64
     pub small-parts : (x ≤ 2 ^ 38) × (y ≤ 2 ^ 38)
     small-parts =
-        let p : x ≤ count S a q (drop (r + 1) order) * 2 ^ 32 = subst (AtMost (count S a q (drop (r + 1) order) * 2 ^ 32)) is-below
+        let p : x ≤ padsIn S a q (drop (r + 1) order) * 2 ^ 32 = subst (Capped (padsIn S a q (drop (r + 1) order) * 2 ^ 32)) is-below
         (most-best S C level cheap (drop (r + 1) order) a q) in
-        let s : y ≤ count S (q + 1) b (drop (r + 1) order) * 2 ^ 32 = subst (AtMost (count S (q + 1) b (drop (r + 1) order) * 2 ^ 32)) is-above
+        let s : y ≤ padsIn S (q + 1) b (drop (r + 1) order) * 2 ^ 32 = subst (Capped (padsIn S (q + 1) b (drop (r + 1) order) * 2 ^ 32)) is-above
         (most-best S C level cheap (drop (r + 1) order) (q + 1) b) in
         let c = counts .0 in let d = counts .1 in
         (omega arith, omega arith)
 
-    pub some-parts : local S C j (drop (r + 1) order) a b q ≡ plus (C j q) (some (x + y))
+    pub some-parts : localWithin S C j (drop (r + 1) order) a b q ≡ add (C j q) (some (x + y))
     some-parts =
         let c = counts .0 in let d = counts .1 in
         local-parted S C j (drop (r + 1) order) a b q aq qb (enough S C level j (drop (r + 1) order) a b q aq qb full (omega arith) (omega arith))
-        ∙ ap₂ (λ (s t : Least). plus (C j q) (plus s t)) is-below is-above
+        ∙ ap₂ (λ (s t : Least). add (C j q) (add s t)) is-below is-above
 
 -- ---- the same of the lists that the code has
 
-pub figures-cheap : {hs ts order cs : List ℕ} → Sizes hs ts order cs → (j q : ℕ) → AtMost (2 ^ 32) (figures cs (length order) j q)
+pub figures-cheap : {hs ts order cs : List ℕ} → Sizes hs ts order cs → (j q : ℕ) → Capped (2 ^ 32) (figures cs (length order) j q)
 figures-cheap {hs} {ts} {order} {cs} Z j q = let u = Z .cheap (j * length order + q) in omega arith
 
-module _ {hs ts order cs lo hi : List ℕ} (P : Pads order lo hi) (Z : Sizes hs ts order cs) (r a b : ℕ) (T : Strip (sides lo hi) order a b r)
-    (D : Parts (sides lo hi) (figures cs (length order)) order hs ts a b) (q : ℕ) (aq : a ≤ q) (qb : q < b) where
+module _ {hs ts order cs lo hi : List ℕ} (P : Pads order lo hi) (Z : Sizes hs ts order cs) (r a b : ℕ) (T : Strip (sidesOf lo hi) order a b r)
+    (D : Parts (sidesOf lo hi) (figures cs (length order)) order hs ts a b) (q : ℕ) (aq : a ≤ q) (qb : q < b) where
   abbrev h-below : ℕ
   h-below = getD hs (place a q) 0
 
@@ -171,13 +171,13 @@ module _ {hs ts order cs lo hi : List ℕ} (P : Pads order lo hi) (Z : Sizes hs 
   answer : (x y : Bool) → ltb (r + 1) h-below ≡ x → ltb (r + 1) h-above ≡ y
       → cond (x && y) (sumAt ts ts cs row q (place a q) (place (q + 1) b)) noTotal ≡ coded (choice order cs lo hi r a b q)
   answer true true u v =
-      sym (ap coded (some-parts (sides lo hi) (figures cs (length order)) (P .level) (figures-cheap Z) order r a b q (T .listed) b64 aq qb (T .rest)
+      sym (ap coded (some-parts (sidesOf lo hi) (figures cs (length order)) (P .level) (figures-cheap Z) order r a b q (T .listed) b64 aq qb (T .rest)
       h-below x-below (D q aq qb .0) h-above x-above (D q aq qb .1) (getD order r 0) (ltb-true (r + 1) h-below u) (ltb-true (r + 1) h-above v)))
   answer true false u v =
-      sym (ap coded (no-above (sides lo hi) (figures cs (length order)) (P .level) (figures-cheap Z) order r a b q (T .listed) b64 aq qb (T .rest)
+      sym (ap coded (no-above (sidesOf lo hi) (figures cs (length order)) (P .level) (figures-cheap Z) order r a b q (T .listed) b64 aq qb (T .rest)
       h-below x-below (D q aq qb .0) h-above x-above (D q aq qb .1) (getD order r 0) (ltb-false (r + 1) h-above v)))
   answer false y u v =
-      sym (ap coded (no-below (sides lo hi) (figures cs (length order)) (P .level) (figures-cheap Z) order r a b q (T .listed) b64 aq qb (T .rest)
+      sym (ap coded (no-below (sidesOf lo hi) (figures cs (length order)) (P .level) (figures-cheap Z) order r a b q (T .listed) b64 aq qb (T .rest)
       h-below x-below (D q aq qb .0) h-above x-above (D q aq qb .1) (getD order r 0) (ltb-false (r + 1) h-below u)))
 
   module _ {hb tb : List ℕ} (below above : ℕ) (L : Lower hb tb hs ts a q below) (ea : above ≡ place (q + 1) b) where
@@ -192,7 +192,7 @@ module _ {hs ts order cs lo hi : List ℕ} (P : Pads order lo hi) (Z : Sizes hs 
       high-head = let t = corner-top b b64 in omega (arith, b64, Z .heads);
       high-total = let t = corner-top b b64 in omega (arith, b64, Z .totals);
       listed = let f = place-in (length order) (length order) (getD order r 0) q (P .listed r (T .listed)) (omega (arith, T .ports)) in omega (arith, Z .square);
-      small = rw (L .head, L .total, ea) (λ u v. small-parts (sides lo hi) (figures cs (length order)) (P .level) (figures-cheap Z) order r a b q (T .listed) b64 aq qb
+      small = rw (L .head, L .total, ea) (λ u v. small-parts (sidesOf lo hi) (figures cs (length order)) (P .level) (figures-cheap Z) order r a b q (T .listed) b64 aq qb
           (T .rest)
           h-below x-below (D q aq qb .0) h-above x-above (D q aq qb .1) (getD order r 0) u v);
     }
@@ -202,8 +202,8 @@ module _ {hs ts order cs lo hi : List ℕ} (P : Pads order lo hi) (Z : Sizes hs 
         → w ≡ coded (least (choice order cs lo hi r a b) a (q + 1 - a))
     least-step v w e f =
         f ∙ ap₂ min e port-right
-        ∙ coded-least ((1 + count (sides lo hi) a b (drop (r + 1) order)) * 2 ^ 32) (choice order cs lo hi r a b) a q (omega (arith, T .rest, T .ports, P .few)) aq
-        (λ i u v. local-most (sides lo hi) (figures cs (length order)) (P .level) (figures-cheap Z) (getD order r 0) (drop (r + 1) order) a b i u (omega arith))
+        ∙ coded-least ((1 + padsIn (sidesOf lo hi) a b (drop (r + 1) order)) * 2 ^ 32) (choice order cs lo hi r a b) a q (omega (arith, T .rest, T .ports, P .few)) aq
+        (λ i u v. local-most (sidesOf lo hi) (figures cs (length order)) (P .level) (figures-cheap Z) (getD order r 0) (drop (r + 1) order) a b i u (omega arith))
 
 -- ---- a strip's cell
 
@@ -218,7 +218,7 @@ module _ (S : Sides) (order : List ℕ) (a b h : ℕ) (H : Head S order a b h) (
       (λ (u : h - 1 < length order). u)
       (le-or-lt (length order) (h - 1))
 
-  head-counts : (bit (fits S a b (getD order (h - 1) 0)) ≡ 1) × (count S a b (drop (h - 1 + 1) order) + 1 ≡ b - a)
+  head-counts : (bit (fits S a b (getD order (h - 1) 0)) ≡ 1) × (padsIn S a b (drop (h - 1 + 1) order) + 1 ≡ b - a)
   head-counts =
       let e : h ≡ h - 1 + 1 = omega arith in
       let listed = head-listed in
@@ -231,15 +231,15 @@ module _ (S : Sides) (order : List ℕ) (a b h : ℕ) (H : Head S order a b h) (
   pub head-strip : b ≤ length order → Strip S order a b (h - 1)
   head-strip bn = record { ports = bn; listed = head-listed; rest = head-counts .1 }
 
-  pub head-cell : (C : ℕ → ℕ → Least) (v : ℕ) → v ≡ coded (least (local S C (getD order (h - 1) 0) (drop (h - 1 + 1) order) a b) a (b - a)) → Valued S C order a b h v
+  pub head-cell : (C : ℕ → ℕ → Least) (v : ℕ) → v ≡ coded (least (localWithin S C (getD order (h - 1) 0) (drop (h - 1 + 1) order) a b) a (b - a)) → Valued S C order a b h v
   head-cell C v e =
       record {
         head = H;
         value = λ s es. let same : s ≡ h - 1 = omega arith in
-            subst (λ (k : ℕ). v ≡ coded (best S C (drop k order) a b)) (sym same)
+            subst (λ (k : ℕ). v ≡ coded (bestWithin S C (drop k order) a b)) (sym same)
             (e ∙ ap coded (sym (best-in S C (getD order (h - 1) 0) (drop (h - 1 + 1) order) a b (bit-true (fits S a b (getD order (h - 1) 0)) (head-counts .0))))
-            ∙ ap (λ (k : ℕ). coded (best S C (getD order (h - 1) 0 ∷ drop k order) a b)) (add-one (h - 1))
-            ∙ ap (λ (l : List ℕ). coded (best S C l a b)) (sym (drop-cons order (h - 1) 0 head-listed)));
+            ∙ ap (λ (k : ℕ). coded (bestWithin S C (getD order (h - 1) 0 ∷ drop k order) a b)) (add-one (h - 1))
+            ∙ ap (λ (l : List ℕ). coded (bestWithin S C l a b)) (sym (drop-cons order (h - 1) 0 head-listed)));
         nothing = λ z. absurd (some-head z);
       }
 
@@ -252,7 +252,7 @@ empty-cell S C order a b h H some-head ab = record {
 }
 
 -- the cell that is stored: the head only where there is a layout
-valued-cell : (S : Sides) (C : ℕ → ℕ → Least) → ((j : ℕ) → S .lo j ≤ S .hi j) → ((j q : ℕ) → AtMost (2 ^ 32) (C j q)) → (order : List ℕ) (a b h v : ℕ) → b ≤ 64
+valued-cell : (S : Sides) (C : ℕ → ℕ → Least) → ((j : ℕ) → S .lo j ≤ S .hi j) → ((j q : ℕ) → Capped (2 ^ 32) (C j q)) → (order : List ℕ) (a b h v : ℕ) → b ≤ 64
     → Valued S C order a b h v → Cell S C order a b (cond (eqb v noTotal) 0 h) v
 valued-cell S C level cheap order a b h v b64 is = go (eqb v noTotal) refl
   where
@@ -260,7 +260,7 @@ valued-cell S C level cheap order a b h v b64 is = go (eqb v noTotal) refl
     H = is .head
 
     -- from any place with the strip's number of pads on
-    same : (k : ℕ) → k ≤ length order → count S a b (drop k order) ≡ b - a → v ≡ coded (best S C (drop k order) a b)
+    same : (k : ℕ) → k ≤ length order → padsIn S a b (drop k order) ≡ b - a → v ≡ coded (bestWithin S C (drop k order) a b)
     same k kn e =
         ⊎-elim
         (λ (u : h ≤ k). absurd (let w = H .past k u kn in omega arith))
@@ -273,7 +273,7 @@ valued-cell S C level cheap order a b h v b64 is = go (eqb v noTotal) refl
         let z : v ≡ noTotal = eqb-true v noTotal e in
         record {
           top = omega arith;
-          past = λ k u kn c. coded-none (count S a b (drop k order) * 2 ^ 32) (best S C (drop k order) a b) (most-best S C level cheap (drop k order) a b) (omega arith)
+          past = λ k u kn c. coded-none (padsIn S a b (drop k order) * 2 ^ 32) (bestWithin S C (drop k order) a b) (most-best S C level cheap (drop k order) a b) (omega arith)
               (sym (same k kn c) ∙ z);
           full = λ s es. absurd (omega arith);
           value = λ s es. absurd (omega arith);
@@ -285,10 +285,10 @@ valued-cell S C level cheap order a b h v b64 is = go (eqb v noTotal) refl
           top = H .top;
           past = λ k u kn c. absurd (let w = H .past k u kn in omega arith);
           full = H .at;
-          value = λ s es. coded-some (best S C (drop s order) a b) (λ n. ne (is .value s es ∙ n)) ∙ ap {B = Least} some (sym (is .value s es));
+          value = λ s es. coded-some (bestWithin S C (drop s order) a b) (λ n. ne (is .value s es ∙ n)) ∙ ap {B = Least} some (sym (is .value s es));
           nothing = is .nothing;
         }
 
-pub kept-cell : (S : Sides) (C : ℕ → ℕ → Least) → ((j : ℕ) → S .lo j ≤ S .hi j) → ((j q : ℕ) → AtMost (2 ^ 32) (C j q)) → (order : List ℕ) (a b h v r : ℕ) → b ≤ 64
+pub kept-cell : (S : Sides) (C : ℕ → ℕ → Least) → ((j : ℕ) → S .lo j ≤ S .hi j) → ((j q : ℕ) → Capped (2 ^ 32) (C j q)) → (order : List ℕ) (a b h v r : ℕ) → b ≤ 64
     → Valued S C order a b h v → r ≡ cond (eqb v noTotal) 0 h → Cell S C order a b r v
 kept-cell S C level cheap order a b h v r b64 is e = rw e (valued-cell S C level cheap order a b h v b64 is)

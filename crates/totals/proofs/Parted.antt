@@ -1,4 +1,4 @@
--- Laws of `parted`: the pads of a strip, and those of the two parts that a port makes of it.
+-- Laws of `partedWithin`: the pads of a strip, and those of the two parts that a port makes of it.
 use mathlib.Core.Path.{_≡_, refl}
 use mathlib.Core.Logic.{_⊎_, inl, inr}
 use mathlib.Core.Bool.{Bool, true, false, _&&_, true≢false, false≢true}
@@ -8,9 +8,9 @@ use native.Mathlib.Omega.{arith}
 use lib.Dec.{leb}
 use borrow.Author.Tests.{leb-true}
 use Rattle.strips.specs.Lists.{both}
-use Rattle.pads.specs.Pads.{Sides, spans, fits, bit, count}
+use Rattle.pads.specs.Pads.{Sides, spans, fits, bit, padsIn}
 use Rattle.pads.specs.Counts.{le-or-lt, spans-by}
-use Rattle.totals.specs.Strip.{cut, parted}
+use Rattle.totals.specs.Strip.{cut, partedWithin}
 
 -- ---- tests
 
@@ -57,13 +57,13 @@ share-less true false false e = omega arith
 
 module _ (S : Sides) (a b q : ℕ) where
   -- a port that parts the list loses no pad
-  pub parted-least : (js : List ℕ) → parted S a b q js ≡ true → count S a b js ≤ count S a q js + count S (q + 1) b js
-  unfolding parted count
+  pub parted-least : (js : List ℕ) → partedWithin S a b q js ≡ true → padsIn S a b js ≤ padsIn S a q js + padsIn S (q + 1) b js
+  unfolding partedWithin padsIn
   parted-least [] e = zero-le
   parted-least (j ∷ js) e =
       let first = cut (fits S a b j) (fits S a q j) (fits S (q + 1) b j) in
-      let one = share-least (fits S a b j) (fits S a q j) (fits S (q + 1) b j) (both first (parted S a b q js) e .0) in
-      let more = parted-least js (both first (parted S a b q js) e .1) in
+      let one = share-least (fits S a b j) (fits S a q j) (fits S (q + 1) b j) (both first (partedWithin S a b q js) e .0) in
+      let more = parted-least js (both first (partedWithin S a b q js) e .1) in
       omega arith
 
 module _ (S : Sides) (level : (j : ℕ) → S .lo j ≤ S .hi j) (a b q : ℕ) (aq : a ≤ q) (qb : q < b) where
@@ -75,19 +75,19 @@ module _ (S : Sides) (level : (j : ℕ) → S .lo j ≤ S .hi j) (a b q : ℕ) (
       (λ y z. let u = spans-hi a q (S .lo j) (S .hi j) y in let v = spans-lo (q + 1) b (S .lo j) (S .hi j) z in let w = level j in omega arith)
 
   -- the two parts hold no more than the whole
-  pub parts-most : (js : List ℕ) → count S a q js + count S (q + 1) b js ≤ count S a b js
-  unfolding count
+  pub parts-most : (js : List ℕ) → padsIn S a q js + padsIn S (q + 1) b js ≤ padsIn S a b js
+  unfolding padsIn
   parts-most [] = omega arith
   parts-most (j ∷ js) = let one = one-most j in let more = parts-most js in omega arith
 
   -- and less where a pad is in the way
-  pub parted-less : (js : List ℕ) → parted S a b q js ≡ false → count S a q js + count S (q + 1) b js < count S a b js
-  unfolding parted count
+  pub parted-less : (js : List ℕ) → partedWithin S a b q js ≡ false → padsIn S a q js + padsIn S (q + 1) b js < padsIn S a b js
+  unfolding partedWithin padsIn
   parted-less [] e = absurd (true≢false e)
   parted-less (j ∷ js) e = go (cut (fits S a b j) (fits S a q j) (fits S (q + 1) b j)) refl e (λ f. parted-less js f)
     where
-      go : (x : Bool) → cut (fits S a b j) (fits S a q j) (fits S (q + 1) b j) ≡ x → (x && parted S a b q js) ≡ false
-          → (parted S a b q js ≡ false → count S a q js + count S (q + 1) b js < count S a b js)
-          → count S a q (j ∷ js) + count S (q + 1) b (j ∷ js) < count S a b (j ∷ js)
+      go : (x : Bool) → cut (fits S a b j) (fits S a q j) (fits S (q + 1) b j) ≡ x → (x && partedWithin S a b q js) ≡ false
+          → (partedWithin S a b q js ≡ false → padsIn S a q js + padsIn S (q + 1) b js < padsIn S a b js)
+          → padsIn S a q (j ∷ js) + padsIn S (q + 1) b (j ∷ js) < padsIn S a b (j ∷ js)
       go true e f more = let one = one-most j in let rest = more f in omega arith
       go false e f more = let one = share-less (fits S a b j) (fits S a q j) (fits S (q + 1) b j) e in let rest = parts-most js in omega arith

@@ -9,7 +9,7 @@ use lib.Dec.{ltb, eqb}
 use lib.ListN.{length, getD}
 use borrow.Author.Tests.{ltb-true, ne-eqb}
 use Rattle.strips.specs.Lists.{both}
-use Rattle.totals.specs.Cell.{noTotal, place, Sizes, Copied, Port, opens, sumAt, portTotal}
+use Rattle.totals.specs.Cell.{noTotal, place, Sizes, CopiedRow, Port, opens, sumAt, portTotal}
 use Rattle.totals.proofs.Corners.{corner-top}
 
 -- the lists hb and tb have at `below` what the tables have of the strip a .. q - 1
@@ -27,7 +27,7 @@ in-table {hs} {ts} Z a q below aq q64 e = let t = corner-top q q64 in record {
   total = ap (λ (k : ℕ). getD ts k 0) e;
 }
 
-pub in-row : {rh rt hs ts : List ℕ} (a b q : ℕ) → Copied rh rt hs ts a b → a ≤ q → q < b → b ≤ 64 → Lower rh rt hs ts a q q
+pub in-row : {rh rt hs ts : List ℕ} (a b q : ℕ) → CopiedRow rh rt hs ts a b → a ≤ q → q < b → b ≤ 64 → Lower rh rt hs ts a q q
 in-row a b q K aq qb b64 = record {
   head-listed = omega (arith, K .heads);
   total-listed = omega (arith, K .totals);

@@ -1,161 +1,161 @@
--- Laws of `best`, `local` and `least`.
+-- Laws of `bestWithin`, `localWithin` and `least`.
 use mathlib.Core.Path.{_≡_, refl, sym, ap, ap₂, _∙_, subst}
 use mathlib.Core.Logic.{_⊎_, inl, inr, ⊎-elim}
 use mathlib.Core.Bool.{Bool, true, false}
-use Rattle.strips.specs.Least.{Least, none, some, meet, least}
+use Rattle.strips.specs.Least.{Least, none, some, smallerOf, least}
 use mathlib.Core.List.{List, [], _∷_, _++_}
 use Prim.Native.Nat.{ℕ, zero, suc, _+_, _-_, _*_, _^_, _≤_, _<_, min, zero-le}
 use native.Mathlib.Omega.{arith}
 use lib.ListN.{take, drop}
-use Rattle.pads.specs.Pads.{Sides, fits, bit, count}
-use Rattle.totals.specs.Strip.{parted, best, local}
+use Rattle.pads.specs.Pads.{Sides, fits, bit, padsIn}
+use Rattle.totals.specs.Strip.{partedWithin, bestWithin, localWithin}
 use Rattle.totals.specs.Cell.{noTotal, coded}
 use Rattle.pads.specs.Counts.{le-or-lt, drop-split, count-drop}
 use Rattle.totals.proofs.Parted.{parted-least, parts-most}
-use Rattle.totals.proofs.Masks.{plus, best-nil, best-in, best-out, local-parted, local-blocked}
+use Rattle.totals.proofs.Masks.{add, best-within-nil, best-in, best-out, local-parted, local-blocked}
 
 -- ---- totals
 
-plus-none : (x : Least) → plus x none ≡ none
+plus-none : (x : Least) → add x none ≡ none
 plus-none none = refl
 plus-none (some x) = refl
 
 -- ---- least
 
 pub least-none : (f : ℕ → Least) (a k : ℕ) → ((q : ℕ) → a ≤ q → q < a + k → f q ≡ none) → least f a k ≡ none
-unfolding least meet
+unfolding least smallerOf
 least-none f a zero h = refl
 least-none f a (suc k) h =
-    ap₂ meet (least-none f a k (λ q u v. h q u (omega arith))) (h (a + k) (omega arith) (omega arith))
+    ap₂ smallerOf (least-none f a k (λ q u v. h q u (omega arith))) (h (a + k) (omega arith) (omega arith))
 
 module _ (S : Sides) (C : ℕ → ℕ → Least) (r : ℕ) (rest : List ℕ) (a b q : ℕ) (aq : a ≤ q) (qb : q < b) where
   -- a part with no layout
-  pub local-none : (best S C rest a q ≡ none) ⊎ (best S C rest (q + 1) b ≡ none) → local S C r rest a b q ≡ none
-  local-none h = go (parted S a b q rest) refl h
+  pub local-none : (bestWithin S C rest a q ≡ none) ⊎ (bestWithin S C rest (q + 1) b ≡ none) → localWithin S C r rest a b q ≡ none
+  local-none h = go (partedWithin S a b q rest) refl h
     where
-      go : (x : Bool) → parted S a b q rest ≡ x → (best S C rest a q ≡ none) ⊎ (best S C rest (q + 1) b ≡ none) → local S C r rest a b q ≡ none
-      go true e (inl n) = local-parted S C r rest a b q aq qb e ∙ ap (λ (o : Least). plus (C r q) (plus o (best S C rest (q + 1) b))) n ∙ plus-none (C r q)
-      go true e (inr n) = local-parted S C r rest a b q aq qb e ∙ ap (λ (o : Least). plus (C r q) (plus (best S C rest a q) o)) n ∙ ap (plus (C r q))
-          (plus-none (best S C rest a q)) ∙ plus-none (C r q)
+      go : (x : Bool) → partedWithin S a b q rest ≡ x → (bestWithin S C rest a q ≡ none) ⊎ (bestWithin S C rest (q + 1) b ≡ none) → localWithin S C r rest a b q ≡ none
+      go true e (inl n) = local-parted S C r rest a b q aq qb e ∙ ap (λ (o : Least). add (C r q) (add o (bestWithin S C rest (q + 1) b))) n ∙ plus-none (C r q)
+      go true e (inr n) = local-parted S C r rest a b q aq qb e ∙ ap (λ (o : Least). add (C r q) (add (bestWithin S C rest a q) o)) n ∙ ap (add (C r q))
+          (plus-none (bestWithin S C rest a q)) ∙ plus-none (C r q)
       go false e n = local-blocked S C r rest a b q aq qb e
 
 -- ---- more pads than ports: no layout
 
 module _ (S : Sides) (C : ℕ → ℕ → Least) where
   -- one port q of the strip, from the rest of the list
-  crowded-local : (r : ℕ) (rest : List ℕ) (a b q : ℕ) → a ≤ q → q < b → ((a b : ℕ) → b - a < count S a b rest → best S C rest a b ≡ none)
-      → b - a ≤ count S a b rest → local S C r rest a b q ≡ none
-  crowded-local r rest a b q aq qb ih h = go (parted S a b q rest) refl
+  crowded-local : (r : ℕ) (rest : List ℕ) (a b q : ℕ) → a ≤ q → q < b → ((a b : ℕ) → b - a < padsIn S a b rest → bestWithin S C rest a b ≡ none)
+      → b - a ≤ padsIn S a b rest → localWithin S C r rest a b q ≡ none
+  crowded-local r rest a b q aq qb ih h = go (partedWithin S a b q rest) refl
     where
-      go : (x : Bool) → parted S a b q rest ≡ x → local S C r rest a b q ≡ none
+      go : (x : Bool) → partedWithin S a b q rest ≡ x → localWithin S C r rest a b q ≡ none
       go false e = local-blocked S C r rest a b q aq qb e
       go true e =
           let all = parted-least S a b q rest e in
           ⊎-elim
           (λ u. local-none S C r rest a b q aq qb (inr (ih (q + 1) b (omega arith))))
           (λ u. local-none S C r rest a b q aq qb (inl (ih a q (omega arith))))
-          (le-or-lt (count S a q rest) (q - a))
+          (le-or-lt (padsIn S a q rest) (q - a))
 
-  pub crowded : (js : List ℕ) (a b : ℕ) → b - a < count S a b js → best S C js a b ≡ none
-  unfolding count
+  pub crowded : (js : List ℕ) (a b : ℕ) → b - a < padsIn S a b js → bestWithin S C js a b ≡ none
+  unfolding padsIn
   crowded [] a b h = absurd (omega arith)
   crowded (r ∷ rest) a b h = go (fits S a b r) refl h (λ a b h. crowded rest a b h)
     where
-      go : (x : Bool) → fits S a b r ≡ x → b - a < bit x + count S a b rest
-          → ((a b : ℕ) → b - a < count S a b rest → best S C rest a b ≡ none) → best S C (r ∷ rest) a b ≡ none
-      go true e h ih = best-in S C r rest a b e ∙ least-none (local S C r rest a b) a (b - a) (λ q u v. crowded-local r rest a b q u (omega arith) ih (omega arith))
+      go : (x : Bool) → fits S a b r ≡ x → b - a < bit x + padsIn S a b rest
+          → ((a b : ℕ) → b - a < padsIn S a b rest → bestWithin S C rest a b ≡ none) → bestWithin S C (r ∷ rest) a b ≡ none
+      go true e h ih = best-in S C r rest a b e ∙ least-none (localWithin S C r rest a b) a (b - a) (λ q u v. crowded-local r rest a b q u (omega arith) ih (omega arith))
       go false e h ih = best-out S C r rest a b e ∙ ih a b (omega arith)
 
   -- pads that lie elsewhere do not matter
-  pub skip : (pre js : List ℕ) (a b : ℕ) → count S a b pre ≡ 0 → best S C (pre ++ js) a b ≡ best S C js a b
-  unfolding count
+  pub skip : (pre js : List ℕ) (a b : ℕ) → padsIn S a b pre ≡ 0 → bestWithin S C (pre ++ js) a b ≡ bestWithin S C js a b
+  unfolding padsIn
   skip [] js a b h = refl
   skip (j ∷ pre) js a b h = go (fits S a b j) refl h (λ h. skip pre js a b h)
     where
-      go : (x : Bool) → fits S a b j ≡ x → bit x + count S a b pre ≡ 0 → (count S a b pre ≡ 0 → best S C (pre ++ js) a b ≡ best S C js a b)
-          → best S C (j ∷ (pre ++ js)) a b ≡ best S C js a b
+      go : (x : Bool) → fits S a b j ≡ x → bit x + padsIn S a b pre ≡ 0 → (padsIn S a b pre ≡ 0 → bestWithin S C (pre ++ js) a b ≡ bestWithin S C js a b)
+          → bestWithin S C (j ∷ (pre ++ js)) a b ≡ bestWithin S C js a b
       go true e h ih = absurd (omega arith)
       go false e h ih = best-out S C j (pre ++ js) a b e ∙ ih (omega arith)
 
   -- from two places of a list on, with as many pads of the strip
-  pub same-from : (l : List ℕ) (s s′ a b : ℕ) → s ≤ s′ → count S a b (drop s l) ≡ count S a b (drop s′ l) → best S C (drop s l) a b ≡ best S C (drop s′ l) a b
+  pub same-from : (l : List ℕ) (s s′ a b : ℕ) → s ≤ s′ → padsIn S a b (drop s l) ≡ padsIn S a b (drop s′ l) → bestWithin S C (drop s l) a b ≡ bestWithin S C (drop s′ l) a b
   same-from l s s′ a b h e =
-      ap (λ (k : List ℕ). best S C k a b) (drop-split l s s′ h)
+      ap (λ (k : List ℕ). bestWithin S C k a b) (drop-split l s s′ h)
       ∙ skip (take (s′ - s) (drop s l)) (drop s′ l) a b (let w = count-drop S a b l s s′ h in omega arith)
 
   -- no pads
-  pub idle : (js : List ℕ) (a b : ℕ) → count S a b js ≡ 0 → best S C js a b ≡ some 0
-  unfolding count
-  idle [] a b h = best-nil S C a b
+  pub idle : (js : List ℕ) (a b : ℕ) → padsIn S a b js ≡ 0 → bestWithin S C js a b ≡ some 0
+  unfolding padsIn
+  idle [] a b h = best-within-nil S C a b
   idle (j ∷ js) a b h = go (fits S a b j) refl h (λ h. idle js a b h)
     where
-      go : (x : Bool) → fits S a b j ≡ x → bit x + count S a b js ≡ 0 → (count S a b js ≡ 0 → best S C js a b ≡ some 0) → best S C (j ∷ js) a b ≡ some 0
+      go : (x : Bool) → fits S a b j ≡ x → bit x + padsIn S a b js ≡ 0 → (padsIn S a b js ≡ 0 → bestWithin S C js a b ≡ some 0) → bestWithin S C (j ∷ js) a b ≡ some 0
       go true e h ih = absurd (omega arith)
       go false e h ih = best-out S C j js a b e ∙ ih (omega arith)
 
 -- ---- bounds
 
 -- a total that is at most m, if there is one
-abbrev pub AtMost : ℕ → Least → Type 0
-AtMost m none = Unit {0}
-AtMost m (some v) = v ≤ m
+abbrev pub Capped : ℕ → Least → Type 0
+Capped m none = Unit {0}
+Capped m (some v) = v ≤ m
 
-pub most-mono : (m n : ℕ) (o : Least) → m ≤ n → AtMost m o → AtMost n o
+pub most-mono : (m n : ℕ) (o : Least) → m ≤ n → Capped m o → Capped n o
 most-mono m n none h p = tt
 most-mono m n (some v) h p = omega arith
 
-pub most-plus : (m n : ℕ) (x y : Least) → AtMost m x → AtMost n y → AtMost (m + n) (plus x y)
+pub most-plus : (m n : ℕ) (x y : Least) → Capped m x → Capped n y → Capped (m + n) (add x y)
 most-plus m n none y p q = tt
 most-plus m n (some x) none p q = tt
 most-plus m n (some x) (some y) p q = omega arith
 
-most-meet : (m : ℕ) (x y : Least) → AtMost m x → AtMost m y → AtMost m (meet x y)
-unfolding meet
+most-meet : (m : ℕ) (x y : Least) → Capped m x → Capped m y → Capped m (smallerOf x y)
+unfolding smallerOf
 most-meet m none y p q = q
 most-meet m (some x) none p q = p
 most-meet m (some x) (some y) p q = omega arith
 
-pub most-least : (m : ℕ) (f : ℕ → Least) (a k : ℕ) → ((q : ℕ) → a ≤ q → q < a + k → AtMost m (f q)) → AtMost m (least f a k)
-unfolding least meet
+pub most-least : (m : ℕ) (f : ℕ → Least) (a k : ℕ) → ((q : ℕ) → a ≤ q → q < a + k → Capped m (f q)) → Capped m (least f a k)
+unfolding least smallerOf
 most-least m f a zero h = tt
 most-least m f a (suc k) h = most-meet m (least f a k) (f (a + k)) (most-least m f a k (λ q u v. h q u (omega arith))) (h (a + k) (omega arith) (omega arith))
 
-module _ (S : Sides) (C : ℕ → ℕ → Least) (level : (j : ℕ) → S .lo j ≤ S .hi j) (cheap : (j q : ℕ) → AtMost (2 ^ 32) (C j q)) where
-  most-local : (r : ℕ) (rest : List ℕ) (a b q : ℕ) → a ≤ q → q < b → ((a b : ℕ) → AtMost (count S a b rest * 2 ^ 32) (best S C rest a b))
-      → AtMost ((1 + count S a b rest) * 2 ^ 32) (local S C r rest a b q)
-  most-local r rest a b q aq qb ih = go (parted S a b q rest) refl
+module _ (S : Sides) (C : ℕ → ℕ → Least) (level : (j : ℕ) → S .lo j ≤ S .hi j) (cheap : (j q : ℕ) → Capped (2 ^ 32) (C j q)) where
+  most-local : (r : ℕ) (rest : List ℕ) (a b q : ℕ) → a ≤ q → q < b → ((a b : ℕ) → Capped (padsIn S a b rest * 2 ^ 32) (bestWithin S C rest a b))
+      → Capped ((1 + padsIn S a b rest) * 2 ^ 32) (localWithin S C r rest a b q)
+  most-local r rest a b q aq qb ih = go (partedWithin S a b q rest) refl
     where
-      go : (x : Bool) → parted S a b q rest ≡ x → AtMost ((1 + count S a b rest) * 2 ^ 32) (local S C r rest a b q)
-      go false e = subst (AtMost ((1 + count S a b rest) * 2 ^ 32)) (sym (local-blocked S C r rest a b q aq qb e)) tt
+      go : (x : Bool) → partedWithin S a b q rest ≡ x → Capped ((1 + padsIn S a b rest) * 2 ^ 32) (localWithin S C r rest a b q)
+      go false e = subst (Capped ((1 + padsIn S a b rest) * 2 ^ 32)) (sym (local-blocked S C r rest a b q aq qb e)) tt
       go true e =
           let all = parts-most S level a b q aq qb rest in
-          subst (AtMost ((1 + count S a b rest) * 2 ^ 32)) (sym (local-parted S C r rest a b q aq qb e))
-          (most-mono (2 ^ 32 + (count S a q rest * 2 ^ 32 + count S (q + 1) b rest * 2 ^ 32)) ((1 + count S a b rest) * 2 ^ 32)
-          (plus (C r q) (plus (best S C rest a q) (best S C rest (q + 1) b))) (omega arith)
-          (most-plus (2 ^ 32) (count S a q rest * 2 ^ 32 + count S (q + 1) b rest * 2 ^ 32) (C r q) (plus (best S C rest a q) (best S C rest (q + 1) b)) (cheap r q)
-          (most-plus (count S a q rest * 2 ^ 32) (count S (q + 1) b rest * 2 ^ 32) (best S C rest a q) (best S C rest (q + 1) b) (ih a q) (ih (q + 1) b))))
+          subst (Capped ((1 + padsIn S a b rest) * 2 ^ 32)) (sym (local-parted S C r rest a b q aq qb e))
+          (most-mono (2 ^ 32 + (padsIn S a q rest * 2 ^ 32 + padsIn S (q + 1) b rest * 2 ^ 32)) ((1 + padsIn S a b rest) * 2 ^ 32)
+          (add (C r q) (add (bestWithin S C rest a q) (bestWithin S C rest (q + 1) b))) (omega arith)
+          (most-plus (2 ^ 32) (padsIn S a q rest * 2 ^ 32 + padsIn S (q + 1) b rest * 2 ^ 32) (C r q) (add (bestWithin S C rest a q) (bestWithin S C rest (q + 1) b)) (cheap r q)
+          (most-plus (padsIn S a q rest * 2 ^ 32) (padsIn S (q + 1) b rest * 2 ^ 32) (bestWithin S C rest a q) (bestWithin S C rest (q + 1) b) (ih a q) (ih (q + 1) b))))
 
   -- each pad costs less than 2 ^ 32
-  pub most-best : (js : List ℕ) (a b : ℕ) → AtMost (count S a b js * 2 ^ 32) (best S C js a b)
-  unfolding count
-  most-best [] a b = subst (AtMost 0) (sym (best-nil S C a b)) zero-le
+  pub most-best : (js : List ℕ) (a b : ℕ) → Capped (padsIn S a b js * 2 ^ 32) (bestWithin S C js a b)
+  unfolding padsIn
+  most-best [] a b = subst (Capped 0) (sym (best-within-nil S C a b)) zero-le
   most-best (r ∷ rest) a b = go (fits S a b r) refl (λ a b. most-best rest a b)
     where
-      go : (x : Bool) → fits S a b r ≡ x → ((a b : ℕ) → AtMost (count S a b rest * 2 ^ 32) (best S C rest a b))
-          → AtMost ((bit x + count S a b rest) * 2 ^ 32) (best S C (r ∷ rest) a b)
+      go : (x : Bool) → fits S a b r ≡ x → ((a b : ℕ) → Capped (padsIn S a b rest * 2 ^ 32) (bestWithin S C rest a b))
+          → Capped ((bit x + padsIn S a b rest) * 2 ^ 32) (bestWithin S C (r ∷ rest) a b)
       go true e ih =
-          subst (AtMost ((1 + count S a b rest) * 2 ^ 32)) (sym (best-in S C r rest a b e))
-          (most-least ((1 + count S a b rest) * 2 ^ 32) (local S C r rest a b) a (b - a) (λ q u v. most-local r rest a b q u (omega arith) ih))
+          subst (Capped ((1 + padsIn S a b rest) * 2 ^ 32)) (sym (best-in S C r rest a b e))
+          (most-least ((1 + padsIn S a b rest) * 2 ^ 32) (localWithin S C r rest a b) a (b - a) (λ q u v. most-local r rest a b q u (omega arith) ih))
       go false e ih =
-          subst (AtMost ((0 + count S a b rest) * 2 ^ 32)) (sym (best-out S C r rest a b e))
-          (most-mono (count S a b rest * 2 ^ 32) ((0 + count S a b rest) * 2 ^ 32) (best S C rest a b) (omega arith) (ih a b))
+          subst (Capped ((0 + padsIn S a b rest) * 2 ^ 32)) (sym (best-out S C r rest a b e))
+          (most-mono (padsIn S a b rest * 2 ^ 32) ((0 + padsIn S a b rest) * 2 ^ 32) (bestWithin S C rest a b) (omega arith) (ih a b))
 
-  pub local-most : (r : ℕ) (rest : List ℕ) (a b q : ℕ) → a ≤ q → q < b → AtMost ((1 + count S a b rest) * 2 ^ 32) (local S C r rest a b q)
+  pub local-most : (r : ℕ) (rest : List ℕ) (a b q : ℕ) → a ≤ q → q < b → Capped ((1 + padsIn S a b rest) * 2 ^ 32) (localWithin S C r rest a b q)
   local-most r rest a b q aq qb = most-local r rest a b q aq qb (λ a b. most-best rest a b)
 
 -- ---- totals as the code holds them
 
-pub coded-none : (m : ℕ) (o : Least) → AtMost m o → m < 2 ^ 40 → coded o ≡ noTotal → o ≡ none
+pub coded-none : (m : ℕ) (o : Least) → Capped m o → m < 2 ^ 40 → coded o ≡ noTotal → o ≡ none
 coded-none m none p h e = refl
 coded-none m (some v) p h e = absurd (omega arith)
 
@@ -163,8 +163,8 @@ pub coded-some : (o : Least) → (coded o ≡ noTotal → ⊥) → o ≡ some (c
 coded-some none h = absurd (h refl)
 coded-some (some v) h = refl
 
-pub coded-meet : (m n : ℕ) (x y : Least) → AtMost m x → AtMost n y → m < 2 ^ 40 → n < 2 ^ 40 → coded (meet x y) ≡ min (coded x) (coded y)
-unfolding meet
+pub coded-meet : (m n : ℕ) (x y : Least) → Capped m x → Capped n y → m < 2 ^ 40 → n < 2 ^ 40 → coded (smallerOf x y) ≡ min (coded x) (coded y)
+unfolding smallerOf
 coded-meet m n none none p q u v = refl
 coded-meet m n none (some y) p q u v = omega arith
 coded-meet m n (some x) none p q u v = omega arith
@@ -172,16 +172,16 @@ coded-meet m n (some x) (some y) p q u v = refl
 
 -- no port
 pub coded-least-none : (f : ℕ → Least) (a : ℕ) → noTotal ≡ coded (least f a (a - a))
-unfolding least meet
+unfolding least smallerOf
 coded-least-none f a = let e : a - a ≡ 0 = omega arith in ap (λ (k : ℕ). coded (least f a k)) (sym e)
 
 -- one port more
-pub coded-least : (m : ℕ) (f : ℕ → Least) (a q : ℕ) → m < 2 ^ 40 → a ≤ q → ((i : ℕ) → a ≤ i → i < q + 1 → AtMost m (f i))
+pub coded-least : (m : ℕ) (f : ℕ → Least) (a q : ℕ) → m < 2 ^ 40 → a ≤ q → ((i : ℕ) → a ≤ i → i < q + 1 → Capped m (f i))
     → min (coded (least f a (q - a))) (coded (f q)) ≡ coded (least f a (q + 1 - a))
-unfolding least meet
+unfolding least smallerOf
 coded-least m f a q small aq h =
     let e : a + (q - a) ≡ q = omega arith in
     let e′ : q + 1 - a ≡ suc (q - a) = omega arith in
     sym (coded-meet m m (least f a (q - a)) (f q) (most-least m f a (q - a) (λ i u v. h i u (omega arith))) (h q aq (omega arith)) small small)
-    ∙ ap (λ (k : ℕ). coded (meet (least f a (q - a)) (f k))) (sym e)
+    ∙ ap (λ (k : ℕ). coded (smallerOf (least f a (q - a)) (f k))) (sym e)
     ∙ ap (λ (k : ℕ). coded (least f a k)) (sym e′)

@@ -7,19 +7,19 @@ use mathlib.Core.List.{List}
 use Prim.Native.Nat.{ℕ, zero, suc, _+_, _-_, _*_, _^_, _≤_, _<_}
 use lib.ListN.{length, getD, drop}
 use Rattle.strips.specs.Lists.{keep}
-use Rattle.strips.specs.Board.{Board, LocalBest}
-use Rattle.strips.specs.Board as strip
+use Rattle.strips.specs.Grid.{Grid, LocalBest}
+use Rattle.strips.specs.Grid as strip
 use Rattle.strips.specs.Prefix.{lies, Lies}
-use Rattle.pads.specs.Pads.{Sides, count, sides, Head}
-use Rattle.totals.specs.Strip.{board, best, local}
+use Rattle.pads.specs.Pads.{Sides, padsIn, sidesOf, Head}
+use Rattle.totals.specs.Strip.{grid, bestWithin, localWithin}
 
 -- the figures that slices hold
 abbrev pub figures : List ℕ → ℕ → ℕ → ℕ → Least
 figures cs n j q = some (getD cs (j * n + q) 0)
 
 -- the board that slices hold
-abbrev pub boardOf : List ℕ → List ℕ → List ℕ → List ℕ → Board
-boardOf order cs lo hi = board (sides lo hi) (figures cs (length order))
+abbrev pub gridOf : List ℕ → List ℕ → List ℕ → List ℕ → Grid
+gridOf order cs lo hi = grid (sidesOf lo hi) (figures cs (length order))
 
 -- a total as the code holds it: the largest u64 stands for none
 abbrev pub noTotal : ℕ
@@ -31,24 +31,24 @@ coded (some v) = v
 
 -- the least total of all pads on all ports, as the code holds it
 abbrev pub leastOf : List ℕ → List ℕ → List ℕ → List ℕ → ℕ
-leastOf order cs lo hi = coded (strip.best (boardOf order cs lo hi) order 0 (length order))
+leastOf order cs lo hi = coded (strip.best (gridOf order cs lo hi) order 0 (length order))
 
--- `local` of the pad at place r of order and the pads after it, from lists
+-- `localWithin` of the pad at place r of order and the pads after it, from lists
 abbrev pub choice : List ℕ → List ℕ → List ℕ → List ℕ → ℕ → ℕ → ℕ → ℕ → Least
-choice order cs lo hi r a b = local (sides lo hi) (figures cs (length order)) (getD order r 0) (drop (r + 1) order) a b
+choice order cs lo hi r a b = localWithin (sidesOf lo hi) (figures cs (length order)) (getD order r 0) (drop (r + 1) order) a b
 
 -- h is the strip's head, and v the best total of its pads
 pub record Valued (S : Sides) (C : ℕ → ℕ → Least) (order : List ℕ) (a b h v : ℕ) : Type 0 where
   pub head : Head S order a b h
-  pub value : (s : ℕ) → h ≡ s + 1 → v ≡ coded (best S C (drop s order) a b)
+  pub value : (s : ℕ) → h ≡ s + 1 → v ≡ coded (bestWithin S C (drop s order) a b)
   pub nothing : h ≡ 0 → v ≡ noTotal
 
 -- h is 1 more than the place of the rightmost of the strip's b - a pads, and v is their best total; h is 0 where the strip has too few pads or no layout
 pub record Cell (S : Sides) (C : ℕ → ℕ → Least) (order : List ℕ) (a b h v : ℕ) : Type 0 where
   pub top : h ≤ length order + 1
-  pub past : (k : ℕ) → h ≤ k → k ≤ length order → count S a b (drop k order) ≡ b - a → best S C (drop k order) a b ≡ none
-  pub full : (s : ℕ) → h ≡ s + 1 → count S a b (drop s order) ≡ b - a
-  pub value : (s : ℕ) → h ≡ s + 1 → best S C (drop s order) a b ≡ some v
+  pub past : (k : ℕ) → h ≤ k → k ≤ length order → padsIn S a b (drop k order) ≡ b - a → bestWithin S C (drop k order) a b ≡ none
+  pub full : (s : ℕ) → h ≡ s + 1 → padsIn S a b (drop s order) ≡ b - a
+  pub value : (s : ℕ) → h ≡ s + 1 → bestWithin S C (drop s order) a b ≡ some v
   pub nothing : h ≡ 0 → v ≡ noTotal
 
 -- the tables have a place for each strip of 64 ports, and the figures are those of each pad with each port
@@ -62,7 +62,7 @@ pub record Sizes (hs ts order cs : List ℕ) : Type 0 where
 pub record Strip (S : Sides) (order : List ℕ) (a b r : ℕ) : Type 0 where
   pub ports : b ≤ length order
   pub listed : r < length order
-  pub rest : count S a b (drop (r + 1) order) + 1 ≡ b - a
+  pub rest : padsIn S a b (drop (r + 1) order) + 1 ≡ b - a
 
 -- how many strips end before port b, those of no ports too: 1 + 2 + .. + b
 unfoldable pub cornerOf : ℕ → ℕ
@@ -101,7 +101,7 @@ Rows S C order hs ts a = (a′ b′ : ℕ) → a ≤ a′ → a′ ≤ b′ → 
 
 -- the same of the lists that the code has
 abbrev pub RowsOf : List ℕ → List ℕ → List ℕ → List ℕ → List ℕ → List ℕ → ℕ → Type 0
-RowsOf order cs lo hi hs ts a = Rows (sides lo hi) (figures cs (length order)) order hs ts a
+RowsOf order cs lo hi hs ts a = Rows (sidesOf lo hi) (figures cs (length order)) order hs ts a
 
 -- the strips that a port q of a .. b - 1 leaves below and above it are right
 abbrev pub Parts : Sides → (ℕ → ℕ → Least) → List ℕ → List ℕ → List ℕ → ℕ → ℕ → Type 0
@@ -111,10 +111,10 @@ Parts S C order hs ts a b =
 
 -- the same of the lists that the code has
 abbrev pub PartsOf : List ℕ → List ℕ → List ℕ → List ℕ → List ℕ → List ℕ → ℕ → ℕ → Type 0
-PartsOf order cs lo hi hs ts a b = Parts (sides lo hi) (figures cs (length order)) order hs ts a b
+PartsOf order cs lo hi hs ts a b = Parts (sidesOf lo hi) (figures cs (length order)) order hs ts a b
 
 -- the short lists rh and rt have at q what the tables have of the strip a .. q - 1, for each q from a to b - 1
-pub record Copied (rh rt hs ts : List ℕ) (a b : ℕ) : Type 0 where
+pub record CopiedRow (rh rt hs ts : List ℕ) (a b : ℕ) : Type 0 where
   pub heads : length rh ≡ 65
   pub totals : length rt ≡ 65
   pub same : (q : ℕ) → a ≤ q → q < b → (getD rh q 0 ≡ getD hs (place a q) 0) × (getD rt q 0 ≡ getD ts (place a q) 0)
@@ -122,17 +122,17 @@ pub record Copied (rh rt hs ts : List ℕ) (a b : ℕ) : Type 0 where
 -- the tables are right, for the pads `order` with the sides lo and hi and the figures cs
 pub record Table (order cs lo hi hs ts : List ℕ) : Type 0 where
   pub sizes : Sizes hs ts order cs
-  pub rows : Rows (sides lo hi) (figures cs (length order)) order hs ts 0
+  pub rows : Rows (sidesOf lo hi) (figures cs (length order)) order hs ts 0
 
 -- the pad at place r lies in the strip a .. b - 1, which it and the pads after it fill: a pad for each port
-pub record Ready (B : Board) (order : List ℕ) (r a b : ℕ) : Type 0 where
+pub record FullFrom (B : Grid) (order : List ℕ) (r a b : ℕ) : Type 0 where
   pub ports : b ≤ length order
   pub listed : r < length order
   pub here : Lies B a b (getD order r 0)
   pub full : length (keep (lies B a b) (drop (r + 1) order)) + 1 ≡ b - a
 
 -- port q is a locally best one for the pad at place r, in the strip a .. b - 1
-abbrev pub Leads : Board → List ℕ → ℕ → ℕ → ℕ → ℕ → Type 0
+abbrev pub Leads : Grid → List ℕ → ℕ → ℕ → ℕ → ℕ → Type 0
 Leads B order r a b q = LocalBest B (getD order r 0) (keep (lies B a b) (drop (r + 1) order)) a b q
 
 -- q is the first of the ports p .. b - 1 of which Q holds, or b

@@ -4,8 +4,8 @@ use mathlib.Core.List.{List, [], _∷_}
 use Prim.Native.Nat.{ℕ, _+_}
 use Rattle.strips.specs.Least.{Least, none, some}
 use Rattle.strips.specs.Lists.{keep}
-use Rattle.strips.specs.Board.{Board}
-use Rattle.strips.specs.Board as strip
+use Rattle.strips.specs.Grid.{Grid}
+use Rattle.strips.specs.Grid as strip
 use Rattle.pads.specs.Pads.{Sides, fits}
 
 -- a pad that lies in the whole (x) lies in the part below (y) or in the part above (z)
@@ -14,9 +14,9 @@ cut true y z = y || z
 cut false y z = true
 
 -- no pad of js in a .. b - 1 is in the way of an arm on port q
-unfoldable pub parted : Sides → ℕ → ℕ → ℕ → List ℕ → Bool
-parted S a b q [] = true
-parted S a b q (j ∷ js) = cut (fits S a b j) (fits S a q j) (fits S (q + 1) b j) && parted S a b q js
+unfoldable pub partedWithin : Sides → ℕ → ℕ → ℕ → List ℕ → Bool
+partedWithin S a b q [] = true
+partedWithin S a b q (j ∷ js) = cut (fits S a b j) (fits S a q j) (fits S (q + 1) b j) && partedWithin S a b q js
 
 -- a figure may be none, where a pad may not use a port
 abbrev pub given : Least → Bool
@@ -28,13 +28,13 @@ value none = 0
 value (some v) = v
 
 -- the board of sides and figures
-abbrev pub board : Sides → (ℕ → ℕ → Least) → Board
-board S C = record { lo = S .lo; hi = S .hi; ok = λ j q. given (C j q); cost = λ j q. value (C j q) }
+abbrev pub grid : Sides → (ℕ → ℕ → Least) → Grid
+grid S C = record { lo = S .lo; hi = S .hi; ok = λ j q. given (C j q); cost = λ j q. value (C j q) }
 
 -- the least total of the pads of js that lie in the strip a .. b - 1, led to ports of the strip with no two touching
-unfoldable pub best : Sides → (ℕ → ℕ → Least) → List ℕ → ℕ → ℕ → Least
-best S C js a b = strip.best (board S C) (keep (fits S a b) js) a b
+unfoldable pub bestWithin : Sides → (ℕ → ℕ → Least) → List ℕ → ℕ → ℕ → Least
+bestWithin S C js a b = strip.best (grid S C) (keep (fits S a b) js) a b
 
 -- the same with the first pad, r, on port q
-unfoldable pub local : Sides → (ℕ → ℕ → Least) → ℕ → List ℕ → ℕ → ℕ → ℕ → Least
-local S C r rest a b q = strip.local (board S C) r (keep (fits S a b) rest) a b q
+unfoldable pub localWithin : Sides → (ℕ → ℕ → Least) → ℕ → List ℕ → ℕ → ℕ → ℕ → Least
+localWithin S C r rest a b q = strip.local (grid S C) r (keep (fits S a b) rest) a b q

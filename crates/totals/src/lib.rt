@@ -10,9 +10,9 @@ ghost use Prim.Native.Nat.{_+_, _-_, _*_, _^_, _≤_, _<_, min};
 ghost use lib.Dec.{eqb};
 ghost use lib.ListN.{length, getD};
 ghost use Rattle.strips.specs.Least.{least};
-ghost use Rattle.pads.specs.Pads.{sides, Pads, Head};
-ghost use Rattle.totals.specs.Cell.{noTotal, figures, boardOf, choice, coded, Sizes, Strip, Ready, Leads, NextPort};
-ghost use Rattle.totals.specs.Cell.{PartsOf, Table, cornerOf, Port, opens, sumAt, portTotal, Valued, Copied};
+ghost use Rattle.pads.specs.Pads.{sidesOf, Pads, Head};
+ghost use Rattle.totals.specs.Cell.{noTotal, figures, gridOf, choice, coded, Sizes, Strip, FullFrom, Leads, NextPort};
+ghost use Rattle.totals.specs.Cell.{PartsOf, Table, cornerOf, Port, opens, sumAt, portTotal, Valued, CopiedRow};
 
 const NONE: u64 = 18446744073709551615;
 
@@ -130,9 +130,9 @@ fn least_total(
 ) -> u64
     requires { ⌜ Pads (now order) (now lo) (now hi) ⌝ }
     requires { ⌜ Sizes (now heads) (now totals) (now order) (now cost) ⌝ }
-    requires { ⌜ Strip (sides (now lo) (now hi)) (now order) a b r ⌝ }
+    requires { ⌜ Strip (sidesOf (now lo) (now hi)) (now order) a b r ⌝ }
     requires { ⌜ PartsOf (now order) (now cost) (now lo) (now hi) (now heads) (now totals) a b ⌝ }
-    requires { ⌜ Copied (now lows) (now sums) (now heads) (now totals) a b ⌝ }
+    requires { ⌜ CopiedRow (now lows) (now sums) (now heads) (now totals) a b ⌝ }
     ensures { λ v. ⌜ v ≡ coded (least (choice (now (order .entry)) (now (cost .entry)) (now (lo .entry)) (now (hi .entry)) r a b) a (b - a)) ⌝ }
 {
     let row = order[r] as usize * order.len();
@@ -163,10 +163,10 @@ pub fn strip_total(
 ) -> u64
     requires { ⌜ Pads (now order) (now lo) (now hi) ⌝ }
     requires { ⌜ Sizes (now heads) (now totals) (now order) (now cost) ⌝ }
-    requires { ⌜ (a ≤ b) × (b ≤ length (now order)) × Head (sides (now lo) (now hi)) (now order) a b h ⌝ }
+    requires { ⌜ (a ≤ b) × (b ≤ length (now order)) × Head (sidesOf (now lo) (now hi)) (now order) a b h ⌝ }
     requires { ⌜ PartsOf (now order) (now cost) (now lo) (now hi) (now heads) (now totals) a b ⌝ }
-    requires { ⌜ Copied (now lows) (now sums) (now heads) (now totals) a b ⌝ }
-    ensures { λ v. ⌜ Valued (sides (now (lo .entry)) (now (hi .entry))) (figures (now (cost .entry)) (length (now (order .entry)))) (now (order .entry)) a b h v ⌝ }
+    requires { ⌜ CopiedRow (now lows) (now sums) (now heads) (now totals) a b ⌝ }
+    ensures { λ v. ⌜ Valued (sidesOf (now (lo .entry)) (now (hi .entry))) (figures (now (cost .entry)) (length (now (order .entry)))) (now (order .entry)) a b h v ⌝ }
 {
     if h == 0 {
         return NONE;
@@ -200,9 +200,9 @@ pub fn next_port(
 ) -> usize
     requires { ⌜ Pads (now order) (now lo) (now hi) ⌝ }
     requires { ⌜ Table (now order) (now cost) (now lo) (now hi) (now heads) (now totals) ⌝ }
-    requires { ⌜ Ready (boardOf (now order) (now cost) (now lo) (now hi)) (now order) r a b ⌝ }
+    requires { ⌜ FullFrom (gridOf (now order) (now cost) (now lo) (now hi)) (now order) r a b ⌝ }
     requires { ⌜ (a ≤ from) × (from ≤ b) ⌝ }
-    ensures { λ q. ⌜ NextPort (Leads (boardOf (now (order .entry)) (now (cost .entry)) (now (lo .entry)) (now (hi .entry))) (now (order .entry)) r a b) from b q ⌝ }
+    ensures { λ q. ⌜ NextPort (Leads (gridOf (now (order .entry)) (now (cost .entry)) (now (lo .entry)) (now (hi .entry))) (now (order .entry)) r a b) from b q ⌝ }
 {
     let row = order[r] as usize * order.len();
     let past = (r + 1) as u8;

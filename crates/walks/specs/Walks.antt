@@ -6,7 +6,7 @@ use mathlib.Core.List.{List}
 use Prim.Native.Nat.{ℕ, zero, suc, _*_, _≤_, _<_}
 use lib.ListN.{length}
 use Rattle.totals.specs.Cell.{leastOf}
-use Rattle.steps.specs.Steps.{Untouching, Solvable, BestLayout, FirstIs, NextIs, EndIs, Told}
+use Rattle.steps.specs.Steps.{UntouchingLayout, Solvable, BestLayout, FirstIs, NextIs, EndIs, SaysWhether}
 use Rattle.numbers.specs.Copies.{Copied}
 use Rattle.walks.specs.declared.Start.{Start}
 use Rattle.walks.specs.declared.Start.the-variants.{First, Given}
@@ -34,12 +34,12 @@ listRules order cs lo hi = record {
 -- A walk can start at the earliest layout if there is one, and at a given one if that is untouching.
 abbrev pub Startable : Start → List ℕ → List ℕ → List ℕ → List ℕ → List ℕ → Type 0
 Startable First order cs lo hi w = Solvable order cs lo hi
-Startable Given order cs lo hi w = Untouching order cs lo hi w
+Startable Given order cs lo hi w = UntouchingLayout order cs lo hi w
 
 -- l holds its first layout, where w was lent; r says whether that is best.
 abbrev pub Begins : Rules → Start → List ℕ → List ℕ → Bool → Type 0
 Begins R First w l r = (r ≡ true) × R .Earliest w l
-Begins R Given w l r = Told r (R .Best w) × (l ≡ w)
+Begins R Given w l r = SaysWhether r (R .Best w) × (l ≡ w)
 
 -- From w on k layouts of n entries came on the page, one after the other, each the next after the one before it; v holds the last.
 unfoldable pub Stepped : Rules → ℕ → List ℕ → List ℕ → List ℕ → List ℕ → ℕ → Type 0

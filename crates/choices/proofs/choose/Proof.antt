@@ -3,8 +3,8 @@ use Prim.Native.Nat.{_+_}
 use native.Mathlib.Omega.{arith}
 use borrow.Author.Needs.{needs}
 use lib.ListN.{getD}
-use Rattle.totals.specs.Cell.{boardOf}
-use Rattle.choices.proofs.Search.{choose-past, choose-none, choose-found}
+use Rattle.totals.specs.Cell.{gridOf}
+use Rattle.choices.proofs.Choosing.{choose-past, choose-none, choose-found}
 use Rattle.choices.proofs.choose.Statement.{statement}
 use Rattle.choices.proofs.choose.Tie as tie
 
@@ -28,7 +28,7 @@ larger-requires c κs = search needs
 
 returns : tie.Need-returns
 returns c = let s = c .before .before .before .before .before .before .before .before .before .before .before in
-    choose-past (boardOf (s .args .order .now) (s .args .cost .now) (s .args .lo .now) (s .args .hi .now)) (s .args .order .now) (s .args .m) (getD
+    choose-past (gridOf (s .args .order .now) (s .args .cost .now) (s .args .lo .now) (s .args .hi .now)) (s .args .order .now) (s .args .m) (getD
     (s .args .known .now) (s .args .m) 0) (getD (s .args .known .now) (64 + s .args .m) 0) (s .args .from)
     (omega (arith, c .before .larger .ensures, c .if1 .taken))
 
@@ -38,13 +38,13 @@ next-port-requires c κs = let s = c .before .before .before .before .before .be
 
 returns-2 : tie.Need-returns-2
 returns-2 c = let s = c .before .before .before .before .before .before .before .before .before .before .before .before .before in
-    choose-found (boardOf (s .args .order .now) (s .args .cost .now) (s .args .lo .now) (s .args .hi .now)) (s .args .order .now) (s .args .m) (getD
+    choose-found (gridOf (s .args .order .now) (s .args .cost .now) (s .args .lo .now) (s .args .hi .now)) (s .args .order .now) (s .args .m) (getD
     (s .args .known .now) (s .args .m) 0) (getD (s .args .known .now) (64 + s .args .m) 0) (s .args .from)
     (c .before .next-port .result) (rw (c .before .before .before .larger .ensures) at (c .before .next-port .ensures)) (c .if2 .taken)
 
 returns-3 : tie.Need-returns-3
 returns-3 c = let s = c .before .before .before .before .before .before .before .before .before .before .before .before .before in
-    choose-none (boardOf (s .args .order .now) (s .args .cost .now) (s .args .lo .now) (s .args .hi .now)) (s .args .order .now) (s .args .m) (getD
+    choose-none (gridOf (s .args .order .now) (s .args .cost .now) (s .args .lo .now) (s .args .hi .now)) (s .args .order .now) (s .args .m) (getD
     (s .args .known .now) (s .args .m) 0) (getD (s .args .known .now) (64 + s .args .m) 0) (s .args .from)
     (c .before .next-port .result) (rw (c .before .before .before .larger .ensures) at (c .before .next-port .ensures)) (c .if2 .left)
 

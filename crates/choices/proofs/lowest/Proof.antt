@@ -2,7 +2,7 @@
 use Prim.Native.Nat.{_+_, _<_}
 use native.Mathlib.Omega.{arith}
 use borrow.Author.Needs.{needs}
-use Rattle.choices.proofs.Search.{chosen-some}
+use Rattle.choices.proofs.Choosing.{chosen-some}
 use Rattle.choices.proofs.Memory.{settled-strip, settled-learnt, strip-look, strip-chosen, learnt-least}
 use Rattle.choices.proofs.lowest.Statement.{statement}
 use Rattle.choices.proofs.lowest.Tie as tie

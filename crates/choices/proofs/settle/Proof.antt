@@ -5,7 +5,7 @@ use borrow.Author.Needs.{needs}
 use lib.ListN.{getD}
 use Rattle.choices.specs.Memory.{firstPort, endPort}
 use Rattle.places.proofs.Ports.{low-floor, high-ceil}
-use Rattle.choices.proofs.Search.{lows}
+use Rattle.choices.proofs.Choosing.{lows}
 use Rattle.choices.proofs.settle.Statement.{statement}
 use Rattle.choices.proofs.settle.Tie as tie
 

@@ -4,7 +4,7 @@ use native.Mathlib.Omega.{arith}
 use Prim.Native.Nat.{_≤_}
 use lib.ListN.{length, length-set}
 use denote.Ref.{now}
-use Rattle.draw.proofs.Places.{four-places, six-places}
+use Rattle.draw.proofs.Setting.{four-places, six-places}
 use Rattle.draw.proofs.put.Statement.{statement}
 use Rattle.draw.proofs.put.Tie as tie
 

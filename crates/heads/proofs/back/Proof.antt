@@ -1,12 +1,12 @@
 -- `heads::back` meets its contract. The loop's invariant: `Scan`, m pads of the strip stand at place k or after it, fewer than b - a after it. Assumes nothing.
-use Rattle.pads.specs.Pads.{sides}
+use Rattle.pads.specs.Pads.{sidesOf}
 use Rattle.heads.proofs.Scan.{Scan, scan-start, scan-some, scan-step, scan-found, spans-most}
 use native.Mathlib.Omega.{arith}
 use Rattle.heads.proofs.back.Statement.{statement}
 use Rattle.heads.proofs.back.Tie as tie
 
 abbrev Inv-loop : tie.InvT-loop
-Inv-loop order lo hi a b from here w k₀ m₀ k m = Scan (sides lo hi) order a b k m
+Inv-loop order lo hi a b from here w k₀ m₀ k m = Scan (sidesOf lo hi) order a b k m
 
 abbrev μ-loop : tie.MeasureT-loop
 μ-loop order lo hi a b from here w k₀ m₀ k m = k

@@ -2,7 +2,7 @@
 use mathlib.Core.Path.{_≡_, _∙_}
 use Prim.Native.Nat.{_-_, _≤_}
 use lib.ListN.{length}
-use Rattle.pads.specs.Pads.{sides}
+use Rattle.pads.specs.Pads.{sidesOf}
 use Rattle.heads.specs.Heads.{EnteringAll}
 use Rattle.heads.proofs.Tallies.{enter-start, enter-end}
 use native.Mathlib.Omega.{arith}
@@ -10,7 +10,7 @@ use Rattle.heads.proofs.enter.Statement.{statement}
 use Rattle.heads.proofs.enter.Tie as tie
 
 abbrev Inv-loop : tie.InvT-loop
-Inv-loop at seen₀ all₀ order lo hi a i₀ seen all i = (i ≤ length order) × (length seen ≡ 65) × (length all ≡ 65) × EnteringAll (sides lo hi) order at seen all a i
+Inv-loop at seen₀ all₀ order lo hi a i₀ seen all i = (i ≤ length order) × (length seen ≡ 65) × (length all ≡ 65) × EnteringAll (sidesOf lo hi) order at seen all a i
 
 abbrev μ-loop : tie.MeasureT-loop
 μ-loop at seen₀ all₀ order lo hi a i₀ seen all i = length order - i

@@ -2,7 +2,7 @@
 use mathlib.Core.Path.{_≡_, refl, ap}
 use Prim.Native.Nat.{ℕ, _+_, _-_, _≤_}
 use lib.ListN.{length, getD, length-set}
-use Rattle.pads.specs.Pads.{sides}
+use Rattle.pads.specs.Pads.{sidesOf}
 use Rattle.heads.proofs.Tallies.{Marking, enter-other, marking-start, marking-small, marking-step, marking-end}
 use native.Mathlib.Omega.{arith}
 use Rattle.heads.proofs.enter_pad.Statement.{statement}
@@ -10,7 +10,7 @@ use Rattle.heads.proofs.enter_pad.Tie as tie
 
 abbrev Inv-loop : tie.InvT-loop
 Inv-loop at seen₀ all₀ order lo hi a i n j place b₀ seen all b = (b ≤ length order + 1) × (getD hi (getD order i 0) 0 ≤ b) × (length seen ≡ 65) × (length all ≡ 65) ×
-    Marking (sides lo hi) order at seen all a i b
+    Marking (sidesOf lo hi) order at seen all a i b
 
 abbrev μ-loop : tie.MeasureT-loop
 μ-loop at seen₀ all₀ order lo hi a i n j place b₀ seen all b = length order + 1 - b
@@ -87,7 +87,7 @@ loop-holds c = let x = c .before .before .before .before .before .before .before
       p .1 .0 .counts,
       p .1 .0 .wholes,
       marking-start
-          (sides (x .lo .now) (x .hi .now)) (x .order .now) (x .a) (x .i) (p .1 .1 .0) (c .before .if1 .left) _ _ _ (p .1 .1 .1),
+          (sidesOf (x .lo .now) (x .hi .now)) (x .order .now) (x .a) (x .i) (p .1 .1 .0) (c .before .if1 .left) _ _ _ (p .1 .1 .1),
     )
 
 slice-read-seen : tie.Need-slice-read-seen Inv-loop μ-loop
@@ -107,7 +107,7 @@ reached-requires c κs = tt
 add-seen : tie.Need-add-seen Inv-loop μ-loop
 add-seen c = let x = c .before .before .before .before .before .before .before .before .before .before .before .before .before .before .before .args in
     let p = c .before .before .before .before .before .before .before .before .before .before .before .before .before .before .before .pre in
-    let l = c .before .before .before .before .loop in let s = marking-small (sides (x .lo .now) (x .hi .now)) (x .order .now) (x .a) (x .i) (p .1 .1 .0)
+    let l = c .before .before .before .before .loop in let s = marking-small (sidesOf (x .lo .now) (x .hi .now)) (x .order .now) (x .a) (x .i) (p .1 .1 .0)
     (c .before .before .before .before .before .before .if1 .left) (x .at .now) (l .seen) (l .all) (l .b) (omega arith) (l .inv .4) in
     omega (arith, s .0, p .0 .few, c .reached .ensures .1)
 
@@ -128,7 +128,7 @@ slice-read-all c = omega (
 add-all : tie.Need-add-all Inv-loop μ-loop
 add-all c = let x = c .before .before .before .before .before .before .before .before .before .before .before .before .before .before .before .before .args in
     let p = c .before .before .before .before .before .before .before .before .before .before .before .before .before .before .before .before .pre in
-    let l = c .before .before .before .before .before .loop in let s = marking-small (sides (x .lo .now) (x .hi .now)) (x .order .now) (x .a) (x .i) (p .1 .1 .0)
+    let l = c .before .before .before .before .before .loop in let s = marking-small (sidesOf (x .lo .now) (x .hi .now)) (x .order .now) (x .a) (x .i) (p .1 .1 .0)
     (c .before .before .before .before .before .before .before .if1 .left) (x .at .now) (l .seen) (l .all) (l .b) (omega arith) (l .inv .4) in
     omega (arith, s .1, p .0 .few)
 
@@ -153,7 +153,7 @@ loop-again c = let x = c .before .before .before .before .before .before .before
       omega arith,
       simp length-set (l .inv .2),
       simp length-set (l .inv .3),
-      marking-step (sides (x .lo .now) (x .hi .now)) (x .order .now) (x .a) (x .i) (p .1 .1 .0) (c .before .before .before .before .before .before .before .if1 .left)
+      marking-step (sidesOf (x .lo .now) (x .hi .now)) (x .order .now) (x .a) (x .i) (p .1 .1 .0) (c .before .before .before .before .before .before .before .if1 .left)
           (x .at .now) (l .seen) (l .all) (l .b) _ _ (l .inv .2) (l .inv .3) (p .0 .few) (omega arith) (l .inv .1)
           (ap (λ (k : ℕ). getD (l .seen) (l .b) 0 + k) (c .before .reached .ensures .0)) refl (l .inv .4),
     )
@@ -167,7 +167,7 @@ same-length-2 c = omega arith
 returns-2 : tie.Need-returns-2 Inv-loop μ-loop
 returns-2 c = let x = c .before .before .before .before .before .before .before .before .before .before .before .before .args in
     let p = c .before .before .before .before .before .before .before .before .before .before .before .before .pre in let l = c .before .loop in
-    marking-end (sides (x .lo .now) (x .hi .now)) (x .order .now) (x .a) (x .i) (p .1 .1 .0) (c .before .before .before .if1 .left) (x .at .now) (l .seen) (l .all)
+    marking-end (sidesOf (x .lo .now) (x .hi .now)) (x .order .now) (x .a) (x .i) (p .1 .1 .0) (c .before .before .before .if1 .left) (x .at .now) (l .seen) (l .all)
     (l .b) (omega arith) (l .inv .4)
 
 pub enter-pad-spec : {M : Type 1} → statement M

@@ -2,7 +2,7 @@
 use mathlib.Core.Path.{sym}
 use Prim.Native.Nat.{_-_}
 use lib.ListN.{length}
-use Rattle.pads.specs.Pads.{sides}
+use Rattle.pads.specs.Pads.{sidesOf}
 use Rattle.pads.specs.Counts.{count-end}
 use Rattle.heads.proofs.Scan.{top-head, few-head, empty-head}
 use Rattle.heads.proofs.Tallies.{tallies-set}
@@ -45,9 +45,9 @@ same-length-2 c = search needs
 returns : tie.Need-returns
 returns c = let x = c .before .before .before .before .before .before .before .args in let p = c .before .before .before .before .before .before .before .pre in (
   empty-head _ _ _ _ (c .if1 .taken),
-  tallies-set (sides (x .lo .now) (x .hi .now)) (x .order .now) (x .at .now) (x .seen .now) (x .all .now) (x .a) (x .b) (length (x .order .now)) 0 (p .1 .0) (p .0 .few)
+  tallies-set (sidesOf (x .lo .now) (x .hi .now)) (x .order .now) (x .at .now) (x .seen .now) (x .all .now) (x .a) (x .b) (length (x .order .now)) 0 (p .1 .0) (p .0 .few)
       (p .1 .1 .0 .1) (omega arith)
-      (sym (count-end (sides (x .lo .now) (x .hi .now)) (x .order .now) (x .a) (x .b) (length (x .order .now)) (omega arith))) (p .1 .1 .1),
+      (sym (count-end (sidesOf (x .lo .now) (x .hi .now)) (x .order .now) (x .a) (x .b) (length (x .order .now)) (omega arith))) (p .1 .1 .1),
 )
 
 shared-slice-read-if2 : tie.Need-shared-slice-read-if2
@@ -133,7 +133,7 @@ returns-3 : tie.Need-returns-3
 returns-3 c = let x = c .before .before .before .before .before .before .before .before .before .before .before .before .args in
     let p = c .before .before .before .before .before .before .before .before .before .before .before .before .pre in let k = c .top .ensures in (
       top-head _ _ _ _ _ k,
-      tallies-set (sides (x .lo .now) (x .hi .now)) (x .order .now) (x .at .now) (x .seen .now) (x .all .now) (x .a) (x .b) (c .top .result) (x .b - x .a) (p .1 .0)
+      tallies-set (sidesOf (x .lo .now) (x .hi .now)) (x .order .now) (x .at .now) (x .seen .now) (x .all .now) (x .a) (x .b) (c .top .result) (x .b - x .a) (p .1 .0)
           (p .0 .few) (p .1 .1 .0 .1) (omega (arith, k .placed))
           (sym (k .full)) (p .1 .1 .1),
     )

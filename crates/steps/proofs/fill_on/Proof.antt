@@ -8,7 +8,7 @@ use lib.ListN.{length, length-set}
 use Rattle.places.specs.Places.{Entered}
 use Rattle.choices.specs.Memory.{Memory}
 use Rattle.steps.proofs.Filling.{places, working-with, placeable, Filling, filling-none, filling-more, filling-entered, filling-done}
-use Rattle.choices.proofs.Search.{chosen-some}
+use Rattle.choices.proofs.Choosing.{chosen-some}
 use Rattle.choices.proofs.Memory.{memory-part, memory-more, memory-store}
 use Rattle.steps.proofs.fill_on.Statement.{statement}
 use Rattle.steps.proofs.fill_on.Tie as tie

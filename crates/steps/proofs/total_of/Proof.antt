@@ -3,21 +3,21 @@ use mathlib.Core.Path.{_≡_, _∙_, ap}
 use Prim.Native.Nat.{_-_, _*_, _^_, _≤_}
 use native.Mathlib.Omega.{arith}
 use lib.ListN.{length, drop}
-use Rattle.strips.specs.Board.{sum}
-use Rattle.places.specs.Places.{portOf}
+use Rattle.strips.specs.Grid.{costSum}
+use Rattle.places.specs.Places.{portIn}
 use Rattle.steps.specs.Steps.{figureOf}
 use Rattle.steps.proofs.Whole.{sum-none, sum-step}
 use Rattle.steps.proofs.total_of.Statement.{statement}
 use Rattle.steps.proofs.total_of.Tie as tie
 
 abbrev Inv-loop : tie.InvT-loop
-Inv-loop order cost w n s₀ k₀ s k = (k ≤ length order) × (s ≡ sum (figureOf cost (length order)) (drop k order) (portOf w)) × (s ≤ (length order - k) * 2 ^ 32)
+Inv-loop order cost w n s₀ k₀ s k = (k ≤ length order) × (s ≡ costSum (figureOf cost (length order)) (drop k order) (portIn w)) × (s ≤ (length order - k) * 2 ^ 32)
 
 abbrev μ-loop : tie.MeasureT-loop
 μ-loop order cost w n s₀ k₀ s k = k
 
 loop-holds : tie.Need-loop-holds Inv-loop μ-loop
-loop-holds c = let s = c .before .before .before .args in (omega arith, sum-none _ (s .order .now) (portOf (s .w .now)), omega arith)
+loop-holds c = let s = c .before .before .before .args in (omega arith, sum-none _ (s .order .now) (portIn (s .w .now)), omega arith)
 
 sub-k : tie.Need-sub-k Inv-loop μ-loop
 sub-k c = omega arith
@@ -55,14 +55,14 @@ loop-again : tie.Need-loop-again Inv-loop μ-loop
 loop-again c =
     let l = c .before .before .before .before .before .loop in let m = c .before .before .before .before .before .before .before .before .before .pre in
     let s = c .before .before .before .before .before .before .before .before .before .args in
-    let e = sum-step (figureOf (s .cost .now) (length (s .order .now))) (s .order .now) (portOf (s .w .now)) (l .k) (omega arith) (omega arith) in
+    let e = sum-step (figureOf (s .cost .now) (length (s .order .now))) (s .order .now) (portIn (s .w .now)) (l .k) (omega arith) (omega arith) in
     let f = rw (c .before .wide .ensures .0) at (c .figure .ensures .0) in
     (omega arith, omega (arith, e, f, l .inv .1), omega (arith, c .figure .ensures .1))
 
 returns : tie.Need-returns Inv-loop μ-loop
 returns c =
     let l = c .before .loop in let s = c .before .before .before .before .before .args in
-    let e : l .k ≡ 0 = omega arith in l .inv .1 ∙ ap (λ k. sum (figureOf (s .cost .now) (length (s .order .now))) (drop k (s .order .now)) (portOf (s .w .now))) e
+    let e : l .k ≡ 0 = omega arith in l .inv .1 ∙ ap (λ k. costSum (figureOf (s .cost .now) (length (s .order .now))) (drop k (s .order .now)) (portIn (s .w .now))) e
 
 pub total-of-spec : {M : Type 1} → statement M
 total-of-spec = tie.close (tie.spec Inv-loop μ-loop loop-holds sub-k shared-slice-read-j cast-j mul-wide shared-slice-read-wide wide-requires figure-requires add-sum

@@ -3,7 +3,7 @@
 use mathlib.Core.Path.{_≡_, refl, sym, ap, _∙_}
 use Prim.Native.Nat.{ℕ, _+_, _-_, _≤_}
 use lib.ListN.{length, getD}
-use Rattle.pads.specs.Pads.{sides}
+use Rattle.pads.specs.Pads.{sidesOf}
 use Rattle.totals.specs.Cell.{figures, Rows, Table}
 use Rattle.heads.specs.Heads.{Rooms, Tallies}
 use Rattle.heads.proofs.Tallies.{tallies-none}
@@ -14,8 +14,8 @@ use Rattle.table.proofs.fill.Tie as tie
 
 abbrev Inv-loop : tie.InvT-loop
 Inv-loop heads₀ totals₀ order cost lo hi at₀ seen₀ all₀ lows₀ sums₀ a₀ heads totals at seen all lows sums a = (a ≤ length order + 1)
-    × (length heads ≡ 2145) × (length totals ≡ 2145) × Rooms at seen all × Tallies (sides lo hi) order at seen all a
-    × Rows (sides lo hi) (figures cost (length order)) order heads totals a × (length lows ≡ 65) × (length sums ≡ 65)
+    × (length heads ≡ 2145) × (length totals ≡ 2145) × Rooms at seen all × Tallies (sidesOf lo hi) order at seen all a
+    × Rows (sidesOf lo hi) (figures cost (length order)) order heads totals a × (length lows ≡ 65) × (length sums ≡ 65)
 
 abbrev μ-loop : tie.MeasureT-loop
 μ-loop heads₀ totals₀ order cost lo hi at₀ seen₀ all₀ lows₀ sums₀ a₀ heads totals at seen all lows sums a = a
@@ -29,7 +29,7 @@ loop-holds c = let s = c .before .before .before .before .before .before in let 
   p .1 .0,
   p .1 .1,
   record { places = refl; counts = refl; wholes = refl },
-  tallies-none (sides (x .lo .now) (x .hi .now)) (x .order .now) _
+  tallies-none (sidesOf (x .lo .now) (x .hi .now)) (x .order .now) _
       (λ j. omega (arith, p .0 .level j, p .0 .top j)) (p .0 .few),
   λ a′ b′ u v w. absurd (omega arith),
   refl,

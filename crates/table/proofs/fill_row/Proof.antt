@@ -1,10 +1,10 @@
--- `table::fill_row` meets its contract. The loop's invariant: the row is right before b (`Rows.Row`), the short lists have it (`Copied`), what is kept for the next
+-- `table::fill_row` meets its contract. The loop's invariant: the row is right before b (`Rows.Row`), the short lists have it (`CopiedRow`), what is kept for the next
 -- row is right, and the lists keep their lengths. Assumes nothing.
 use mathlib.Core.Path.{_≡_, _∙_}
 use Prim.Native.Nat.{_+_, _-_, _≤_}
 use lib.ListN.{length, length-set}
-use Rattle.pads.specs.Pads.{sides}
-use Rattle.totals.specs.Cell.{figures, Copied}
+use Rattle.pads.specs.Pads.{sidesOf}
+use Rattle.totals.specs.Cell.{figures, CopiedRow}
 use Rattle.heads.specs.Heads.{Tallies}
 use Rattle.totals.proofs.Cells.{figures-cheap, kept-cell}
 use Rattle.table.proofs.Rows.{Row, row-start, row-parts, row-step, row-end, copied-start, copied-step, sizes-with}
@@ -15,8 +15,8 @@ use Rattle.table.proofs.fill_row.Tie as tie
 
 abbrev Inv-loop : tie.InvT-loop
 Inv-loop lows₀ sums₀ heads₀ totals₀ at₀ seen₀ all order cost lo hi a n b₀ lows sums heads totals at seen b = (a ≤ b) × (b ≤ length order + 1)
-    × (length heads ≡ 2145) × (length totals ≡ 2145) × (length at ≡ 65) × (length seen ≡ 65) × Tallies (sides lo hi) order at seen all a
-    × Row (sides lo hi) (figures cost (length order)) order heads totals a b × Copied lows sums heads totals a b
+    × (length heads ≡ 2145) × (length totals ≡ 2145) × (length at ≡ 65) × (length seen ≡ 65) × Tallies (sidesOf lo hi) order at seen all a
+    × Row (sidesOf lo hi) (figures cost (length order)) order heads totals a b × CopiedRow lows sums heads totals a b
 
 abbrev μ-loop : tie.MeasureT-loop
 μ-loop lows₀ sums₀ heads₀ totals₀ at₀ seen₀ all order cost lo hi a n b₀ lows sums heads totals at seen b = length order + 1 - b

@@ -3,7 +3,7 @@ use mathlib.Core.Path.{_≡_, sym, ap, _∙_}
 use Prim.Native.Nat.{ℕ, _+_, _-_, _≤_, _<_}
 use mathlib.Core.Logic.{⊎-elim}
 use lib.ListN.{getD}
-use Rattle.totals.specs.Cell.{boardOf, Leads, place}
+use Rattle.totals.specs.Cell.{gridOf, Leads, place}
 use Rattle.pads.specs.Counts.{le-or-lt}
 use Rattle.totals.proofs.Corners.{corner-step, corner-top}
 use Rattle.totals.proofs.Ports.{row-small, in-table}
@@ -15,7 +15,7 @@ use Rattle.totals.proofs.next_port.Tie as tie
 
 abbrev Inv-loop : tie.InvT-loop
 Inv-loop heads totals order cost lo hi r a b from row past base best below₀ q₀ below q = (from ≤ q) × (q ≤ b) × (below ≡ place a q) × ((i : ℕ) → from ≤ i → i < q
-    → Leads (boardOf order cost lo hi) order r a b i → ⊥)
+    → Leads (gridOf order cost lo hi) order r a b i → ⊥)
 
 abbrev μ-loop : tie.MeasureT-loop
 μ-loop heads totals order cost lo hi r a b from row past base best below₀ q₀ below q = b - q

@@ -5,13 +5,13 @@ use Prim.Native.Nat.{ℕ, _≤_, _<_, max, zero-le}
 use native.Mathlib.Omega.{arith}
 use native.Mathlib.Decide.{decLt}
 use lib.ListN.{length, getD, take}
-use Rattle.strips.specs.Board.{Board}
+use Rattle.strips.specs.Grid.{Grid}
 use Rattle.strips.specs.Prefix.{floor-most, ceil-least, ceil-le}
-use Rattle.strips.specs.Places.{At, extends-choice, extends-full}
-use Rattle.totals.specs.Cell.{boardOf, Ready, Leads, NextPort}
+use Rattle.strips.specs.FirstNext.{At, extends-choice, extends-full}
+use Rattle.totals.specs.Cell.{gridOf, FullFrom, Leads, NextPort}
 use Rattle.pads.specs.Pads.{Pads}
-use Rattle.places.specs.Places.{portOf}
-use Rattle.choices.specs.Choices.{Proper, Working, Begun, Chosen}
+use Rattle.places.specs.Places.{portIn}
+use Rattle.choices.specs.Choices.{ProperLists, Working, Begun, Chosen}
 use Rattle.choices.specs.Memory.{firstPort, endPort}
 use Rattle.choices.specs.Lists.{listed}
 
@@ -21,19 +21,19 @@ lows P j = omega (arith, P .level j, P .top j)
 
 -- The strip of the pad at place m is one to look in.
 pub strip-ready : {order cs lo hi hs ts w : List ℕ} → Working order cs lo hi hs ts w → (m : ℕ) → m < length order → Begun order cs lo hi w m
-    → Ready (boardOf order cs lo hi) order m (firstPort order lo w m) (endPort order hi w m)
+    → FullFrom (gridOf order cs lo hi) order m (firstPort order lo w m) (endPort order hi w m)
 strip-ready {order} {cs} {lo} {hi} {w = w} W m inside E = record {
-  ports = ceil-le (portOf w) (getD hi (getD order m 0) 0) (take m order) (length order);
+  ports = ceil-le (portIn w) (getD hi (getD order m 0) 0) (take m order) (length order);
   listed = inside;
   here = record {
-    low = floor-most (portOf w) (getD lo (getD order m 0) 0) (take m order) 0 zero-le;
-    high = ceil-least (portOf w) (getD hi (getD order m 0) 0) (take m order) (length order) (W .proper .pads .top (getD order m 0));
+    low = floor-most (portIn w) (getD lo (getD order m 0) 0) (take m order) 0 zero-le;
+    high = ceil-least (portIn w) (getD hi (getD order m 0) 0) (take m order) (length order) (W .proper .pads .top (getD order m 0));
   };
-  full = extends-full (boardOf order cs lo hi) (length order) order (listed (W .proper)) m inside (portOf w) refl E;
+  full = extends-full (gridOf order cs lo hi) (length order) order (listed (W .proper)) m inside (portIn w) refl E;
 }
 
 -- What `choose` finds in a strip a .. b - 1.
-module _ (B : Board) (order : List ℕ) (m a b from : ℕ) where
+module _ (B : Grid) (order : List ℕ) (m a b from : ℕ) where
   pub choose-past : b ≤ max a from → Chosen (Leads B order m a b) from 64
   choose-past h = record {
     start = λ u. absurd (omega arith);
@@ -57,17 +57,17 @@ module _ (B : Board) (order : List ℕ) (m a b from : ℕ) where
     }
 
 -- A port is below 64.
-pub port-few : {order cs lo hi : List ℕ} (P : Proper order cs lo hi) (w : List ℕ) (m r : ℕ) → At (boardOf order cs lo hi) (length order) order (portOf w) m r → r < 64
+pub port-few : {order cs lo hi : List ℕ} (P : ProperLists order cs lo hi) (w : List ℕ) (m r : ℕ) → At (gridOf order cs lo hi) (length order) order (portIn w) m r → r < 64
 port-few {order} {cs} {lo} {hi} P w m r c =
-    let u = ceil-le (portOf w) (getD hi (getD order m 0) 0) (take m order) (length order) in omega (arith, c .high, P .pads .few)
+    let u = ceil-le (portIn w) (getD hi (getD order m 0) 0) (take m order) (length order) in omega (arith, c .high, P .pads .few)
 
 -- A prefix of a best layout can go on.
-pub chosen-some : {order cs lo hi : List ℕ} (w : List ℕ) (P : Proper order cs lo hi) (m : ℕ) → m < length order → Begun order cs lo hi w m → (q : ℕ)
-    → Chosen (At (boardOf order cs lo hi) (length order) order (portOf w) m) 0 q → q < 64
+pub chosen-some : {order cs lo hi : List ℕ} (w : List ℕ) (P : ProperLists order cs lo hi) (m : ℕ) → m < length order → Begun order cs lo hi w m → (q : ℕ)
+    → Chosen (At (gridOf order cs lo hi) (length order) order (portIn w) m) 0 q → q < 64
 chosen-some {order} {cs} {lo} {hi} w P m inside E q C = go (decLt q 64)
   where
-    c : At (boardOf order cs lo hi) (length order) order (portOf w) m (E .layout (getD order m 0))
-    c = extends-choice (boardOf order cs lo hi) (length order) order (listed P) m inside (portOf w) E
+    c : At (gridOf order cs lo hi) (length order) order (portIn w) m (E .layout (getD order m 0))
+    c = extends-choice (gridOf order cs lo hi) (length order) order (listed P) m inside (portIn w) E
 
     go : Dec (q < 64) → q < 64
     go (yes h) = h
