@@ -26,8 +26,9 @@ strip-ready {order} {cs} {lo} {hi} {w = w} W m inside E = record {
   ports = ceil-le (portIn w) (getD hi (getD order m 0) 0) (take m order) (length order);
   listed = inside;
   here = record {
-    low = floor-most (portIn w) (getD lo (getD order m 0) 0) (take m order) 0 zero-le;
-    high = ceil-least (portIn w) (getD hi (getD order m 0) 0) (take m order) (length order) (W .proper .pads .top (getD order m 0));
+    low = floor-most (portIn w) (getD lo (getD order m 0) 0) (take m order) 0 (getD lo (getD order m 0) 0) zero-le (λ i n k. k);
+    high = ceil-least (portIn w) (getD hi (getD order m 0) 0) (take m order) (length order) (getD hi (getD order m 0) 0)
+        (W .proper .pads .top (getD order m 0)) (λ i n k. k);
   };
   full = extends-full (gridOf order cs lo hi) (length order) order (listed (W .proper)) m inside (portIn w) refl E;
 }

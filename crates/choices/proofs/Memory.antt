@@ -1,5 +1,5 @@
 -- Laws of what a walk remembers: what each search leaves is true, and current where it was.
-use mathlib.Core.Path.{_≡_, refl, sym, _∙_}
+use mathlib.Core.Path.{_≡_, refl, _∙_}
 use mathlib.Core.List.{List}
 use Prim.Native.Nat.{ℕ, _+_, _-_, _≤_, _<_}
 use native.Mathlib.Omega.{arith}
@@ -11,22 +11,7 @@ use Rattle.strips.specs.FirstNext.{At}
 use Rattle.totals.specs.Cell.{gridOf, FullFrom}
 use Rattle.places.specs.Places.{portIn}
 use Rattle.choices.specs.Choices.{ProperLists, Working, Begun, Chosen}
-use Rattle.choices.specs.Memory.{
-  startAt,
-  stopAt,
-  leastAt,
-  mostAt,
-  LeadsAt,
-  firstPort,
-  endPort,
-  Known,
-  StripOf,
-  Current,
-  Memory,
-  Alike,
-  Noted,
-  Learnt,
-}
+use Rattle.choices.specs.Memory.{startAt, stopAt, leastAt, mostAt, LeadsAt, firstPort, endPort, Known, StripOf, Current, Memory, Alike, Noted, Learnt}
 use Rattle.choices.proofs.Stores.{store-before}
 use Rattle.choices.proofs.Choosing.{strip-ready}
 
@@ -78,23 +63,14 @@ module _ (xs : List ℕ) (m a b : ℕ) (long : length xs ≡ 256) (few : m < 64)
   abbrev four : List ℕ
   four = set three (192 + m) 0
 
-  long-one : length one ≡ 256
-  long-one = length-set xs m a ∙ long
-
-  long-two : length two ≡ 256
-  long-two = length-set one (64 + m) b ∙ long-one
-
-  long-three : length three ≡ 256
-  long-three = length-set two (128 + m) 0 ∙ long-two
-
   pub noted-set : Noted m a b xs four
   noted-set =
       record {
-        long = length-set three (192 + m) 0 ∙ long-three ∙ sym long;
+        long = length-set three (192 + m) 0 ∙ length-set two (128 + m) 0 ∙ length-set one (64 + m) b ∙ length-set xs m a;
         start = getD-set-other three (192 + m) m 0 0 (λ e. omega arith) ∙ getD-set-other two (128 + m) m 0 0 (λ e. omega arith)
             ∙ getD-set-other one (64 + m) m b 0 (λ e. omega arith) ∙ getD-set-same xs m a 0 (omega arith);
         stop = getD-set-other three (192 + m) (64 + m) 0 0 (λ e. omega arith) ∙ getD-set-other two (128 + m) (64 + m) 0 0 (λ e. omega arith)
-            ∙ getD-set-same one (64 + m) b 0 (omega (arith, long-one));
+            ∙ getD-set-same one (64 + m) b 0 (omega (arith, length-set xs m a));
         least = λ h. absurd (omega (arith, no-least));
         most = λ h. absurd (omega (arith, no-most));
         others = λ k l n. alike-trans (alike-set xs m a k n (λ e. omega arith) (λ e. omega arith) (λ e. omega arith))
@@ -104,10 +80,11 @@ module _ (xs : List ℕ) (m a b : ℕ) (long : length xs ≡ 256) (few : m < 64)
       }
     where
       no-least : leastAt four m ≡ 0
-      no-least = getD-set-other three (192 + m) (128 + m) 0 0 (λ e. omega arith) ∙ getD-set-same two (128 + m) 0 0 (omega (arith, long-two))
+      no-least = getD-set-other three (192 + m) (128 + m) 0 0 (λ e. omega arith)
+          ∙ getD-set-same two (128 + m) 0 0 (omega (arith, length-set xs m a, length-set one (64 + m) b))
 
       no-most : mostAt four m ≡ 0
-      no-most = getD-set-same three (192 + m) 0 0 (omega (arith, long-three))
+      no-most = getD-set-same three (192 + m) 0 0 (omega (arith, length-set xs m a, length-set one (64 + m) b, length-set two (128 + m) 0))
 
 -- ---- what a search at place m has, and what it leaves
 

@@ -20,8 +20,11 @@ pub record Scan (S : Sides) (order : List ℕ) (a b k m : ℕ) : Type 0 where
   pub later : (i : ℕ) → k < i → i ≤ length order → padsIn S a b (drop i order) < b - a
 
 module _ (S : Sides) (order : List ℕ) (a b : ℕ) where
-  pub count-less : (k i : ℕ) → k ≤ i → padsIn S a b (drop i order) ≤ padsIn S a b (drop k order)
+  count-less : (k i : ℕ) → k ≤ i → padsIn S a b (drop i order) ≤ padsIn S a b (drop k order)
   count-less k i h = let e = count-drop S a b order k i h in omega arith
+
+  pub on-placed : (k m : ℕ) → 0 < m → m ≡ padsIn S a b (drop k order) → k < length order
+  on-placed k m h e = ⊎-elim (λ u. absurd (let z = count-end S order a b k u in omega arith)) (λ u. u) (le-or-lt (length order) k)
 
   -- ---- back
 
@@ -50,15 +53,12 @@ module _ (S : Sides) (order : List ℕ) (a b : ℕ) where
 
   pub scan-found : (k m : ℕ) → a < b → b - a ≤ m → Scan S order a b k m → Top S order a b k
   scan-found k m ab all s = record {
-    placed = ⊎-elim (λ (u : length order ≤ k). absurd (let z = count-end S order a b k u in omega (arith, s .counted))) (λ (u : k < length order). u) (le-or-lt (length order) k);
+    placed = on-placed k m (omega arith) (s .counted);
     full = omega (arith, s .counted, s .few);
     later = s .later;
   }
 
   -- ---- on
-
-  pub on-placed : (k m : ℕ) → 0 < m → m ≡ padsIn S a b (drop k order) → k < length order
-  on-placed k m h e = ⊎-elim (λ (u : length order ≤ k). absurd (let z = count-end S order a b k u in omega arith)) (λ (u : k < length order). u) (le-or-lt (length order) k)
 
   -- one pad less
   pub on-step : (k m : ℕ) → k < length order → m ≡ padsIn S a b (drop k order)

@@ -61,10 +61,7 @@ count-none S a b h (j ∷ js) = let z = ap bit (spans-not-lo a b (S .lo j) (S .h
 
 module _ (S : Sides) (order : List ℕ) (a b k : ℕ) where
   entering-start : (m : ℕ) → k ≤ length order → m ≡ padsIn S (a + 1) b (drop k order) → Entering S order a 0 b k m
-  entering-start m h e = record { placed = h; before = λ u. e; after = λ u. let z : k ≡ 0 = omega arith in rw z (rw z at (e′ e)) }
-    where
-      e′ : m ≡ padsIn S (a + 1) b (drop k order) → m + padsIn S a b (drop k order) ≡ padsIn S a b (drop k order) + padsIn S (a + 1) b (drop k order)
-      e′ e = omega arith
+  entering-start m h e = record { placed = h; before = λ u. e; after = λ u. let z : k ≡ 0 = omega arith in let f = rw z at e in rw z (omega arith) }
 
   entering-end : (m : ℕ) → Entering S order a (length order) b k m → m ≡ padsIn S a b (drop k order)
   entering-end m E =
@@ -149,11 +146,6 @@ module _ (S : Sides) (order : List ℕ) (a : ℕ) where
         entering-step S order a b k i inside m (m + bit (leb k i))
         (λ u. let t = ap bit (le-leb k i u) in omega arith) (λ u. let t = ap bit (lt-leb k i u) in omega arith) E
 
-    more-all : (b m : ℕ) → S .hi (getD order i 0) ≤ b → Entering S order a i b 0 m → Entering S order a (i + 1) b 0 (m + 1)
-    more-all b m h E =
-        let e = bits-fresh a b (S .lo (getD order i 0)) (S .hi (getD order i 0)) fresh h in
-        entering-step S order a b 0 i inside m (m + 1) (λ u. omega arith) (λ u. absurd (omega arith)) E
-
     pub marking-step : (at seen all : List ℕ) (b s t : ℕ) → length seen ≡ 65 → length all ≡ 65 → length order ≤ 64 → b ≤ length order → S .hi (getD order i 0) ≤ b
         → s ≡ getD seen b 0 + bit (leb (getD at b 0) i) → t ≡ getD all b 0 + 1
         → Marking S order at seen all a i b → Marking S order at (set seen b s) (set all b t) a i (b + 1)
@@ -162,8 +154,7 @@ module _ (S : Sides) (order : List ℕ) (a : ℕ) where
           (λ (v : b ≤ b′). let e : b′ ≡ b = omega arith in
           rw e (rw (getD-set-same seen b s 0 (omega arith), getD-set-same all b t 0 (omega arith)) (
             rw es (more-seen b (getD at b 0) (getD seen b 0) hb (M .waiting b bn (omega arith) .0)),
-            rw et
-                (more-all b (getD all b 0) hb (M .waiting b bn (omega arith) .1)),
+            rw et (rw (le-leb 0 i zero-le) at (more-seen b 0 (getD all b 0) hb (M .waiting b bn (omega arith) .1))),
           )))
           (λ (v : b′ < b). rw (getD-set-other seen b b′ s 0 (λ e. omega arith), getD-set-other all b b′ t 0 (λ e. omega arith)) (M .done b′ l v))
           (le-or-lt b b′);

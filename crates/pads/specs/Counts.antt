@@ -53,7 +53,7 @@ pub count-step : (S : Sides) (order : List ℕ) (a b k : ℕ) → k < length ord
 unfolding padsIn
 count-step S order a b k h = ap (padsIn S a b) (drop-cons order k 0 h) ∙ ap (λ (i : ℕ). bit (fits S a b (getD order k 0)) + padsIn S a b (drop i order)) (sym (add-one k))
 
-pub count-append : (S : Sides) (a b : ℕ) (pre js : List ℕ) → padsIn S a b (pre ++ js) ≡ padsIn S a b pre + padsIn S a b js
+count-append : (S : Sides) (a b : ℕ) (pre js : List ℕ) → padsIn S a b (pre ++ js) ≡ padsIn S a b pre + padsIn S a b js
 unfolding padsIn
 count-append S a b [] js = omega arith
 count-append S a b (j ∷ pre) js = let more = count-append S a b pre js in omega arith

@@ -2,31 +2,21 @@
 use mathlib.Core.Path.{_≡_, refl, sym, _∙_}
 use mathlib.Core.Bool.{Bool, true, false, cond}
 use mathlib.Core.Logic.{_⊎_, inl, inr}
-use mathlib.Core.List.{List, [], _∷_, List·Memᴰ, List·Memᴰ·head, List·Memᴰ·tail}
+use mathlib.Core.List.{List, _∷_, List·Memᴰ, List·Memᴰ·head, List·Memᴰ·tail}
 use Prim.Native.Nat.{ℕ, _+_, _-_, _≤_, _<_, min, max, zero-le}
 use native.Mathlib.Omega.{arith}
 use native.Mathlib.Decide.{decLt, ℕ-discrete}
 use lib.Dec.{leb, ltb}
 use lib.ListN.{length, getD, take, set, replicate, length-set, getD-replicate}
 use lib.Seq.{getD-set-same, getD-set-other}
-use borrow.Author.Tests.{leb-true, leb-false, ltb-true, ltb-false}
-use Rattle.strips.specs.Lists.{All}
-use Rattle.strips.specs.Prefix.{floor, ceil, floor-le, ceil-le}
+use borrow.Author.Tests.{leb-false, ltb-false}
+use Rattle.strips.specs.Prefix.{floor, ceil, floor-le, ceil-le, floor-most, ceil-least}
 use Rattle.places.specs.Places.{portIn, Placed, Entered, Lowest, Highest}
 use Rattle.places.proofs.Taken.{take-mem, mem-take}
 
 -- ---- a strip's ends by the ports taken
 
 module _ (f : ℕ → ℕ) (l : ℕ) where
-  floor-below : (is : List ℕ) (c a : ℕ) → c ≤ a → All (λ i. f i < l → f i < a) is → floor f l is c ≤ a
-  unfolding floor
-  floor-below [] c a h all = h
-  floor-below (i ∷ is) c a h all = go (ltb (f i) l) refl (λ d k. floor-below is d a k (λ x m. all x (List·Memᴰ·tail m)))
-    where
-      go : (t : Bool) → ltb (f i) l ≡ t → ((d : ℕ) → d ≤ a → floor f l is d ≤ a) → floor f l is (cond t (max c (f i + 1)) c) ≤ a
-      go true e ih = ih (max c (f i + 1)) (let u = all i (List·Memᴰ·head refl) (ltb-true (f i) l e) in omega arith)
-      go false e ih = ih c h
-
   floor-above : (is : List ℕ) (c i : ℕ) → List·Memᴰ i is → f i < l → f i < floor f l is c
   unfolding floor
   floor-above (x ∷ is) c i (List·Memᴰ·head e) h = go (ltb (f x) l) refl
@@ -35,15 +25,6 @@ module _ (f : ℕ → ℕ) (l : ℕ) where
       go true k = rw e (omega (arith, floor-le f l is (max c (f x + 1))))
       go false k = absurd (let u = rw e at h in omega (arith, ltb-false (f x) l k))
   floor-above (x ∷ is) c i (List·Memᴰ·tail m) h = floor-above is (cond (ltb (f x) l) (max c (f x + 1)) c) i m h
-
-  ceil-above : (is : List ℕ) (c b : ℕ) → b ≤ c → All (λ i. l ≤ f i → b ≤ f i) is → b ≤ ceil f l is c
-  unfolding ceil
-  ceil-above [] c b h all = h
-  ceil-above (i ∷ is) c b h all = go (leb l (f i)) refl (λ d k. ceil-above is d b k (λ x m. all x (List·Memᴰ·tail m)))
-    where
-      go : (t : Bool) → leb l (f i) ≡ t → ((d : ℕ) → b ≤ d → b ≤ ceil f l is d) → b ≤ ceil f l is (cond t (min c (f i)) c)
-      go true e ih = ih (min c (f i)) (let u = all i (List·Memᴰ·head refl) (leb-true l (f i) e) in omega arith)
-      go false e ih = ih c h
 
   ceil-below : (is : List ℕ) (c i : ℕ) → List·Memᴰ i is → l ≤ f i → ceil f l is c ≤ f i
   unfolding ceil
@@ -67,7 +48,7 @@ module _ {order w at : List ℕ} (m : ℕ) (P : Placed order w m at) (inside : m
           absurd (omega (arith, L .free (portIn w x) (omega arith) k, rw (t .2) at (P .taken (t .0) (t .1))))
 
       most : floor (portIn w) l (take m order) 0 ≤ a
-      most = floor-below (portIn w) l (take m order) 0 a zero-le (λ x n k. passed x n k (decLt (portIn w x) a))
+      most = floor-most (portIn w) l (take m order) 0 a zero-le (λ x n k. passed x n k (decLt (portIn w x) a))
 
       least : Dec (0 < a) → a ≤ floor (portIn w) l (take m order) 0
       least (no d) = omega arith
@@ -86,7 +67,7 @@ module _ {order w at : List ℕ} (m : ℕ) (P : Placed order w m at) (inside : m
           absurd (omega (arith, H .free (portIn w x) k d, rw (t .2) at (P .taken (t .0) (t .1))))
 
       least : b ≤ ceil (portIn w) h (take m order) (length order)
-      least = ceil-above (portIn w) h (take m order) (length order) b (H .inside) (λ x n k. passed x n k (decLt (portIn w x) b))
+      least = ceil-least (portIn w) h (take m order) (length order) b (H .inside) (λ x n k. passed x n k (decLt (portIn w x) b))
 
       most : Dec (b < length order) → ceil (portIn w) h (take m order) (length order) ≤ b
       most (no d) = omega (arith, ceil-le (portIn w) h (take m order) (length order))

@@ -84,7 +84,7 @@ copied-step rh rt hs ts a b h v p e ab b64 lh lt K = record {
 
 -- ---- the whole board
 
-pub whole-count : (S : Sides) (n : ℕ) → ((j : ℕ) → S .hi j ≤ n) → (js : List ℕ) → padsIn S 0 n js ≡ length js
+whole-count : (S : Sides) (n : ℕ) → ((j : ℕ) → S .hi j ≤ n) → (js : List ℕ) → padsIn S 0 n js ≡ length js
 unfolding padsIn
 whole-count S n h [] = refl
 whole-count S n h (j ∷ js) =

@@ -1,6 +1,6 @@
 -- Laws of the table's cells: what a cell says of its strip, and how a strip's cell comes from the cells of its parts.
 use mathlib.Core.Path.{_≡_, refl, sym, ap, ap₂, _∙_, subst}
-use mathlib.Core.Logic.{inl, inr, ⊎-elim}
+use mathlib.Core.Logic.{_⊎_, inl, inr, ⊎-elim}
 use mathlib.Core.Bool.{Bool, true, false, cond, _&&_}
 use Rattle.strips.specs.Least.{Least, none, some, least}
 use mathlib.Core.List.{List, _∷_}
@@ -16,20 +16,13 @@ use Rattle.pads.specs.Pads.{Sides, fits, bit, padsIn, sidesOf, Pads, Head}
 use Rattle.totals.specs.Strip.{partedWithin, bestWithin, localWithin}
 use Rattle.totals.specs.Cell.{noTotal, figures, choice, place, coded, Sizes, Strip, Valued, Cell, Parts, Port, sumAt, portTotal}
 use Rattle.pads.specs.Counts.{le-or-lt, bit-le, bit-true, count-step, count-drop, count-end}
-use Rattle.totals.proofs.Parted.{lt-or-le, parted-least, parts-most, parted-less}
+use Rattle.totals.proofs.Parted.{parted-least, parts-most, parted-less}
 use Rattle.totals.proofs.Corners.{corner-top}
-use Rattle.totals.proofs.Masks.{add, best-in, local-parted, local-blocked}
+use Rattle.totals.proofs.Masks.{add, best-in, local-parted}
 use Rattle.totals.proofs.Ports.{Lower}
 use Rattle.totals.proofs.Totals.{local-none, crowded, same-from, idle, Capped, most-best, coded-none, coded-some, local-most, coded-least}
 
 -- ---- cells
-
-some-none : (v : ℕ) → some v ≡ none → ⊥
-some-none v e = let z = ap flag e in omega arith
-  where
-    flag : Least → ℕ
-    flag none = 0
-    flag (some v) = 1
 
 module _ (S : Sides) (C : ℕ → ℕ → Least) (order : List ℕ) (a b h v : ℕ) (L : Cell S C order a b h v) (k : ℕ) where
   -- from a place before the head on there are pads enough
@@ -56,27 +49,25 @@ module _ (S : Sides) (C : ℕ → ℕ → Least) (order : List ℕ) (a b h v : �
           (λ (z : h ≤ 0). L .nothing (omega arith) ∙ ap coded (sym (L .past k u kn e)))
           (λ (z : 0 < h).
           let eh : h ≡ h - 1 + 1 = omega arith in
-          absurd (some-none v (sym (L .value (h - 1) eh) ∙ same-from S C order (h - 1) k a b (omega arith) (L .full (h - 1) eh ∙ sym e) ∙ L .past k u kn e)))
+          let w = sym (L .value (h - 1) eh) ∙ same-from S C order (h - 1) k a b (omega arith) (L .full (h - 1) eh ∙ sym e) ∙ L .past k u kn e in
+          let one : _≡_ {A = ℕ} 0 1 = cc in absurd (omega arith))
           (le-or-lt h 0)
 
 -- ---- one port of a strip, from the cells of the two parts that it makes
 
 module _ (S : Sides) (C : ℕ → ℕ → Least) (level : (j : ℕ) → S .lo j ≤ S .hi j) (j : ℕ) (rest : List ℕ) (a b q : ℕ) (aq : a ≤ q) (qb : q < b)
     (full : padsIn S a b rest + 1 ≡ b - a) where
-  -- too few pads below q: too many above
-  short-below : padsIn S a q rest < q - a → localWithin S C j rest a b q ≡ none
-  short-below h = go (partedWithin S a b q rest) refl
-    where
-      go : (x : Bool) → partedWithin S a b q rest ≡ x → localWithin S C j rest a b q ≡ none
-      go false e = local-blocked S C j rest a b q aq qb e
-      go true e = let all = parted-least S a b q rest e in local-none S C j rest a b q aq qb (inr (crowded S C rest (q + 1) b (omega arith)))
-
-  short-above : padsIn S (q + 1) b rest < b - (q + 1) → localWithin S C j rest a b q ≡ none
-  short-above h = go (partedWithin S a b q rest) refl
-    where
-      go : (x : Bool) → partedWithin S a b q rest ≡ x → localWithin S C j rest a b q ≡ none
-      go false e = local-blocked S C j rest a b q aq qb e
-      go true e = let all = parted-least S a b q rest e in local-none S C j rest a b q aq qb (inl (crowded S C rest a q (omega arith)))
+  -- no layout of a part with a pad for each port; a part with fewer leaves too many to the other
+  no-part : (padsIn S a q rest ≡ q - a → padsIn S (q + 1) b rest ≡ b - (q + 1) → (bestWithin S C rest a q ≡ none) ⊎ (bestWithin S C rest (q + 1) b ≡ none))
+      → localWithin S C j rest a b q ≡ none
+  no-part h = local-none S C j rest a b q aq qb (λ e. let all = parted-least S a b q rest e in
+      ⊎-elim
+      (λ (u : padsIn S a q rest ≤ q - a). ⊎-elim
+      (λ (v : padsIn S (q + 1) b rest ≤ b - (q + 1)). h (omega arith) (omega arith))
+      (λ (v : b - (q + 1) < padsIn S (q + 1) b rest). inr (crowded S C rest (q + 1) b (omega arith)))
+      (le-or-lt (padsIn S (q + 1) b rest) (b - (q + 1))))
+      (λ (u : q - a < padsIn S a q rest). inl (crowded S C rest a q (omega arith)))
+      (le-or-lt (padsIn S a q rest) (q - a)))
 
   -- enough in each: q parts the strip
   enough : q - a ≤ padsIn S a q rest → b - (q + 1) ≤ padsIn S (q + 1) b rest → partedWithin S a b q rest ≡ true
@@ -89,29 +80,11 @@ module _ (S : Sides) (C : ℕ → ℕ → Least) (level : (j : ℕ) → S .lo j 
 module _ (S : Sides) (C : ℕ → ℕ → Least) (level : (j : ℕ) → S .lo j ≤ S .hi j) (cheap : (j q : ℕ) → Capped (2 ^ 32) (C j q))
     (order : List ℕ) (r a b q : ℕ) (rn : r < length order) (b64 : b ≤ 64) (aq : a ≤ q) (qb : q < b) (full : padsIn S a b (drop (r + 1) order) + 1 ≡ b - a)
     (h x : ℕ) (below : Cell S C order a q h x) (h′ y : ℕ) (above : Cell S C order (q + 1) b h′ y) (j : ℕ) where
-  pub no-below : h ≤ r + 1 → localWithin S C j (drop (r + 1) order) a b q ≡ none
-  no-below u =
-      ⊎-elim
-      (λ (less : padsIn S a q (drop (r + 1) order) < q - a). short-below S C level j (drop (r + 1) order) a b q aq qb full less)
-      (λ (more : q - a ≤ padsIn S a q (drop (r + 1) order)). ⊎-elim
-      (λ (most : padsIn S a q (drop (r + 1) order) ≤ q - a).
-      local-none S C j (drop (r + 1) order) a b q aq qb (inl (below .past (r + 1) u (omega arith) (omega arith))))
-      (λ (many : q - a < padsIn S a q (drop (r + 1) order)).
-      let parts = parts-most S level a b q aq qb (drop (r + 1) order) in short-above S C level j (drop (r + 1) order) a b q aq qb full (omega arith))
-      (le-or-lt (padsIn S a q (drop (r + 1) order)) (q - a)))
-      (lt-or-le (padsIn S a q (drop (r + 1) order)) (q - a))
+  no-below : h ≤ r + 1 → localWithin S C j (drop (r + 1) order) a b q ≡ none
+  no-below u = no-part S C level j (drop (r + 1) order) a b q aq qb full (λ e f. inl (below .past (r + 1) u (omega arith) e))
 
-  pub no-above : h′ ≤ r + 1 → localWithin S C j (drop (r + 1) order) a b q ≡ none
-  no-above u =
-      ⊎-elim
-      (λ (less : padsIn S (q + 1) b (drop (r + 1) order) < b - (q + 1)). short-above S C level j (drop (r + 1) order) a b q aq qb full less)
-      (λ (more : b - (q + 1) ≤ padsIn S (q + 1) b (drop (r + 1) order)). ⊎-elim
-      (λ (most : padsIn S (q + 1) b (drop (r + 1) order) ≤ b - (q + 1)).
-      local-none S C j (drop (r + 1) order) a b q aq qb (inr (above .past (r + 1) u (omega arith) (omega arith))))
-      (λ (many : b - (q + 1) < padsIn S (q + 1) b (drop (r + 1) order)).
-      let parts = parts-most S level a b q aq qb (drop (r + 1) order) in short-below S C level j (drop (r + 1) order) a b q aq qb full (omega arith))
-      (le-or-lt (padsIn S (q + 1) b (drop (r + 1) order)) (b - (q + 1))))
-      (lt-or-le (padsIn S (q + 1) b (drop (r + 1) order)) (b - (q + 1)))
+  no-above : h′ ≤ r + 1 → localWithin S C j (drop (r + 1) order) a b q ≡ none
+  no-above u = no-part S C level j (drop (r + 1) order) a b q aq qb full (λ e f. inr (above .past (r + 1) u (omega arith) f))
 
   module _ (u : r + 1 < h) (v : r + 1 < h′) where
     counts : (padsIn S a q (drop (r + 1) order) ≡ q - a) × (padsIn S (q + 1) b (drop (r + 1) order) ≡ b - (q + 1))
@@ -128,7 +101,7 @@ module _ (S : Sides) (C : ℕ → ℕ → Least) (level : (j : ℕ) → S .lo j 
     is-above = cell-some S C order (q + 1) b h′ y above (r + 1) v (counts .1)
 
     -- the sums stay far below the largest u64
-    pub small-parts : (x ≤ 2 ^ 38) × (y ≤ 2 ^ 38)
+    small-parts : (x ≤ 2 ^ 38) × (y ≤ 2 ^ 38)
     small-parts =
         let p : x ≤ padsIn S a q (drop (r + 1) order) * 2 ^ 32 = subst (Capped (padsIn S a q (drop (r + 1) order) * 2 ^ 32)) is-below
         (most-best S C level cheap (drop (r + 1) order) a q) in
@@ -137,7 +110,7 @@ module _ (S : Sides) (C : ℕ → ℕ → Least) (level : (j : ℕ) → S .lo j 
         let c = counts .0 in let d = counts .1 in
         (omega arith, omega arith)
 
-    pub some-parts : localWithin S C j (drop (r + 1) order) a b q ≡ add (C j q) (some (x + y))
+    some-parts : localWithin S C j (drop (r + 1) order) a b q ≡ add (C j q) (some (x + y))
     some-parts =
         let c = counts .0 in let d = counts .1 in
         local-parted S C j (drop (r + 1) order) a b q aq qb (enough S C level j (drop (r + 1) order) a b q aq qb full (omega arith) (omega arith))
@@ -231,7 +204,8 @@ module _ (S : Sides) (order : List ℕ) (a b h : ℕ) (H : Head S order a b h) (
   pub head-strip : b ≤ length order → Strip S order a b (h - 1)
   head-strip bn = record { ports = bn; listed = head-listed; rest = head-counts .1 }
 
-  pub head-cell : (C : ℕ → ℕ → Least) (v : ℕ) → v ≡ coded (least (localWithin S C (getD order (h - 1) 0) (drop (h - 1 + 1) order) a b) a (b - a)) → Valued S C order a b h v
+  pub head-cell : (C : ℕ → ℕ → Least) (v : ℕ) → v ≡ coded (least (localWithin S C (getD order (h - 1) 0) (drop (h - 1 + 1) order) a b) a (b - a))
+      → Valued S C order a b h v
   head-cell C v e =
       record {
         head = H;
@@ -252,9 +226,9 @@ empty-cell S C order a b h H some-head ab = record {
 }
 
 -- the cell that is stored: the head only where there is a layout
-valued-cell : (S : Sides) (C : ℕ → ℕ → Least) → ((j : ℕ) → S .lo j ≤ S .hi j) → ((j q : ℕ) → Capped (2 ^ 32) (C j q)) → (order : List ℕ) (a b h v : ℕ) → b ≤ 64
-    → Valued S C order a b h v → Cell S C order a b (cond (eqb v noTotal) 0 h) v
-valued-cell S C level cheap order a b h v b64 is = go (eqb v noTotal) refl
+pub kept-cell : (S : Sides) (C : ℕ → ℕ → Least) → ((j : ℕ) → S .lo j ≤ S .hi j) → ((j q : ℕ) → Capped (2 ^ 32) (C j q)) → (order : List ℕ) (a b h v r : ℕ) → b ≤ 64
+    → Valued S C order a b h v → r ≡ cond (eqb v noTotal) 0 h → Cell S C order a b r v
+kept-cell S C level cheap order a b h v r b64 is e = rw e (go (eqb v noTotal) refl)
   where
     H : Head S order a b h
     H = is .head
@@ -273,8 +247,8 @@ valued-cell S C level cheap order a b h v b64 is = go (eqb v noTotal) refl
         let z : v ≡ noTotal = eqb-true v noTotal e in
         record {
           top = omega arith;
-          past = λ k u kn c. coded-none (padsIn S a b (drop k order) * 2 ^ 32) (bestWithin S C (drop k order) a b) (most-best S C level cheap (drop k order) a b) (omega arith)
-              (sym (same k kn c) ∙ z);
+          past = λ k u kn c. coded-none (padsIn S a b (drop k order) * 2 ^ 32) (bestWithin S C (drop k order) a b) (most-best S C level cheap (drop k order) a b)
+              (omega arith) (sym (same k kn c) ∙ z);
           full = λ s es. absurd (omega arith);
           value = λ s es. absurd (omega arith);
           nothing = λ u. z;
@@ -288,7 +262,3 @@ valued-cell S C level cheap order a b h v b64 is = go (eqb v noTotal) refl
           value = λ s es. coded-some (bestWithin S C (drop s order) a b) (λ n. ne (is .value s es ∙ n)) ∙ ap {B = Least} some (sym (is .value s es));
           nothing = is .nothing;
         }
-
-pub kept-cell : (S : Sides) (C : ℕ → ℕ → Least) → ((j : ℕ) → S .lo j ≤ S .hi j) → ((j q : ℕ) → Capped (2 ^ 32) (C j q)) → (order : List ℕ) (a b h v r : ℕ) → b ≤ 64
-    → Valued S C order a b h v → r ≡ cond (eqb v noTotal) 0 h → Cell S C order a b r v
-kept-cell S C level cheap order a b h v r b64 is e = rw e (valued-cell S C level cheap order a b h v b64 is)

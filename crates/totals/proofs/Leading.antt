@@ -10,7 +10,7 @@ use lib.Seq.{drop-cons}
 use lib.Dec.{eqb}
 use borrow.Author.Tests.{eqb-true, eqb-false}
 use Rattle.strips.specs.Least.{Least, some}
-use Rattle.strips.specs.Lists.{keep, keep-yes, keep-no}
+use Rattle.strips.specs.Lists.{keep, keep-if, keep-yes}
 use Rattle.strips.specs.Grid as strip
 use Rattle.strips.specs.Prefix.{lies}
 use Rattle.pads.specs.Pads.{Sides, spans, fits, bit, padsIn, sidesOf, Pads}
@@ -23,16 +23,11 @@ use Rattle.totals.proofs.Cells.{cell-right, figures-cheap, port-right}
 
 -- the pads that count are those that are kept
 count-keep : (S : Sides) (a b : ℕ) (js : List ℕ) → padsIn S a b js ≡ length (keep (fits S a b) js)
-unfolding padsIn
-count-keep S a b [] = ap length (sym (keep-nil (fits S a b)))
-  where
-    keep-nil : (p : ℕ → Bool) → keep p [] ≡ []
-    keep-nil p = unfold keep in refl
-count-keep S a b (j ∷ js) = go (fits S a b j) refl (count-keep S a b js)
-  where
-    go : (x : Bool) → fits S a b j ≡ x → padsIn S a b js ≡ length (keep (fits S a b) js) → bit x + padsIn S a b js ≡ length (keep (fits S a b) (j ∷ js))
-    go true e ih = rw (keep-yes (fits S a b) j js e) (omega arith)
-    go false e ih = rw (keep-no (fits S a b) j js e) (omega arith)
+unfolding padsIn keep
+count-keep S a b [] = refl
+count-keep S a b (j ∷ js) =
+    let ih = count-keep S a b js in
+    keep-if (fits S a b) (λ ks. bit (fits S a b j) + padsIn S a b js ≡ length ks) j js (λ e. rw e (omega arith)) (λ e. rw e (omega arith))
 
 module _ {hs ts order cs lo hi : List ℕ} (P : Pads order lo hi) (T : Table order cs lo hi hs ts) (r a b : ℕ) (O : FullFrom (gridOf order cs lo hi) order r a b) where
   abbrev S : Sides

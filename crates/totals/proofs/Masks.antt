@@ -87,7 +87,8 @@ plus-no none y z = refl
 plus-no (some x) y z = refl
 
 module _ (S : Sides) (C : ℕ → ℕ → Least) (r : ℕ) (rest : List ℕ) (a b q : ℕ) (aq : a ≤ q) (qb : q < b) where
-  local-both : localWithin S C r rest a b q ≡ cond (given (C r q) && partedWithin S a b q rest) (totals.plus (value (C r q)) (bestWithin S C rest a q) (bestWithin S C rest (q + 1) b)) none
+  local-both : localWithin S C r rest a b q
+      ≡ cond (given (C r q) && partedWithin S a b q rest) (totals.plus (value (C r q)) (bestWithin S C rest a q) (bestWithin S C rest (q + 1) b)) none
   unfolding localWithin bestWithin strip.local strip.localBy
   local-both =
       rw (parted-keep S C a b q aq (omega arith) rest, below-keep S C a b q (omega arith) rest, above-keep S C a b q aq rest)

@@ -1,6 +1,5 @@
 -- Laws of `partedWithin`: the pads of a strip, and those of the two parts that a port makes of it.
 use mathlib.Core.Path.{_≡_, refl}
-use mathlib.Core.Logic.{_⊎_, inl, inr}
 use mathlib.Core.Bool.{Bool, true, false, _&&_, true≢false, false≢true}
 use mathlib.Core.List.{List, [], _∷_}
 use Prim.Native.Nat.{ℕ, _+_, _≤_, _<_, zero-le}
@@ -9,17 +8,8 @@ use lib.Dec.{leb}
 use borrow.Author.Tests.{leb-true}
 use Rattle.strips.specs.Lists.{both}
 use Rattle.pads.specs.Pads.{Sides, spans, fits, bit, padsIn}
-use Rattle.pads.specs.Counts.{le-or-lt, spans-by}
+use Rattle.pads.specs.Counts.{spans-by}
 use Rattle.totals.specs.Strip.{cut, partedWithin}
-
--- ---- tests
-
-pub lt-or-le : (m n : ℕ) → (m < n) ⊎ (n ≤ m)
-lt-or-le m n = go (le-or-lt n m)
-  where
-    go : (n ≤ m) ⊎ (m < n) → (m < n) ⊎ (n ≤ m)
-    go (inl h) = inr h
-    go (inr h) = inl h
 
 -- ---- one pad
 

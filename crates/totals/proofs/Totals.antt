@@ -3,7 +3,7 @@ use mathlib.Core.Path.{_≡_, refl, sym, ap, ap₂, _∙_, subst}
 use mathlib.Core.Logic.{_⊎_, inl, inr, ⊎-elim}
 use mathlib.Core.Bool.{Bool, true, false}
 use Rattle.strips.specs.Least.{Least, none, some, smallerOf, least}
-use mathlib.Core.List.{List, [], _∷_, _++_}
+use mathlib.Core.List.{List, [], _∷_, _++_, append-nil}
 use Prim.Native.Nat.{ℕ, zero, suc, _+_, _-_, _*_, _^_, _≤_, _<_, min, zero-le}
 use native.Mathlib.Omega.{arith}
 use lib.ListN.{take, drop}
@@ -22,22 +22,25 @@ plus-none (some x) = refl
 
 -- ---- least
 
-pub least-none : (f : ℕ → Least) (a k : ℕ) → ((q : ℕ) → a ≤ q → q < a + k → f q ≡ none) → least f a k ≡ none
+least-none : (f : ℕ → Least) (a k : ℕ) → ((q : ℕ) → a ≤ q → q < a + k → f q ≡ none) → least f a k ≡ none
 unfolding least smallerOf
 least-none f a zero h = refl
 least-none f a (suc k) h =
     ap₂ smallerOf (least-none f a k (λ q u v. h q u (omega arith))) (h (a + k) (omega arith) (omega arith))
 
 module _ (S : Sides) (C : ℕ → ℕ → Least) (r : ℕ) (rest : List ℕ) (a b q : ℕ) (aq : a ≤ q) (qb : q < b) where
-  -- a part with no layout
-  pub local-none : (bestWithin S C rest a q ≡ none) ⊎ (bestWithin S C rest (q + 1) b ≡ none) → localWithin S C r rest a b q ≡ none
-  local-none h = go (partedWithin S a b q rest) refl h
+  -- no part, or one without a layout
+  pub local-none : (partedWithin S a b q rest ≡ true → (bestWithin S C rest a q ≡ none) ⊎ (bestWithin S C rest (q + 1) b ≡ none)) → localWithin S C r rest a b q ≡ none
+  local-none h = go (partedWithin S a b q rest) refl
     where
-      go : (x : Bool) → partedWithin S a b q rest ≡ x → (bestWithin S C rest a q ≡ none) ⊎ (bestWithin S C rest (q + 1) b ≡ none) → localWithin S C r rest a b q ≡ none
-      go true e (inl n) = local-parted S C r rest a b q aq qb e ∙ ap (λ (o : Least). add (C r q) (add o (bestWithin S C rest (q + 1) b))) n ∙ plus-none (C r q)
-      go true e (inr n) = local-parted S C r rest a b q aq qb e ∙ ap (λ (o : Least). add (C r q) (add (bestWithin S C rest a q) o)) n ∙ ap (add (C r q))
+      part : partedWithin S a b q rest ≡ true → (bestWithin S C rest a q ≡ none) ⊎ (bestWithin S C rest (q + 1) b ≡ none) → localWithin S C r rest a b q ≡ none
+      part e (inl n) = local-parted S C r rest a b q aq qb e ∙ ap (λ (o : Least). add (C r q) (add o (bestWithin S C rest (q + 1) b))) n ∙ plus-none (C r q)
+      part e (inr n) = local-parted S C r rest a b q aq qb e ∙ ap (λ (o : Least). add (C r q) (add (bestWithin S C rest a q) o)) n ∙ ap (add (C r q))
           (plus-none (bestWithin S C rest a q)) ∙ plus-none (C r q)
-      go false e n = local-blocked S C r rest a b q aq qb e
+
+      go : (x : Bool) → partedWithin S a b q rest ≡ x → localWithin S C r rest a b q ≡ none
+      go true e = part e (h e)
+      go false e = local-blocked S C r rest a b q aq qb e
 
 -- ---- more pads than ports: no layout
 
@@ -45,16 +48,9 @@ module _ (S : Sides) (C : ℕ → ℕ → Least) where
   -- one port q of the strip, from the rest of the list
   crowded-local : (r : ℕ) (rest : List ℕ) (a b q : ℕ) → a ≤ q → q < b → ((a b : ℕ) → b - a < padsIn S a b rest → bestWithin S C rest a b ≡ none)
       → b - a ≤ padsIn S a b rest → localWithin S C r rest a b q ≡ none
-  crowded-local r rest a b q aq qb ih h = go (partedWithin S a b q rest) refl
-    where
-      go : (x : Bool) → partedWithin S a b q rest ≡ x → localWithin S C r rest a b q ≡ none
-      go false e = local-blocked S C r rest a b q aq qb e
-      go true e =
-          let all = parted-least S a b q rest e in
-          ⊎-elim
-          (λ u. local-none S C r rest a b q aq qb (inr (ih (q + 1) b (omega arith))))
-          (λ u. local-none S C r rest a b q aq qb (inl (ih a q (omega arith))))
-          (le-or-lt (padsIn S a q rest) (q - a))
+  crowded-local r rest a b q aq qb ih h =
+      local-none S C r rest a b q aq qb (λ e. let all = parted-least S a b q rest e in
+      ⊎-elim (λ u. inr (ih (q + 1) b (omega arith))) (λ u. inl (ih a q (omega arith))) (le-or-lt (padsIn S a q rest) (q - a)))
 
   pub crowded : (js : List ℕ) (a b : ℕ) → b - a < padsIn S a b js → bestWithin S C js a b ≡ none
   unfolding padsIn
@@ -67,7 +63,7 @@ module _ (S : Sides) (C : ℕ → ℕ → Least) where
       go false e h ih = best-out S C r rest a b e ∙ ih a b (omega arith)
 
   -- pads that lie elsewhere do not matter
-  pub skip : (pre js : List ℕ) (a b : ℕ) → padsIn S a b pre ≡ 0 → bestWithin S C (pre ++ js) a b ≡ bestWithin S C js a b
+  skip : (pre js : List ℕ) (a b : ℕ) → padsIn S a b pre ≡ 0 → bestWithin S C (pre ++ js) a b ≡ bestWithin S C js a b
   unfolding padsIn
   skip [] js a b h = refl
   skip (j ∷ pre) js a b h = go (fits S a b j) refl h (λ h. skip pre js a b h)
@@ -78,20 +74,15 @@ module _ (S : Sides) (C : ℕ → ℕ → Least) where
       go false e h ih = best-out S C j (pre ++ js) a b e ∙ ih (omega arith)
 
   -- from two places of a list on, with as many pads of the strip
-  pub same-from : (l : List ℕ) (s s′ a b : ℕ) → s ≤ s′ → padsIn S a b (drop s l) ≡ padsIn S a b (drop s′ l) → bestWithin S C (drop s l) a b ≡ bestWithin S C (drop s′ l) a b
+  pub same-from : (l : List ℕ) (s s′ a b : ℕ) → s ≤ s′ → padsIn S a b (drop s l) ≡ padsIn S a b (drop s′ l)
+      → bestWithin S C (drop s l) a b ≡ bestWithin S C (drop s′ l) a b
   same-from l s s′ a b h e =
       ap (λ (k : List ℕ). bestWithin S C k a b) (drop-split l s s′ h)
       ∙ skip (take (s′ - s) (drop s l)) (drop s′ l) a b (let w = count-drop S a b l s s′ h in omega arith)
 
   -- no pads
   pub idle : (js : List ℕ) (a b : ℕ) → padsIn S a b js ≡ 0 → bestWithin S C js a b ≡ some 0
-  unfolding padsIn
-  idle [] a b h = best-within-nil S C a b
-  idle (j ∷ js) a b h = go (fits S a b j) refl h (λ h. idle js a b h)
-    where
-      go : (x : Bool) → fits S a b j ≡ x → bit x + padsIn S a b js ≡ 0 → (padsIn S a b js ≡ 0 → bestWithin S C js a b ≡ some 0) → bestWithin S C (j ∷ js) a b ≡ some 0
-      go true e h ih = absurd (omega arith)
-      go false e h ih = best-out S C j js a b e ∙ ih (omega arith)
+  idle js a b h = ap (λ (l : List ℕ). bestWithin S C l a b) (sym (append-nil js)) ∙ skip js [] a b h ∙ best-within-nil S C a b
 
 -- ---- bounds
 
@@ -100,11 +91,11 @@ abbrev pub Capped : ℕ → Least → Type 0
 Capped m none = Unit {0}
 Capped m (some v) = v ≤ m
 
-pub most-mono : (m n : ℕ) (o : Least) → m ≤ n → Capped m o → Capped n o
+most-mono : (m n : ℕ) (o : Least) → m ≤ n → Capped m o → Capped n o
 most-mono m n none h p = tt
 most-mono m n (some v) h p = omega arith
 
-pub most-plus : (m n : ℕ) (x y : Least) → Capped m x → Capped n y → Capped (m + n) (add x y)
+most-plus : (m n : ℕ) (x y : Least) → Capped m x → Capped n y → Capped (m + n) (add x y)
 most-plus m n none y p q = tt
 most-plus m n (some x) none p q = tt
 most-plus m n (some x) (some y) p q = omega arith
@@ -115,7 +106,7 @@ most-meet m none y p q = q
 most-meet m (some x) none p q = p
 most-meet m (some x) (some y) p q = omega arith
 
-pub most-least : (m : ℕ) (f : ℕ → Least) (a k : ℕ) → ((q : ℕ) → a ≤ q → q < a + k → Capped m (f q)) → Capped m (least f a k)
+most-least : (m : ℕ) (f : ℕ → Least) (a k : ℕ) → ((q : ℕ) → a ≤ q → q < a + k → Capped m (f q)) → Capped m (least f a k)
 unfolding least smallerOf
 most-least m f a zero h = tt
 most-least m f a (suc k) h = most-meet m (least f a k) (f (a + k)) (most-least m f a k (λ q u v. h q u (omega arith))) (h (a + k) (omega arith) (omega arith))
@@ -132,8 +123,8 @@ module _ (S : Sides) (C : ℕ → ℕ → Least) (level : (j : ℕ) → S .lo j 
           subst (Capped ((1 + padsIn S a b rest) * 2 ^ 32)) (sym (local-parted S C r rest a b q aq qb e))
           (most-mono (2 ^ 32 + (padsIn S a q rest * 2 ^ 32 + padsIn S (q + 1) b rest * 2 ^ 32)) ((1 + padsIn S a b rest) * 2 ^ 32)
           (add (C r q) (add (bestWithin S C rest a q) (bestWithin S C rest (q + 1) b))) (omega arith)
-          (most-plus (2 ^ 32) (padsIn S a q rest * 2 ^ 32 + padsIn S (q + 1) b rest * 2 ^ 32) (C r q) (add (bestWithin S C rest a q) (bestWithin S C rest (q + 1) b)) (cheap r q)
-          (most-plus (padsIn S a q rest * 2 ^ 32) (padsIn S (q + 1) b rest * 2 ^ 32) (bestWithin S C rest a q) (bestWithin S C rest (q + 1) b) (ih a q) (ih (q + 1) b))))
+          (most-plus (2 ^ 32) (padsIn S a q rest * 2 ^ 32 + padsIn S (q + 1) b rest * 2 ^ 32) (C r q) (add (bestWithin S C rest a q) (bestWithin S C rest (q + 1) b))
+          (cheap r q) (most-plus (padsIn S a q rest * 2 ^ 32) (padsIn S (q + 1) b rest * 2 ^ 32) (bestWithin S C rest a q) (bestWithin S C rest (q + 1) b) (ih a q) (ih (q + 1) b))))
 
   -- each pad costs less than 2 ^ 32
   pub most-best : (js : List ℕ) (a b : ℕ) → Capped (padsIn S a b js * 2 ^ 32) (bestWithin S C js a b)
@@ -163,7 +154,7 @@ pub coded-some : (o : Least) → (coded o ≡ noTotal → ⊥) → o ≡ some (c
 coded-some none h = absurd (h refl)
 coded-some (some v) h = refl
 
-pub coded-meet : (m n : ℕ) (x y : Least) → Capped m x → Capped n y → m < 2 ^ 40 → n < 2 ^ 40 → coded (smallerOf x y) ≡ min (coded x) (coded y)
+coded-meet : (m n : ℕ) (x y : Least) → Capped m x → Capped n y → m < 2 ^ 40 → n < 2 ^ 40 → coded (smallerOf x y) ≡ min (coded x) (coded y)
 unfolding smallerOf
 coded-meet m n none none p q u v = refl
 coded-meet m n none (some y) p q u v = omega arith
