@@ -2,7 +2,6 @@
 use crate::Verdict;
 use find::Check;
 use find::Found;
-use find::Own;
 use paper::Refusal;
 ghost use mathlib.Core.Path.{_≡_};
 ghost use Prim.Native.Nat.{_≤_};
@@ -62,8 +61,8 @@ pub fn of_job(v: Verdict, job: &[u8]) -> Verdict
     let v4 = try_records(v, 4, Check::Field, job);
     let v5 = try_records(v4, 5, Check::Rise, job);
     let v12 = try_records(v5, 12, Check::Space, job);
-    let v6 = try_records(v12, 6, Check::Twice(Own::Name), job);
-    try_records(v6, 7, Check::Twice(Own::Place), job)
+    let v6 = try_records(v12, 6, Check::Name, job);
+    try_records(v6, 7, Check::Place, job)
 }
 
 // 8 and 9: the layout, once there is room for it.

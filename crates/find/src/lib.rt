@@ -14,18 +14,19 @@ pub enum Found {
     Nowhere,
 }
 
-// What no two records share. What this and each check stand for is in specs/Dispatch.antt.
-pub enum Own {
-    Name, // 6
-    Place, // 7
-}
-
-// The checks of one record, alone or with those before it.
+// The checks of a record, alone or with those before it. What each stands for is in specs/Dispatch.antt.
 pub enum Check {
     Field, // 4
     Rise, // 5
     Space, // 12
-    Twice(Own),
+    Name, // 6
+    Place, // 7
+}
+
+// What no two records share.
+enum Own {
+    Name,
+    Place,
 }
 
 // Whether records i and j share what they should not.
@@ -63,7 +64,8 @@ fn fails(c: Check, job: &[u8], i: u16) -> bool
         Check::Field => faults::bad_field(job, i),
         Check::Rise => faults::not_above(job, i),
         Check::Space => faults::too_close(job, i),
-        Check::Twice(o) => stood(o, job, i),
+        Check::Name => stood(Own::Name, job, i),
+        Check::Place => stood(Own::Place, job, i),
     }
 }
 

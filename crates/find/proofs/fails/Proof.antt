@@ -1,5 +1,5 @@
 -- `find::fails` meets its contract. Assumes nothing.
-use Rattle.find.specs.Dispatch.{testOf}
+use Rattle.find.specs.Dispatch.{pairOf, testOf}
 use borrow.Author.Needs.{needs}
 use Rattle.find.proofs.fails.Statement.{statement}
 use Rattle.find.proofs.fails.Tie as tie
@@ -22,11 +22,17 @@ enum-told-3 c = search needs
 too-close-requires : tie.Need-too-close-requires
 too-close-requires c κs = search needs
 
-enum-known-c : tie.Need-enum-known-c
-enum-known-c c = search needs
+enum-told-4 : tie.Need-enum-told-4
+enum-told-4 c = search needs
 
 stood-requires : tie.Need-stood-requires
 stood-requires c κs = search needs
+
+enum-told-5 : tie.Need-enum-told-5
+enum-told-5 c = search needs
+
+stood-requires-2 : tie.Need-stood-requires-2
+stood-requires-2 c κs = search needs
 
 returns : tie.Need-returns
 unfolding testOf
@@ -41,8 +47,12 @@ unfolding testOf
 returns-3 c = rw (c .before .enum-told3 .given .1) (c .too-close .ensures)
 
 returns-4 : tie.Need-returns-4
-unfolding testOf
-returns-4 c = rw (c .before .before .c .given .1) (c .stood .ensures)
+unfolding testOf pairOf
+returns-4 c = rw (c .before .enum-told4 .given .1) (c .stood .ensures)
+
+returns-5 : tie.Need-returns-5
+unfolding testOf pairOf
+returns-5 c = rw (c .before .enum-told5 .given .1) (c .stood2 .ensures)
 
 pub fails-spec : {M : Type 1} → statement M
 fails-spec =
@@ -54,9 +64,12 @@ fails-spec =
     not-above-requires
     enum-told-3
     too-close-requires
-    enum-known-c
+    enum-told-4
     stood-requires
+    enum-told-5
+    stood-requires-2
     returns
     returns-2
     returns-3
-    returns-4)
+    returns-4
+    returns-5)

@@ -1,7 +1,7 @@
 -- `checks::verdicts::of_job` meets its contract. Assumes nothing.
 use mathlib.Core.Path.{_≡_}
 use Rattle.checks.specs.declared.Verdict.the-variants.{Sound}
-use Rattle.find.specs.Dispatch.{pairOf, testOf}
+use Rattle.find.specs.Dispatch.{testOf}
 use Rattle.paper.specs.laws.Tests.{jobTests}
 use Rattle.checks.specs.Sound.{was-sound}
 use Rattle.checks.proofs.verdicts.of_job.Statement.{statement}
@@ -36,7 +36,7 @@ try-records-requires-5 : tie.Need-try-records-requires-5
 try-records-requires-5 c κs = λ sound. c .before .before .before .before .before .pre (after-6 c sound)
 
 returns : tie.Need-returns
-unfolding jobTests testOf pairOf
+unfolding jobTests testOf
 returns c =
     let c6 = c .before in
     let c12 = c6 .before in
