@@ -5,13 +5,13 @@ use mathlib.Core.List.{List}
 use Prim.Native.Nat.{ℕ}
 use lib.ListN.{length}
 use Rattle.walks.specs.declared.Walked.{Walked}
-use Rattle.sheets.specs.declared.Step.the-variants.{Total, End, NotBest}
+use Rattle.layouts.specs.declared.Step.the-variants.{Total, End, NotBest}
 use Rattle.paper.specs.declared.Answer.the-variants.{Total as Sum, End as Last, Refused}
 use Rattle.paper.specs.declared.Paged.the-variants.{Wrote, Refused as NotPaged}
 use Rattle.paper.specs.Refusals.{refusal, Passed, firstTrials, measureTrials}
 use Rattle.paper.specs.Promises.{FirstAnswers, NextAnswers, PageAnswers}
 use Rattle.paper.specs.laws.Accepted.{best-passed, not-best-refused}
-use Rattle.sheets.specs.Replies.{FirstOn, NextOn, PageOn}
+use Rattle.layouts.specs.Replies.{FirstOn, NextOn, PageOn}
 
 module _ (job : List ℕ) (lw bw : ℕ) (before : List ℕ) where
   pub first-answers : (after : List ℕ) (t : ℕ) → Passed (firstTrials job lw bw (length before)) → FirstOn job lw bw before after t

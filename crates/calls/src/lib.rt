@@ -1,10 +1,10 @@
 // The calls as Rattle functions that answer an enum. Each keeps the promise of its name in paper's Promises.antt, for every input.
 use checks::Verdict;
+use layouts::Step;
 use paper::Answer;
 use paper::Drawn;
 use paper::Paged;
 use paper::Refusal;
-use sheets::Step;
 ghost use mathlib.Core.Path.{_≡_};
 ghost use lib.ListN.{length};
 ghost use Rattle.paper.specs.Layouts.{boardOf, leader};
@@ -18,7 +18,7 @@ pub fn first(job: &[u8], lw: u32, bw: u32, list: &mut [u16]) -> Answer
 {
     let v = checks::verdicts::of_first(job, lw, bw, list.len());
     match v {
-        Verdict::Sound => Answer::Total(sheets::first_on(job, lw, bw, list)),
+        Verdict::Sound => Answer::Total(layouts::first_on(job, lw, bw, list)),
         Verdict::Refused(r) => Answer::Refused(r),
     }
 }
@@ -39,7 +39,7 @@ fn step(job: &[u8], lw: u32, bw: u32, list: &mut [u16]) -> Answer
     requires { ⌜ Passed (measureTrials (now job) lw bw (now list)) ⌝ }
     ensures { λ r. ⌜ NextAnswers (now (job .entry)) lw bw (now (list .entry)) r (now (list .exit)) ⌝ }
 {
-    let s = sheets::next_on(job, lw, bw, list);
+    let s = layouts::next_on(job, lw, bw, list);
     match s {
         Step::Total(t) => Answer::Total(t),
         Step::End => Answer::End,
@@ -63,7 +63,7 @@ fn follow(job: &[u8], lw: u32, bw: u32, list: &[u16], page: &mut [u16]) -> Paged
     requires { ⌜ Passed (measureTrials (now job) lw bw (now list)) ⌝ }
     ensures { λ r. ⌜ PageAnswers (now (job .entry)) lw bw (now (list .entry)) (now (page .entry)) r (now (page .exit)) ⌝ }
 {
-    let s = sheets::page_on(job, lw, bw, list, page);
+    let s = layouts::page_on(job, lw, bw, list, page);
     if s.best {
         Paged::Wrote(s.count)
     } else {

@@ -7,6 +7,6 @@ fn main() {
     let mut input = [0u8; 1040];
     let n = io::read_full(STDIN_FILENO, &mut input);
     let mut text = [0u8; 5424];
-    let k = print::sheet(&input[..n], &mut text);
+    let k = printed::sheet(&input[..n], &mut text);
     io::write_all(STDOUT_FILENO, &text[..k]);
 }

@@ -14,7 +14,7 @@ use Rattle.steps.proofs.Filling.{working-with}
 use Rattle.numbers.specs.Copies.{Copied}
 use Rattle.walks.specs.declared.Start.{Start}
 use Rattle.walks.specs.declared.Start.the-variants.{First, Given}
-use Rattle.walks.specs.Walks.{listRules, Begins, Stepped, Turned}
+use Rattle.walks.specs.Walks.{listRules, Begins, SteppedOn, Turned}
 
 -- A walk goes on from its start.
 pub began : {order cs lo hi hs ts w : List ℕ} (start : Start) (l : List ℕ) → Working order cs lo hi hs ts w → Begins (listRules order cs lo hi) start w l true
@@ -25,7 +25,7 @@ began Given l W b = rw (b .1) (W, b .0)
 module _ (order cs lo hi l before : List ℕ) where
   -- From the layout of l on, k layouts are on the page, up to place `at`, and w holds the last, which is best.
   pub record Turning (w page : List ℕ) (at k : ℕ) : Type 0 where
-    pub steps : Stepped (listRules order cs lo hi) (length order) l before w page k
+    pub steps : SteppedOn (listRules order cs lo hi) (length order) l before w page k
     pub best : BestLayout order cs lo hi w
     pub place : at ≡ k * length order
     pub inside : at ≤ length before
@@ -33,7 +33,7 @@ module _ (order cs lo hi l before : List ℕ) where
     pub wide : length page ≡ length before
 
   pub turning-none : BestLayout order cs lo hi l → Turning l before 0 0
-  unfolding Stepped
+  unfolding SteppedOn
   turning-none s = record { steps = (refl, refl); best = s; place = omega arith; inside = omega arith; long = refl; wide = refl }
 
   module _ (w page : List ℕ) (at k : ℕ) (T : Turning w page at k) where
@@ -44,7 +44,7 @@ module _ (order cs lo hi l before : List ℕ) where
     -- A step, and its layout goes to the page.
     pub turning-more : (v after : List ℕ) → length order ≤ length page - at → NextIs order cs lo hi w v → Copied (length order) at v page after
         → Turning v after (at + length order) (k + 1)
-    unfolding Stepped
+    unfolding SteppedOn
     turning-more v after room N C = rw (add-one k) (record {
       steps = (w, page, T .steps, N, rw (T .place) at C);
       best = N .earliest .has .best;

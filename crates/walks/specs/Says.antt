@@ -6,7 +6,7 @@ use Prim.Native.Nat.{ℕ, zero, suc}
 use Rattle.walks.specs.declared.Start.{Start}
 use Rattle.walks.specs.declared.Start.the-variants.{First, Given}
 use Rattle.walks.specs.declared.Walked.{Walked}
-use Rattle.walks.specs.Walks.{Rules, Begins, Stepped, Turns, Walks}
+use Rattle.walks.specs.Walks.{Rules, Begins, SteppedOn, Turns, Walks}
 
 -- What R says, S says as well.
 pub record Says (R S : Rules) : Type 0 where
@@ -22,8 +22,8 @@ module _ {R S : Rules} (says : Says R S) where
   begins-said Given w l true b = (says .best w .0 (b .0), b .1)
   begins-said Given w l false b = (λ s. b .0 (says .best w .1 s), b .1)
 
-  stepped-said : (n : ℕ) (w page v after : List ℕ) (k : ℕ) → Stepped R n w page v after k → Stepped S n w page v after k
-  unfolding Stepped
+  stepped-said : (n : ℕ) (w page v after : List ℕ) (k : ℕ) → SteppedOn R n w page v after k → SteppedOn S n w page v after k
+  unfolding SteppedOn
   stepped-said n w page v after zero s = s
   stepped-said n w page v after (suc k) (u, half, s, next, here) = (u, half, stepped-said n w page u half k s, says .next u v next, here)
 

@@ -42,15 +42,15 @@ Begins R First w l r = (r ≡ true) × R .Earliest w l
 Begins R Given w l r = SaysWhether r (R .Best w) × (l ≡ w)
 
 -- From w on k layouts of n entries came on the page, one after the other, each the next after the one before it; v holds the last.
-unfoldable pub Stepped : Rules → ℕ → List ℕ → List ℕ → List ℕ → List ℕ → ℕ → Type 0
-Stepped R n w page v after zero = (v ≡ w) × (after ≡ page)
-Stepped R n w page v after (suc k) =
-    (u : List ℕ) × (half : List ℕ) × Stepped R n w page u half k × R .Next u v × Copied n (k * n) v half after
+unfoldable pub SteppedOn : Rules → ℕ → List ℕ → List ℕ → List ℕ → List ℕ → ℕ → Type 0
+SteppedOn R n w page v after zero = (v ≡ w) × (after ≡ page)
+SteppedOn R n w page v after (suc k) =
+    (u : List ℕ) × (half : List ℕ) × SteppedOn R n w page u half k × R .Next u v × Copied n (k * n) v half after
 
 -- All of them came that fit the page, or there are no more.
 pub record Turned (R : Rules) (n : ℕ) (w page v after : List ℕ) (k : ℕ) : Type 0 where
   pub fit : k * n ≤ length page
-  pub steps : Stepped R n w page v after k
+  pub steps : SteppedOn R n w page v after k
   pub all : (length page < suc k * n) ⊎ R .Last v
 
 -- Where the first layout is not best, none came.

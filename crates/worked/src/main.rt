@@ -234,7 +234,7 @@ fn drawn(job: &[u8], i: u32, q: u32) {
 
 fn printed(job: &[u8]) {
     let mut text = [0u8; 5424];
-    let k = print::sheet(job, &mut text);
+    let k = printed::sheet(job, &mut text);
     say(b" =\n");
     say(&text[..k]);
 }

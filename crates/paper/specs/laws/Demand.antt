@@ -50,23 +50,23 @@ module _ (c : Calls) (R : Regular c) (lent : List ℕ) (accepted : Passed (c .fi
   S = R .searchable (length lent) accepted
 
   -- A sheet: a list that holds a best layout and keeps the rest of the lent list.
-  abbrev Sheet : List ℕ → Type 0
-  Sheet l = Kept (entries c) lent l × Best (c .problem) (held l)
+  abbrev Good : List ℕ → Type 0
+  Good l = Kept (entries c) lent l × Best (c .problem) (held l)
 
   abbrev at : List (List ℕ) → ℕ → ℕ → ℕ
   at ls k = held (getD ls k [])
 
   -- The calls leave sheets, the first and the next.
-  first-is : (l : List ℕ) (t : ℕ) → FirstReplies c lent (pos t) l → FirstBest (c .problem) (held l) × Sheet l
+  first-is : (l : List ℕ) (t : ℕ) → FirstReplies c lent (pos t) l → FirstBest (c .problem) (held l) × Good l
   first-is l t p = let f = total-told c (R .numbered) lent l t p in (f .1, (f .3, f .1 .best))
 
-  next-is : (l m : List ℕ) (t : ℕ) → Sheet l → NextReplies c l (pos t) m → NextBest (c .problem) (held l) (held m) × Sheet m
+  next-is : (l m : List ℕ) (t : ℕ) → Good l → NextReplies c l (pos t) m → NextBest (c .problem) (held l) (held m) × Good m
   next-is l m t g p = let n = next-total-told c (R .numbered) l m t p in (n .1, (kept-trans (entries c) lent l m (g .0) (n .3), n .1 .best))
 
   -- ---- what a run holds, from a sheet on
 
   -- best layouts, each after the sheet,
-  later : (l : List ℕ) (ls : List (List ℕ)) → Sheet l → NextRun c l ls → (k : ℕ) → k < length ls → Before b (held l) (at ls k) × Best (c .problem) (at ls k)
+  later : (l : List ℕ) (ls : List (List ℕ)) → Good l → NextRun c l ls → (k : ℕ) → k < length ls → Before b (held l) (at ls k) × Best (c .problem) (at ls k)
   later l [] g r k h = absurd (omega arith)
   later l (m ∷ ls) g (t, n, r) zero h = let s = next-is l m t g n in (s .0 .later, s .0 .best)
   later l (m ∷ ls) g (t, n, r) (suc k) h =
@@ -75,7 +75,7 @@ module _ (c : Calls) (R : Regular c) (lent : List ℕ) (accepted : Passed (c .fi
       (before-trans b (S .differ) (held l) (held m) (at ls k) (s .0 .later) (q .0), q .1)
 
   -- in order,
-  rising : (l : List ℕ) (ls : List (List ℕ)) → Sheet l → NextRun c l ls → (j k : ℕ) → j < k → k < suc (length ls) → Before b (at (l ∷ ls) j) (at (l ∷ ls) k)
+  rising : (l : List ℕ) (ls : List (List ℕ)) → Good l → NextRun c l ls → (j k : ℕ) → j < k → k < suc (length ls) → Before b (at (l ∷ ls) j) (at (l ∷ ls) k)
   rising l ls g r j zero h i = absurd (omega arith)
   rising l ls g r zero (suc k) h i = later l ls g r k (omega arith) .0
   rising l [] g r (suc j) (suc k) h i = absurd (omega arith)
@@ -91,7 +91,7 @@ module _ (c : Calls) (R : Regular c) (lent : List ℕ) (accepted : Passed (c .fi
   here-or-later l ls f low rest (inr (inl same)) = (0, omega arith, same)
   here-or-later l ls f low rest (inr (inr h)) = absurd (low h)
 
-  every : (l : List ℕ) (ls : List (List ℕ)) → Sheet l → NextRun c l ls → (f : ℕ → ℕ) → Best (c .problem) f → ¬ Before b f (held l) → In (l ∷ ls) f
+  every : (l : List ℕ) (ls : List (List ℕ)) → Good l → NextRun c l ls → (f : ℕ → ℕ) → Best (c .problem) f → ¬ Before b f (held l) → In (l ∷ ls) f
   every l [] g r f best low = here-or-later l [] f low (λ h. absurd (end-told c (R .numbered) l l r .1 f best h)) (before-total b (held l) f)
   every l (m ∷ ls) g (t, n, r) f best low =
       let s = next-is l m t g n in
@@ -111,11 +111,11 @@ module _ (c : Calls) (R : Regular c) (lent : List ℕ) (accepted : Passed (c .fi
 
   -- ---- the end comes, for a layout's rank rises and has a top
 
-  asks : (k : ℕ) (l : List ℕ) → Sheet l → suc (length (words (b .pads) (b .ports))) ≤ rank b (held l) + k → (ls : List (List ℕ)) × NextRun c l ls
+  asks : (k : ℕ) (l : List ℕ) → Good l → suc (length (words (b .pads) (b .ports))) ≤ rank b (held l) + k → (ls : List (List ℕ)) × NextRun c l ls
   asks zero l g h = absurd (omega (arith, rank-top b (held l)))
   asks (suc k) l g h = go (next-made c R l (R .next-is l .1 (rw (g .0 .long) accepted, g .1))) (asks k)
     where
-      go : Steps c R l → ((m : List ℕ) → Sheet m → suc (length (words (b .pads) (b .ports))) ≤ rank b (held m) + k → (ls : List (List ℕ)) × NextRun c m ls)
+      go : Steps c R l → ((m : List ℕ) → Good m → suc (length (words (b .pads) (b .ports))) ≤ rank b (held m) + k → (ls : List (List ℕ)) × NextRun c m ls)
           → (ls : List (List ℕ)) × NextRun c l ls
       go (inr n) rest = ([], (End, n, refl))
       go (inl (t, m, n)) rest =
@@ -124,10 +124,10 @@ module _ (c : Calls) (R : Regular c) (lent : List ℕ) (accepted : Passed (c .fi
           let r = rest m (s .1) (omega arith) in
           (m ∷ r .0, (t, (Total t, n, refl), r .1))
 
-  pub asks-on : (l : List ℕ) → Sheet l → (ls : List (List ℕ)) × NextRun c l ls
+  pub asks-on : (l : List ℕ) → Good l → (ls : List (List ℕ)) × NextRun c l ls
   asks-on l g = asks (suc (length (words (b .pads) (b .ports)))) l g (omega arith)
 
-  goes-on : (l : List ℕ) (ls : List (List ℕ)) → Sheet l → NextSoFar c l ls → (ms : List (List ℕ)) × NextRun c l (ls ++ ms)
+  goes-on : (l : List ℕ) (ls : List (List ℕ)) → Good l → NextSoFar c l ls → (ms : List (List ℕ)) × NextRun c l (ls ++ ms)
   goes-on l [] g s = asks-on l g
   goes-on l (m ∷ ls) g (t, n, s) = let r = goes-on m ls (next-is l m t g n .1) s in (r .0, (t, n, r .1))
 

@@ -68,11 +68,11 @@ refusal-back r s = λ i. record { reason = reason i; at = at i; earlier = earlie
 -- ---- refusals by trials are such
 
 -- Each trial has a number of 1 or more, of 16 bits, and is tried at 65,536 records at most if the trials before it are clean.
-abbrev pub Narrow : List Trial → Type 0
-Narrow [] = Unit {0}
-Narrow (t ∷ ts) = (1 ≤ t .reason) × (t .reason < 65536) × (t .among ≤ 65536) × (Clean t → Narrow ts)
+abbrev pub Numbering : List Trial → Type 0
+Numbering [] = Unit {0}
+Numbering (t ∷ ts) = (1 ≤ t .reason) × (t .reason < 65536) × (t .among ≤ 65536) × (Clean t → Numbering ts)
 
-pub refused-small : (ts : List Trial) (r : Refusal) → Narrow ts → RefusedBy ts r → SmallRefusal r
+pub refused-small : (ts : List Trial) (r : Refusal) → Numbering ts → RefusedBy ts r → SmallRefusal r
 refused-small [] r n a = absurd a
 refused-small (t ∷ ts) r n (inl a) = omega (arith, a .0, a .1 .inside)
 refused-small (t ∷ ts) r n (inr a) = refused-small ts r (n .3 (a .0)) (a .1)
@@ -90,16 +90,16 @@ small-back r c w e = sym (refusal-back r w) ∙ ap refusalIn (sym e)
 -- ---- what C's number tells
 
 -- What an answer says of its call's trials: one of them refuses, and it has the refusal's number; or all are passed, and its number is the end's, -1, or more.
-abbrev Says : List Trial → Type 0 → ℤ → Type 0
-Says ts Unchanged n = ((r : Refusal) × RefusedBy ts r × Unchanged × (n ≡ refusalNumber r)) ⊎ (Passed ts × (negsuc 0 ≤ℤ n))
+abbrev Answered : List Trial → Type 0 → ℤ → Type 0
+Answered ts Unchanged n = ((r : Refusal) × RefusedBy ts r × Unchanged × (n ≡ refusalNumber r)) ⊎ (Passed ts × (negsuc 0 ≤ℤ n))
 
 -- So the number refuses exactly what a trial refuses, and the caller gets the refusal back from it.
-says-refuses : (ts : List Trial) (Unchanged : Type 0) (m : ℤ) → ((r : Refusal) → RefusedBy ts r → SmallRefusal r) → Says ts Unchanged m → RefusesBy ts m Unchanged
-says-refuses ts U m narrow (inl (r, x, u, n)) = record {
+answered-refuses : (ts : List Trial) (Unchanged : Type 0) (m : ℤ) → ((r : Refusal) → RefusedBy ts r → SmallRefusal r) → Answered ts Unchanged m → RefusesBy ts m Unchanged
+answered-refuses ts U m narrow (inl (r, x, u, n)) = record {
   exactly = ((λ l p. not-both ts r p x), (λ _. rw n (refusal-low r (narrow r x))));
   named = λ l. (subst (RefusedBy ts) (small-back r m (narrow r x) n) x, u);
 }
-says-refuses ts U m narrow (inr (p, h)) = record { exactly = ((λ l. absurd (high l)), (λ n. absurd (n p))); named = λ l. absurd (high l) }
+answered-refuses ts U m narrow (inr (p, h)) = record { exactly = ((λ l. absurd (high l)), (λ n. absurd (n p))); named = λ l. absurd (high l) }
   where
     high : m ≤ℤ negℤ (pos 65536) → ⊥
     high l = omega (whole, neg-nums (pos 65536))
@@ -113,9 +113,9 @@ module _ (c : Calls) (N : Numbered c) where
     total-told t (Refused r, p, e) = absurd (refusal-apart r t (N .first (length before) r (p .0)) e)
 
     pub first-refuses : (m : ℤ) → FirstReplies c before m after → RefusesBy (c .first (length before)) m (after ≡ before)
-    first-refuses m (a, p, e) = says-refuses (c .first (length before)) (after ≡ before) m (N .first (length before)) (rw e (says a p))
+    first-refuses m (a, p, e) = answered-refuses (c .first (length before)) (after ≡ before) m (N .first (length before)) (rw e (says a p))
       where
-        says : (a : Answer) → FirstOver c before a after → Says (c .first (length before)) (after ≡ before) (number a)
+        says : (a : Answer) → FirstOver c before a after → Answered (c .first (length before)) (after ≡ before) (number a)
         says (Total t) p = inr (p .0, omega whole)
         says End p = absurd p
         says (Refused r) p = inl (r, p .0, p .1, refl)
@@ -133,9 +133,9 @@ module _ (c : Calls) (N : Numbered c) where
     end-told (Refused r, p, e) = absurd (refusal-not-end r (N .next before r (p .0)) e)
 
     pub next-refuses : (m : ℤ) → NextReplies c before m after → RefusesBy (c .next before) m (after ≡ before)
-    next-refuses m (a, p, e) = says-refuses (c .next before) (after ≡ before) m (N .next before) (rw e (says a p))
+    next-refuses m (a, p, e) = answered-refuses (c .next before) (after ≡ before) m (N .next before) (rw e (says a p))
       where
-        says : (a : Answer) → NextOver c before a after → Says (c .next before) (after ≡ before) (number a)
+        says : (a : Answer) → NextOver c before a after → Answered (c .next before) (after ≡ before) (number a)
         says (Total t) p = inr (p .0, omega whole)
         says End p = inr (p .0, omega whole)
         says (Refused r) p = inl (r, p .0, p .1, refl)
@@ -148,9 +148,9 @@ module _ (c : Calls) (N : Numbered c) where
     measure-told t (Refused r, p, e) = absurd (refusal-apart r t (N .measure list r p) e)
 
     pub measure-refuses : (m : ℤ) → MeasureReplies c list m → RefusesBy (c .measure list) m (Unit {0})
-    measure-refuses m (a, p, e) = says-refuses (c .measure list) (Unit {0}) m (N .measure list) (rw e (says a p))
+    measure-refuses m (a, p, e) = answered-refuses (c .measure list) (Unit {0}) m (N .measure list) (rw e (says a p))
       where
-        says : (a : Answer) → MeasureOver c list a → Says (c .measure list) (Unit {0}) (number a)
+        says : (a : Answer) → MeasureOver c list a → Answered (c .measure list) (Unit {0}) (number a)
         says (Total t) p = inr (p .0, omega whole)
         says End p = absurd p
         says (Refused r) p = inl (r, p, tt, refl)
@@ -162,9 +162,9 @@ module _ (c : Calls) (N : Numbered c) where
     wrote-told k (NotPaged r, p, e) = absurd (refusal-apart r k (N .next given r (p .0)) e)
 
     pub page-refuses : (m : ℤ) → PageReplies c given before m after → RefusesBy (c .next given) m (after ≡ before)
-    page-refuses m (a, p, e) = says-refuses (c .next given) (after ≡ before) m (N .next given) (rw e (says a p))
+    page-refuses m (a, p, e) = answered-refuses (c .next given) (after ≡ before) m (N .next given) (rw e (says a p))
       where
-        says : (a : Paged) → PageOver c given before a after → Says (c .next given) (after ≡ before) (pagedNumber a)
+        says : (a : Paged) → PageOver c given before a after → Answered (c .next given) (after ≡ before) (pagedNumber a)
         says (Wrote k) p = inr (p .0, omega whole)
         says (NotPaged r) p = inl (r, p .0, p .1, refl)
 
@@ -202,9 +202,9 @@ module _ (job : List ℕ) (i q : ℕ) (before after : List Float) where
 
   -- and every other number is a refusal.
   pub draw-refuses : (m : ℤ) → DrawPromise job i q before m after → RefusesBy (drawTrials job i q (length before)) m (after ≡ before)
-  draw-refuses m (d, p, e) = says-refuses (drawTrials job i q (length before)) (after ≡ before) m narrow (rw e (says d p))
+  draw-refuses m (d, p, e) = answered-refuses (drawTrials job i q (length before)) (after ≡ before) m narrow (rw e (says d p))
     where
-      says : (d : Drawn) → DrawAnswers job i q before d after → Says (drawTrials job i q (length before)) (after ≡ before) (drawnNumber d)
+      says : (d : Drawn) → DrawAnswers job i q before d after → Answered (drawTrials job i q (length before)) (after ≡ before) (drawnNumber d)
       says (Straight d) p = inr (p .0, omega whole)
       says (Bent d) p = inr (p .0, omega whole)
       says (NotDrawn r) p = inl (r, p .0, p .1, refl)

@@ -136,17 +136,17 @@ module _ (p : Problem) (given before : List ℕ) where
   -- ---- a page can be filled
 
   module _ (S : Searchable p) (some : 0 < p .board .pads) where
-    abbrev Filled : Type 0
-    Filled = (k : ℕ) × (after : List ℕ) × Following p given before k after
+    abbrev PageFilled : Type 0
+    PageFilled = (k : ℕ) × (after : List ℕ) × Following p given before k after
 
     -- A page on which the last layout is a best one can be filled on, for the room that is left becomes less.
-    fill-on : (room k : ℕ) (page : List ℕ) → length before ≤ room + k * p .board .pads → Paging k page → Best p (turn page k) → Filled
+    fill-on : (room k : ℕ) (page : List ℕ) → length before ≤ room + k * p .board .pads → Paging k page → Best p (turn page k) → PageFilled
     fill-on zero k page enough P best = (k, page, page-full k page P (omega (arith, one-more k (p .board .pads))))
     fill-on (suc room) k page enough P best =
         go (fill-on room (suc k)) (decLt (length before) (suc k * p .board .pads)) (next-or-last p S (turn page k) best)
       where
-        go : ((next : List ℕ) → length before ≤ room + suc k * p .board .pads → Paging (suc k) next → Best p (turn next (suc k)) → Filled)
-            → Dec (length before < suc k * p .board .pads) → ((g : ℕ → ℕ) × NextBest p (turn page k) g) ⊎ LastBest p (turn page k) → Filled
+        go : ((next : List ℕ) → length before ≤ room + suc k * p .board .pads → Paging (suc k) next → Best p (turn next (suc k)) → PageFilled)
+            → Dec (length before < suc k * p .board .pads) → ((g : ℕ → ℕ) × NextBest p (turn page k) g) ⊎ LastBest p (turn page k) → PageFilled
         go on (yes full) d = (k, page, page-full k page P full)
         go on (no full) (inr last) = (k, page, page-ends k page P last)
         go on (no full) (inl (g, next)) =
@@ -156,7 +156,7 @@ module _ (p : Problem) (given before : List ℕ) where
             on (c .0) (omega (arith, one-more k (p .board .pads))) (paging-more k page P w (c .0) (c .1) (S .steady) (omega arith) s)
             (best-same p (S .steady) (held w) (turn (c .0) (suc k)) (λ i h. sym (paging-here k page P w (c .0) (c .1) i h)) (s .best))
 
-    pub page-filled : Best p (held given) → Filled
+    pub page-filled : Best p (held given) → PageFilled
     page-filled = fill-on (length before) 0 before (omega arith) paging-none
 
 -- A page depends only on the ports that the given list holds.

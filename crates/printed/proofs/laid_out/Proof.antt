@@ -1,0 +1,55 @@
+-- `print::laid_out` meets its contract. Assumes nothing.
+use denote.Ref.{now}
+use borrow.Author.Needs.{needs}
+use Rattle.printed.specs.Lines.{bends-are, sheet-written}
+use Rattle.printed.proofs.laid_out.Statement.{statement}
+use Rattle.printed.proofs.laid_out.Tie as tie
+
+total-requires : tie.Need-total-requires
+total-requires c κs = search needs
+
+lines-requires : tie.Need-lines-requires
+lines-requires c κs = search needs
+
+slice-aggregate-word : tie.Need-slice-aggregate-word
+slice-aggregate-word c = search needs
+
+word-requires : tie.Need-word-requires
+word-requires c κs = search needs
+
+field-requires : tie.Need-field-requires
+field-requires c κs = search needs
+
+field-requires-2 : tie.Need-field-requires-2
+field-requires-2 c κs = search needs
+
+same-length : tie.Need-same-length
+same-length c = search needs
+
+returns : tie.Need-returns
+returns c =
+    let f1 = c .before .before in
+    let f0 = f1 .before .before .before .before in
+    let w = f0 .before .before .before .before in
+    let l = w .before .before .before .before .before in
+    let t = l .before .before in
+    let s = t .before .before .before .before in
+    let job = now (s .args .job) in
+    let list = now (s .args .list) in (
+      sheet-written job list (s .pre .1) (bends-are job list (t .total .result) (t .total .ensures .0))
+          (l .lines .ensures .0) (w .word .ensures) (f0 .field .ensures .0) (f1 .field2 .ensures .0),
+      search needs,
+    )
+
+pub laid-out-spec : {M : Type 1} → statement M
+laid-out-spec =
+    tie.close
+    (tie.spec
+    total-requires
+    lines-requires
+    slice-aggregate-word
+    word-requires
+    field-requires
+    field-requires-2
+    same-length
+    returns)
