@@ -16,7 +16,7 @@ use Rattle.checks.specs.declared.Verdict.{Verdict}
 use Rattle.checks.specs.declared.Verdict.the-variants.{Sound, Refused}
 use Rattle.checks.specs.Verdicts.{foundBy, outcome, andThen}
 
-pub outcome-sound : (r : ℕ) (f : Found) → outcome r f ≡ Sound → f ≡ Nowhere
+outcome-sound : (r : ℕ) (f : Found) → outcome r f ≡ Sound → f ≡ Nowhere
 outcome-sound r (At i j) e = absurd (let z : _≡_ {A = ℕ} 0 1 = cc in omega arith)
 outcome-sound r Nowhere e = refl
 

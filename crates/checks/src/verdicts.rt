@@ -7,9 +7,9 @@ ghost use mathlib.Core.Path.{_≡_};
 ghost use Prim.Native.Nat.{_≤_};
 ghost use lib.ListN.{length};
 ghost use Rattle.paper.specs.Job.{count};
-ghost use Rattle.paper.specs.Layouts.{boardOf};
-ghost use Rattle.paper.specs.laws.Tests.{atEach, atWhole, jobTests, layoutTests, firstTests, measureTests, drawTests};
-ghost use Rattle.find.specs.Dispatch.{testOf};
+ghost use Rattle.paper.specs.Layouts.{boardOf, held};
+ghost use Rattle.paper.specs.laws.Tests.{badEntry, meetAt, atEach, atPairs, atWhole, jobTests, layoutTests, firstTests, measureTests, drawTests};
+ghost use Rattle.find.specs.Dispatch.{testOf, Led};
 ghost use Rattle.checks.specs.Verdicts.{outcome, andThen, verdictAfter};
 
 // What a check found, as a verdict.
@@ -53,6 +53,31 @@ fn try_records(v: Verdict, reason: u16, c: Check, job: &[u8]) -> Verdict
     }
 }
 
+// 8: the entries of the list.
+fn try_entries(v: Verdict, job: &[u8], list: &[u16]) -> Verdict
+    requires { ⌜ (v ≡ Verdict.Sound → (length (now job) ≤ 1024) × (count (now job) ≤ length (now list))) ⌝ }
+    ensures { λ r. ⌜ r ≡ andThen v (atEach 8 (count (now (job .entry))) (badEntry (count (now (job .entry))) (now (list .entry)))) ⌝ }
+{
+    match v {
+        Verdict::Sound => verdict(8, find::layout::first_bad_entry(list, job::records(job))),
+        Verdict::Refused(r) => Verdict::Refused(r),
+    }
+}
+
+// 9: the leaders of the records, two at a time.
+fn try_touching(v: Verdict, job: &[u8], list: &[u16]) -> Verdict
+    requires { ⌜ (v ≡ Verdict.Sound → (length (now job) ≤ 1024) × Led (now list) (count (now job))) ⌝ }
+    ensures { λ r. ⌜ r ≡ andThen v (atPairs 9 (count (now (job .entry))) (meetAt (boardOf (now (job .entry))) (held (now (list .entry))))) ⌝ }
+{
+    match v {
+        Verdict::Sound => verdict(
+            9,
+            find::layout::first_touching(job, list, job::records(job)),
+        ),
+        Verdict::Refused(r) => Verdict::Refused(r),
+    }
+}
+
 // 4 to 7, and 12 directly after 5: the job's records.
 pub fn of_job(v: Verdict, job: &[u8]) -> Verdict
     requires { ⌜ (v ≡ Verdict.Sound → length (now job) ≤ 1024) ⌝ }
@@ -65,17 +90,13 @@ pub fn of_job(v: Verdict, job: &[u8]) -> Verdict
     try_records(v6, 7, Check::Place, job)
 }
 
-// 8 and 9: the layout, once there is room for it.
-fn of_layout(job: &[u8], list: &[u16]) -> Verdict
-    requires { ⌜ (length (now job) ≤ 1024) × (count (now job) ≤ length (now list)) ⌝ }
-    ensures { λ r. ⌜ r ≡ verdictAfter Verdict.Sound (layoutTests (boardOf (now (job .entry))) (now (list .entry))) ⌝ }
+// 8 and 9: the layout.
+pub fn of_layout(v: Verdict, job: &[u8], list: &[u16]) -> Verdict
+    requires { ⌜ (v ≡ Verdict.Sound → (length (now job) ≤ 1024) × (count (now job) ≤ length (now list))) ⌝ }
+    ensures { λ r. ⌜ r ≡ verdictAfter v (layoutTests (boardOf (now (job .entry))) (now (list .entry))) ⌝ }
 {
-    let n = job::records(job);
-    let v = verdict(8, find::layout::first_bad_entry(list, n));
-    match v {
-        Verdict::Sound => verdict(9, find::layout::first_touching(job, list, n)),
-        Verdict::Refused(r) => Verdict::Refused(r),
-    }
+    let v8 = try_entries(v, job, list);
+    try_touching(v8, job, list)
 }
 
 // First, with room for so many entries: 1, 2, 3 and the job's.
@@ -93,10 +114,7 @@ pub fn of_measure(job: &[u8], lw: u32, bw: u32, list: &[u16]) -> Verdict
     ensures { λ r. ⌜ r ≡ verdictAfter Verdict.Sound (measureTests (now (job .entry)) lw bw (now (list .entry))) ⌝ }
 {
     let v = of_first(job, lw, bw, list.len());
-    match v {
-        Verdict::Sound => of_layout(job, list),
-        Verdict::Refused(r) => Verdict::Refused(r),
-    }
+    of_layout(v, job, list)
 }
 
 // Draw of record i to port q, with room for so many floats: 1, 3, the job's and 11.

@@ -1,0 +1,40 @@
+-- `checks::verdicts::try_entries` meets its contract. Assumes nothing.
+use native.Mathlib.Omega.{arith}
+use borrow.Author.Needs.{needs}
+use Rattle.checks.proofs.verdicts.try_entries.Statement.{statement}
+use Rattle.checks.proofs.verdicts.try_entries.Tie as tie
+
+enum-told : tie.Need-enum-told
+enum-told c = search needs
+
+records-requires : tie.Need-records-requires
+records-requires c κs = omega (arith, c .before .before .before .before .pre (c .enum-told .given .1) .0)
+
+first-bad-entry-requires : tie.Need-first-bad-entry-requires
+first-bad-entry-requires c κs =
+    rw (c .records .ensures) (c .before .before .before .before .before .pre (c .before .enum-told .given .1) .1)
+
+verdict-requires : tie.Need-verdict-requires
+verdict-requires c κs = search needs
+
+enum-known-v : tie.Need-enum-known-v
+enum-known-v c = search needs
+
+returns : tie.Need-returns
+returns c =
+    rw (c .before .before .before .enum-told .given .1, c .verdict .ensures, c .before .first-bad-entry .ensures, c .before .before .records .ensures)
+
+returns-2 : tie.Need-returns-2
+returns-2 c = rw (c .before .v .given .1)
+
+pub try-entries-spec : {M : Type 1} → statement M
+try-entries-spec =
+    tie.close
+    (tie.spec
+    enum-told
+    records-requires
+    first-bad-entry-requires
+    verdict-requires
+    enum-known-v
+    returns
+    returns-2)
