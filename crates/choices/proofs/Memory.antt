@@ -163,7 +163,7 @@ module _ {order cs lo hi w xs ys : List ℕ} (m : ℕ) (few : m < 64) (L : Learn
         facts = record {
           long = length-set ys (128 + m) (q + 1) ∙ L .facts .long;
           least = λ k l h. go k l h (ℕ-discrete k m);
-          most = λ k l h r c. rw (other-most k l) (L .facts .most k l (rw (other-most k l) at h) r (rw (other-start k l, other-stop k l) at c));
+          most = λ k l h r c. rw (other-most k l) (L .facts .most k l (rw (other-most k l) at h) r (rw (strip-as k l .0, strip-as k l .1) at c));
         };
         here = same m few (L .here);
         others = λ k l f. same k l (L .others k l f);
@@ -172,23 +172,20 @@ module _ {order cs lo hi w xs ys : List ℕ} (m : ℕ) (few : m < 64) (L : Learn
       zs : List ℕ
       zs = set ys (128 + m) (q + 1)
 
-      other-start : (k : ℕ) → k < 64 → startAt zs k ≡ startAt ys k
-      other-start k l = getD-set-other ys (128 + m) k (q + 1) 0 (λ e. omega arith)
-
-      other-stop : (k : ℕ) → k < 64 → stopAt zs k ≡ stopAt ys k
-      other-stop k l = getD-set-other ys (128 + m) (64 + k) (q + 1) 0 (λ e. omega arith)
+      strip-as : (k : ℕ) → k < 64 → (startAt zs k ≡ startAt ys k) × (stopAt zs k ≡ stopAt ys k)
+      strip-as k l = (getD-set-other ys (128 + m) k (q + 1) 0 (λ e. omega arith), getD-set-other ys (128 + m) (64 + k) (q + 1) 0 (λ e. omega arith))
 
       other-most : (k : ℕ) → k < 64 → mostAt zs k ≡ mostAt ys k
       other-most k l = getD-set-other ys (128 + m) (192 + k) (q + 1) 0 (λ e. omega arith)
 
       same : (k : ℕ) → k < 64 → Current order lo hi w ys k → Current order lo hi w zs k
-      same k l f h = let s = f (rw (other-most k l) at h) in record { start = other-start k l ∙ s .start; stop = other-stop k l ∙ s .stop }
+      same k l f h = let s = f (rw (other-most k l) at h) in record { start = strip-as k l .0 ∙ s .start; stop = strip-as k l .1 ∙ s .stop }
 
       here-least : leastAt zs m - 1 ≡ q
       here-least = omega (arith, getD-set-same ys (128 + m) (q + 1) 0 (omega (arith, L .facts .long)))
 
       go : (k : ℕ) → k < 64 → 0 < leastAt zs k → Dec (k ≡ m) → Chosen (LeadsAt order cs lo hi zs k) 0 (leastAt zs k - 1)
-      go k l h (yes e) = rw (e, here-least, other-start m few, other-stop m few) C
+      go k l h (yes e) = rw (e, here-least, strip-as m few .0, strip-as m few .1) C
       go k l h (no n) = least-alike (L .facts) k l
           (alike-set ys (128 + m) (q + 1) k (λ e. omega arith) (λ e. omega arith) (λ e. n (omega arith)) (λ e. omega arith)) h
 
@@ -198,7 +195,7 @@ module _ {order cs lo hi w xs ys : List ℕ} (m : ℕ) (few : m < 64) (L : Learn
       record {
         facts = record {
           long = length-set ys (192 + m) from ∙ L .facts .long;
-          least = λ k l h. rw (other-start k l, other-stop k l, other-least k l) (L .facts .least k l (rw (other-least k l) at h));
+          least = λ k l h. rw (strip-as k l .0, strip-as k l .1, other-least k l) (L .facts .least k l (rw (other-least k l) at h));
           most = λ k l h r c. go k l h r c (ℕ-discrete k m);
         };
         here = λ h. strip;
@@ -208,11 +205,8 @@ module _ {order cs lo hi w xs ys : List ℕ} (m : ℕ) (few : m < 64) (L : Learn
       zs : List ℕ
       zs = set ys (192 + m) from
 
-      other-start : (k : ℕ) → k < 64 → startAt zs k ≡ startAt ys k
-      other-start k l = getD-set-other ys (192 + m) k from 0 (λ e. omega arith)
-
-      other-stop : (k : ℕ) → k < 64 → stopAt zs k ≡ stopAt ys k
-      other-stop k l = getD-set-other ys (192 + m) (64 + k) from 0 (λ e. omega arith)
+      strip-as : (k : ℕ) → k < 64 → (startAt zs k ≡ startAt ys k) × (stopAt zs k ≡ stopAt ys k)
+      strip-as k l = (getD-set-other ys (192 + m) k from 0 (λ e. omega arith), getD-set-other ys (192 + m) (64 + k) from 0 (λ e. omega arith))
 
       other-least : (k : ℕ) → k < 64 → leastAt zs k ≡ leastAt ys k
       other-least k l = getD-set-other ys (192 + m) (128 + k) from 0 (λ e. omega arith)
@@ -221,7 +215,7 @@ module _ {order cs lo hi w xs ys : List ℕ} (m : ℕ) (few : m < 64) (L : Learn
       here-most = getD-set-same ys (192 + m) from 0 (omega (arith, L .facts .long))
 
       strip : StripOf order lo hi w zs m
-      strip = record { start = other-start m few ∙ S .start; stop = other-stop m few ∙ S .stop }
+      strip = record { start = strip-as m few .0 ∙ S .start; stop = strip-as m few .1 ∙ S .stop }
 
       alike : (k : ℕ) → k < 64 → (k ≡ m → ⊥) → Alike ys zs k
       alike k l n = alike-set ys (192 + m) from k (λ e. omega arith) (λ e. omega arith) (λ e. omega arith) (λ e. n (omega arith))
@@ -233,7 +227,7 @@ module _ {order cs lo hi w xs ys : List ℕ} (m : ℕ) (few : m < 64) (L : Learn
       go : (k : ℕ) → k < 64 → 0 < mostAt zs k → (r : ℕ) → LeadsAt order cs lo hi zs k r → Dec (k ≡ m) → r < mostAt zs k
       go k l h r c (yes e) =
           let d : LeadsAt order cs lo hi zs m r = rw e at c in
-          rw (e, here-most) (strip-below cs m from q small S C none r (rw (other-start m few, other-stop m few) at d))
+          rw (e, here-most) (strip-below cs m from q small S C none r (rw (strip-as m few .0, strip-as m few .1) at d))
       go k l h r c (no n) = most-alike (L .facts) k l (alike k l n) h r c
 
 -- ---- from place to place

@@ -124,7 +124,8 @@ module _ (S : Sides) (C : ℕ → ℕ → Least) (level : (j : ℕ) → S .lo j 
           (most-mono (2 ^ 32 + (padsIn S a q rest * 2 ^ 32 + padsIn S (q + 1) b rest * 2 ^ 32)) ((1 + padsIn S a b rest) * 2 ^ 32)
           (add (C r q) (add (bestWithin S C rest a q) (bestWithin S C rest (q + 1) b))) (omega arith)
           (most-plus (2 ^ 32) (padsIn S a q rest * 2 ^ 32 + padsIn S (q + 1) b rest * 2 ^ 32) (C r q) (add (bestWithin S C rest a q) (bestWithin S C rest (q + 1) b))
-          (cheap r q) (most-plus (padsIn S a q rest * 2 ^ 32) (padsIn S (q + 1) b rest * 2 ^ 32) (bestWithin S C rest a q) (bestWithin S C rest (q + 1) b) (ih a q) (ih (q + 1) b))))
+          (cheap r q)
+          (most-plus (padsIn S a q rest * 2 ^ 32) (padsIn S (q + 1) b rest * 2 ^ 32) (bestWithin S C rest a q) (bestWithin S C rest (q + 1) b) (ih a q) (ih (q + 1) b))))
 
   -- each pad costs less than 2 ^ 32
   pub most-best : (js : List ℕ) (a b : ℕ) → Capped (padsIn S a b js * 2 ^ 32) (bestWithin S C js a b)

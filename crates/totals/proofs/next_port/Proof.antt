@@ -21,7 +21,7 @@ abbrev μ-loop : tie.MeasureT-loop
 μ-loop heads totals order cost lo hi r a b from row past base best below₀ q₀ below q = b - q
 
 shared-slice-read-row : tie.Need-shared-slice-read-row Inv-loop μ-loop
-shared-slice-read-row c = let s = c .before .before .before .before .before .before .before in let x = s .args in let p = s .pre in omega (arith, p .1 .1 .0 .listed)
+shared-slice-read-row c = let p = c .before .before .before .before .before .before .before .pre in omega (arith, p .1 .1 .0 .listed)
 
 cast-row : tie.Need-cast-row Inv-loop μ-loop
 cast-row c = let s = c .before .before .before .before .before .before .before in let x = s .args in let p = s .pre in
@@ -32,25 +32,24 @@ mul-row c = let s = c .before .before .before .before .before .before .before in
     omega (arith, row-small _ _ (p .0 .listed (x .r) (p .1 .1 .0 .listed)) (p .0 .few))
 
 add-past : tie.Need-add-past Inv-loop μ-loop
-add-past c = let s = c .before .before .before .before .before .before .before in let x = s .args in let p = s .pre in omega (arith, p .1 .1 .0 .listed, p .0 .few)
+add-past c = let p = c .before .before .before .before .before .before .before .pre in omega (arith, p .1 .1 .0 .listed, p .0 .few)
 
 cast-past : tie.Need-cast-past Inv-loop μ-loop
-cast-past c = let s = c .before .before .before .before .before .before .before in let x = s .args in let p = s .pre in omega (arith, p .1 .1 .0 .listed, p .0 .few)
+cast-past c = let p = c .before .before .before .before .before .before .before .pre in omega (arith, p .1 .1 .0 .listed, p .0 .few)
 
 corner-requires : tie.Need-corner-requires Inv-loop μ-loop
-corner-requires c κs = let s = c .before .before .before .before .before .before .before in let x = s .args in let p = s .pre in
-    omega (arith, p .1 .1 .0 .ports, p .0 .few)
+corner-requires c κs = let p = c .before .before .before .before .before .before .before .pre in omega (arith, p .1 .1 .0 .ports, p .0 .few)
 
 add-best : tie.Need-add-best Inv-loop μ-loop
-add-best c = let s = c .before .before .before .before .before .before .before .before in let x = s .args in let p = s .pre in
+add-best c = let p = c .before .before .before .before .before .before .before .before .pre in
     omega (arith, c .corner .ensures .1, p .1 .1 .0 .ports, p .1 .1 .0 .full, p .0 .few)
 
 mul-best : tie.Need-mul-best Inv-loop μ-loop
-mul-best c = let s = c .before .before .before .before .before .before .before .before in let x = s .args in let p = s .pre in
+mul-best c = let p = c .before .before .before .before .before .before .before .before .pre in
     omega (arith, c .corner .ensures .1, p .1 .1 .0 .ports, p .1 .1 .0 .full, p .0 .few)
 
 shared-slice-read-best : tie.Need-shared-slice-read-best Inv-loop μ-loop
-shared-slice-read-best c = let s = c .before .before .before .before .before .before .before .before .before in let x = s .args in let p = s .pre in
+shared-slice-read-best c = let p = c .before .before .before .before .before .before .before .before .before .pre in
     omega (arith, c .before .corner .ensures .1, p .1 .1 .0 .ports, p .1 .1 .0 .full, p .0 .few, p .1 .0 .sizes .totals)
 
 returns : tie.Need-returns Inv-loop μ-loop
@@ -65,11 +64,10 @@ returns c = let s = c .before .before .before .before .before .before .before .b
     }
 
 corner-requires-2 : tie.Need-corner-requires-2 Inv-loop μ-loop
-corner-requires-2 c κs = let s = c .before .before .before .before .before .before .before .before .before .before in let x = s .args in let p = s .pre in
-    omega (arith, p .1 .1 .0 .ports, p .0 .few)
+corner-requires-2 c κs = let p = c .before .before .before .before .before .before .before .before .before .before .pre in omega (arith, p .1 .1 .0 .ports, p .0 .few)
 
 add-below : tie.Need-add-below Inv-loop μ-loop
-add-below c = let s = c .before .before .before .before .before .before .before .before .before .before .before in let x = s .args in let p = s .pre in
+add-below c = let p = c .before .before .before .before .before .before .before .before .before .before .before .pre in
     omega (arith, c .corner2 .ensures .1, p .1 .1 .0 .ports, p .1 .1 .0 .full, p .0 .few)
 
 loop-holds : tie.Need-loop-holds Inv-loop μ-loop
@@ -79,8 +77,7 @@ add-attains : tie.Need-add-attains Inv-loop μ-loop
 add-attains c = omega (arith, c .before .before .before .before .before .corner .ensures .1)
 
 add-attains-2 : tie.Need-add-attains-2 Inv-loop μ-loop
-add-attains-2 c = let s = c .before .before .before .before .before .before .before .before .before .before .before .before .before in let x = s .args in
-    let p = s .pre in
+add-attains-2 c = let p = c .before .before .before .before .before .before .before .before .before .before .before .before .before .pre in
     omega (arith, c .before .before .before .before .before .corner .ensures .1, p .1 .1 .0 .ports, p .0 .few)
 
 attains-requires : tie.Need-attains-requires Inv-loop μ-loop
@@ -107,8 +104,8 @@ add-q : tie.Need-add-q Inv-loop μ-loop
 add-q c = omega arith
 
 add-below-2 : tie.Need-add-below-2 Inv-loop μ-loop
-add-below-2 c = let s = c .before .before .before .before .before .before .before .before .before .before .before .before .before .before .before in let x = s .args in
-    let p = s .pre in let l = c .before .before .before .loop in
+add-below-2 c = let p = c .before .before .before .before .before .before .before .before .before .before .before .before .before .before .before .pre in
+    let l = c .before .before .before .loop in
     omega (arith, l .inv .2, corner-top (l .q) (omega (arith, p .1 .1 .0 .ports, p .0 .few)), p .1 .1 .0 .ports, p .0 .few)
 
 loop-less : tie.Need-loop-less Inv-loop μ-loop
