@@ -86,7 +86,7 @@ module _ {b : Board} {cost : ℕ → ℕ → ℕ} {order lo hi cs : List ℕ} (W
   below j m = let t = mem-at order j m in subst (λ (i : ℕ). i < b .pads) (t .2) (at (t .0) (omega (arith, t .1, same-n)))
 
   -- What the search calls a layout is untouching,
-  pub sol-untouching : (f : ℕ → ℕ) → Sol (gridOf order cs lo hi) order 0 (length order) f → Untouching b f
+  sol-untouching : (f : ℕ → ℕ) → Sol (gridOf order cs lo hi) order 0 (length order) f → Untouching b f
   sol-untouching f s = untouching-of b f (λ j h. omega (arith, port j h, W .even)) (untouched-iff b f (W .proper .differ) .1 apart)
     where
       port : (j : ℕ) → j < b .pads → f j < b .pads
@@ -140,7 +140,7 @@ module _ {b : Board} {cost : ℕ → ℕ → ℕ} {order lo hi cs : List ℕ} (W
   }
 
   -- its order is the order of layouts,
-  pub earlier-before : (f g : ℕ → ℕ) → EarlierOn order f g → Before b f g
+  earlier-before : (f g : ℕ → ℕ) → EarlierOn order f g → Before b f g
   earlier-before f g e = let d = earlier-differ f g order e in let k : d .place < b .pads = omega (arith, d .inside, same-n) in record {
     pad = getD order (d .place) 0;
     inside = at (d .place) k;
@@ -148,7 +148,7 @@ module _ {b : Board} {cost : ℕ → ℕ → ℕ} {order lo hi cs : List ℕ} (W
     alike = λ i h r. let a = W .listed .arranged .covers i h in rw (a .2) at (d .alike (a .0) (earlier-place (a .0) (d .place) (a .1) k (rw (a .2) r)));
   }
 
-  pub before-earlier : (f g : ℕ → ℕ) → Before b f g → EarlierOn order f g
+  before-earlier : (f g : ℕ → ℕ) → Before b f g → EarlierOn order f g
   before-earlier f g s =
       let a = W .listed .arranged .covers (s .pad) (s .inside) in
       differ-earlier f g order (a .0) (omega (arith, a .1, same-n)) (rw (a .2) (s .smaller))

@@ -100,7 +100,7 @@ judged-on Sound ss ts us a k = judged-right (verdictAfter Sound ss) ts us a (k a
 judged-on (Refused r) ss ts us a k = rw (after-refused r ss) (refused-left ts us r a)
 
 -- THEOREM. Tests that tell of trials come to the right verdict on them.
-pub tests-judge : (ss : List Test) (ts : List Trial) → TestsOf ss ts → Judged (verdictAfter Sound ss) ts
+tests-judge : (ss : List Test) (ts : List Trial) → TestsOf ss ts → Judged (verdictAfter Sound ss) ts
 tests-judge [] [] a = tt
 tests-judge [] (t ∷ ts) a = absurd a
 tests-judge (s ∷ ss) [] a = absurd a

@@ -36,7 +36,7 @@ prints-one job before r q a b p s =
     (omega (arith, p .written .stop, s .written .stop, ap length e), p .written .stored ∙ ap (sets before 0) e ∙ sym (s .written .stored))
 
 -- The first r bytes are what is printed.
-pub prints-whole : (job before : List ℕ) (r : ℕ) (after : List ℕ) → Prints job before r after → r ≤ length before → Printed job (take r after)
+prints-whole : (job before : List ℕ) (r : ℕ) (after : List ℕ) → Prints job before r after → r ≤ length before → Printed job (take r after)
 prints-whole job before r after p h = subst (Printed job) (sym (writes-whole (p .written) (omega (arith, p .written .stop)))) (p .printed)
 
 module _ (job : List ℕ) (i q name : ℕ) (e : name ≡ nameOf job i) where
@@ -64,7 +64,7 @@ unfolding lines
 lines-more job list i f g = rw add-one (writes-then f g)
 
 -- First's total with the weights 1, 0 is the sum of lengths, and Measure's with 0, 1 the sum of bends.
-pub lengths-are : (job list : List ℕ) (t : ℕ) → t ≡ totalOf job 1 0 list → t ≡ lengths job list
+lengths-are : (job list : List ℕ) (t : ℕ) → t ≡ totalOf job 1 0 list → t ≡ lengths job list
 lengths-are job list t e = omega (arith, total-is (boardOf job) 1 0 (held list))
 
 pub bends-are : (job list : List ℕ) (t : ℕ) → t ≡ totalOf job 0 1 list → t ≡ bends job list

@@ -79,6 +79,6 @@ reads (suc k) n h = go (λ l. reads k (n / 10) (omega arith)) (decLt n 10)
         rw (digits-more k n l, value-append 0 (digits k (n / 10)) ((48 + n % 10) ∷ []), f l) (omega arith)
 
 -- THEOREM: the text tells the number.
-pub decimal-reads : (n : ℕ) → value 0 (decimal n) ≡ n
+decimal-reads : (n : ℕ) → value 0 (decimal n) ≡ n
 unfolding decimal
 decimal-reads n = reads (suc n) n (omega arith)

@@ -44,7 +44,7 @@ pub few-records : (job : List ℕ) → ¬ BadSize job → count job ≤ 64
 few-records job size = let long = not-lt (λ l. size (inr (inr l))) in omega arith
 
 -- 12 is passed: a port is at least 8 above every one before.
-pub passed-spaced : (job : List ℕ) → Passed (jobTrials job) → (a c : ℕ) → a < c → c < count job → (portOf job a +ℤ pos 8) ≤ℤ portOf job c
+passed-spaced : (job : List ℕ) → Passed (jobTrials job) → (a c : ℕ) → a < c → c < count job → (portOf job a +ℤ pos 8) ≤ℤ portOf job c
 passed-spaced job passed a zero l k = absurd (not-suc-le-zero l)
 passed-spaced job passed a (suc c) l k =
     let e : suc c - 1 ≡ c = omega arith in
@@ -57,7 +57,7 @@ passed-spaced job passed a (suc c) l k =
     (eq-or-lt-of-le (le-of-suc-le-suc l))
 
 -- So port heights rise.
-pub passed-rising : (job : List ℕ) → Passed (jobTrials job) → Rising (boardOf job)
+passed-rising : (job : List ℕ) → Passed (jobTrials job) → Rising (boardOf job)
 passed-rising job passed a c l k = omega (whole, plus-num (portOf job a) 8, passed-spaced job passed a c l k)
 
 job-accepted : (job : List ℕ) → ¬ BadSize job → Passed (jobTrials job) → Accepted job

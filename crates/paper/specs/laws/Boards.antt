@@ -68,7 +68,7 @@ untouched-iff b f differ = ((λ n i j k m l t. there n i j k m (criterion i j l 
 -- ---- each pad's own port
 
 -- Leaders to one port touch, at the port.
-pub own-port : (b : Board) (f : ℕ → ℕ) (i j : ℕ) → f i ≡ f j → Touching b f i j
+own-port : (b : Board) (f : ℕ → ℕ) (i j : ℕ) → f i ≡ f j → Touching b f i j
 own-port b f i j e = (record { x = 0; y = b .port (f i) }, inr (refl, omega arith), inr (ap (b .port) e, omega arith))
 
 -- So ports inside the board and no touching pair are all there is to an untouching layout.

@@ -53,14 +53,14 @@ pub record TestOf (s : Test) (t : Trial) : Type 0 where
   pub beside-iff : (i j : ℕ) → i < t .among → T (besideOf s i j) ↔ t .beside i j
   pub some-beside : (i : ℕ) → i < t .among → t .fault i → (j : ℕ) × t .beside i j
 
-pub each-test : (r n : ℕ) (fault : ℕ → Type 0) (p : ℕ → Bool) → ((i : ℕ) → i < n → T (p i) ↔ fault i) → TestOf (atEach r n p) (ofEach r n fault)
+each-test : (r n : ℕ) (fault : ℕ → Type 0) (p : ℕ → Bool) → ((i : ℕ) → i < n → T (p i) ↔ fault i) → TestOf (atEach r n p) (ofEach r n fault)
 each-test r n fault p says =
     record { reason-same = refl; among-same = refl; fault-iff = says; beside-iff = λ i j l. eqb-iff j 0; some-beside = λ i l x. (0, refl) }
 
 pub whole-test : (r : ℕ) (P : Type 0) (t : Bool) → T t ↔ P → TestOf (atWhole r t) (ofWhole r P)
 whole-test r P t says = each-test r 1 (λ i. P) (λ i. t) (λ i l. says)
 
-pub pairs-test : (r n : ℕ) (R : ℕ → ℕ → Type 0) (q : ℕ → ℕ → Bool) → ((i j : ℕ) → i < n → j < i → T (q i j) ↔ R i j) → TestOf (atPairs r n q) (ofPairs r n R)
+pairs-test : (r n : ℕ) (R : ℕ → ℕ → Type 0) (q : ℕ → ℕ → Bool) → ((i j : ℕ) → i < n → j < i → T (q i j) ↔ R i j) → TestOf (atPairs r n q) (ofPairs r n R)
 pairs-test r n R q says = record {
   reason-same = refl;
   among-same = refl;
@@ -218,7 +218,7 @@ first-tests job lw bw room = (
 pub passed-differ : (job : List ℕ) → Passed (jobTrials job) → Differ (boardOf job)
 passed-differ job passed i j k l e = passed .1 .1 .1 .1 .0 i l (j, k, e)
 
-pub layout-tests : (b : Board) → Differ b → (list : List ℕ) → TestsOf (layoutTests b list) (layoutTrials b list)
+layout-tests : (b : Board) → Differ b → (list : List ℕ) → TestsOf (layoutTests b list) (layoutTrials b list)
 unfolding layoutTests
 layout-tests b differ list = (
   each-test 8 _ _ (badEntry (b .ports) list) (λ i l. bad-entry-iff (b .ports) list i),

@@ -124,7 +124,7 @@ module _ (c : Calls) (R : Regular c) (lent : List ℕ) (accepted : Passed (c .fi
           let r = rest m (s .1) (omega arith) in
           (m ∷ r .0, (t, (Total t, n, refl), r .1))
 
-  pub asks-on : (l : List ℕ) → Good l → (ls : List (List ℕ)) × NextRun c l ls
+  asks-on : (l : List ℕ) → Good l → (ls : List (List ℕ)) × NextRun c l ls
   asks-on l g = asks (suc (length (words (b .pads) (b .ports)))) l g (omega arith)
 
   goes-on : (l : List ℕ) (ls : List (List ℕ)) → Good l → NextSoFar c l ls → (ms : List (List ℕ)) × NextRun c l (ls ++ ms)

@@ -90,7 +90,7 @@ drawn-is l h = go (ℤ-discrete (l .y) (l .port))
 -- ---- they leave one answer
 
 -- Two points that stand for one point of the sheet are one.
-pub point-one : {a b : Point} (x : ℕ) (y : ℤ) → StandsFor a x y → StandsFor b x y → a ≡ b
+point-one : {a b : Point} (x : ℕ) (y : ℤ) → StandsFor a x y → StandsFor b x y → a ≡ b
 point-one x y p q =
     let across = four-times-one (pos x) (p .across) (q .across) in
     let down = four-times-one (negℤ y) (p .down) (q .down) in

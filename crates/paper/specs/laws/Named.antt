@@ -10,7 +10,7 @@ use lib.ListN.{length}
 use lib.IntN.{pos, negℤ}
 use Rattle.paper.specs.declared.Refusal.{Refusal}
 use Rattle.paper.specs.Job.{count}
-use Rattle.paper.specs.Layouts.{Board, boardOf, held, Touching}
+use Rattle.paper.specs.Layouts.{boardOf, held, Touching}
 use Rattle.paper.specs.Problem.{labelingOf}
 use Rattle.paper.specs.Refusals.{Trial, FirstFault, RefusedBy, refusal, ofEach, ofPairs, jobTrials, layoutTrials, bestTrial, numberTrial}
 use Rattle.paper.specs.Refusals.{firstTrials, measureTrials, nextTrials, drawTrials, Alone, Named}
@@ -109,7 +109,3 @@ module _ (job : List ℕ) (lw bw : ℕ) (list : List ℕ) where
 -- THEOREM. C's number of a refusal that names one record, and so of every one but 9, is that of its refusal number and this record.
 pub alone-number : (r : Refusal) → Alone r → refusalNumber r ≡ negℤ (pos (65536 * r .reason + r .at))
 alone-number r a = let n : 4294967296 * r .earlier + 65536 * r .reason + r .at ≡ 65536 * r .reason + r .at = omega (arith, a .1) in rw n
-
-pub other-number : (b : Board) (f : ℕ → ℕ) (r : Refusal) → Named b f r → r .reason ≢ 9 → refusalNumber r ≡ negℤ (pos (65536 * r .reason + r .at))
-other-number b f r (inl a) other = alone-number r a
-other-number b f r (inr (nine, _)) other = absurd (other nine)

@@ -50,7 +50,7 @@ refusal-not-end : (r : Refusal) → SmallRefusal r → negsuc 0 ≡ refusalNumbe
 refusal-not-end r s e = omega (arith, eq-num (negsuc 0) (refusalNumber r) e, neg-nums (pos (sizeOf r)))
 
 -- and from it the caller gets the refusal back: its number and both its records.
-pub refusal-back : (r : Refusal) → SmallRefusal r → refusalIn (refusalNumber r) ≡ r
+refusal-back : (r : Refusal) → SmallRefusal r → refusalIn (refusalNumber r) ≡ r
 refusal-back r s = λ i. record { reason = reason i; at = at i; earlier = earlier i }
   where
     size : natAbs (refusalNumber r) ≡ sizeOf r
@@ -72,7 +72,7 @@ abbrev pub Numbering : List Trial → Type 0
 Numbering [] = Unit {0}
 Numbering (t ∷ ts) = (1 ≤ t .reason) × (t .reason < 65536) × (t .among ≤ 65536) × (Clean t → Numbering ts)
 
-pub refused-small : (ts : List Trial) (r : Refusal) → Numbering ts → RefusedBy ts r → SmallRefusal r
+refused-small : (ts : List Trial) (r : Refusal) → Numbering ts → RefusedBy ts r → SmallRefusal r
 refused-small [] r n a = absurd a
 refused-small (t ∷ ts) r n (inl a) = omega (arith, a .0, a .1 .inside)
 refused-small (t ∷ ts) r n (inr a) = refused-small ts r (n .3 (a .0)) (a .1)

@@ -20,10 +20,10 @@ use Rattle.paper.specs.laws.Kept.{kept-one}
 -- ---- where the layouts of a page stand
 
 -- k + 1 layouts are k layouts and one; the entries of the one at place j come before those of the one at place k.
-pub one-more : (k n : ℕ) → suc k * n ≡ k * n + n
+one-more : (k n : ℕ) → suc k * n ≡ k * n + n
 one-more k n = omega (arith, suc-mul k n)
 
-pub places-apart : (j k n : ℕ) → j < k → j * n + n ≤ k * n
+places-apart : (j k n : ℕ) → j < k → j * n + n ≤ k * n
 places-apart j k n h = omega (arith, suc-mul j n, mul-le-mul-right {m = suc j} {n = k} n h)
 
 -- Where some place is filled, there are pads.

@@ -63,17 +63,17 @@ module _ (line : Line) where
 
 module _ (k : ℕ) (pos-k : 0 < k) where
   -- Multiples of k are in the order of the numbers.
-  pub keeps-times : (z w : ℤ) → z ≤ℤ w → (pos k *ℤ z) ≤ℤ (pos k *ℤ w)
+  keeps-times : (z w : ℤ) → z ≤ℤ w → (pos k *ℤ z) ≤ℤ (pos k *ℤ w)
   keeps-times z w h =
       let m : k * (up z + dn w) ≤ k * (up w + dn z) = mul-le-mul-left k (omega whole) in
       omega (whole, times-up k z, times-dn k z, times-up k w, times-dn k w)
 
-  pub tells-times : (z w : ℤ) → (pos k *ℤ z) ≤ℤ (pos k *ℤ w) → z ≤ℤ w
+  tells-times : (z w : ℤ) → (pos k *ℤ z) ≤ℤ (pos k *ℤ w) → z ≤ℤ w
   tells-times z w h =
       let m : k * (up z + dn w) ≤ k * (up w + dn z) = omega (whole, times-up k z, times-dn k z, times-up k w, times-dn k w) in
       let r : up z + dn w ≤ up w + dn z = le-of-mul-le-mul-left m pos-k in
       omega whole
 
   -- The fractions with the denominator k are such a line: z stands for z / k, and the whole number z for k * z.
-  abbrev pub fractions : Line
+  pub fractions : Line
   fractions = record { number = ℤ; le = _≤ℤ_; at = λ z. pos k *ℤ z; trans = ≤ℤ-trans; keeps = keeps-times; tells = tells-times }

@@ -59,7 +59,7 @@ pub quarter-not-minus-zero : (v : ℤ) (e : ℤ) → natAbs v < 2 ^ 24 → quart
 quarter-not-minus-zero v e h z = not-minus-zero v e (subst (λ (a : Float). FourTimesIs a v) z (quarter-is v h) .exact)
 
 -- Reversed after the change to a float, height 0 is drawn as -0,
-pub negated-after : neg (quarter (pos 0)) ≡ fin true 0 (pos 0)
+negated-after : neg (quarter (pos 0)) ≡ fin true 0 (pos 0)
 unfolding neg quarter round
 negated-after = refl
 

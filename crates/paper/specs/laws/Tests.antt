@@ -101,7 +101,7 @@ pub bad-weight-iff : (lw bw : ℕ) → T (badWeight lw bw) ↔ BadWeight lw bw
 bad-weight-iff lw bw = or-iff (ltb 1000 lw) (ltb 1000 bw) (ltb-iff 1000 lw) (ltb-iff 1000 bw)
 
 -- 4
-pub outside-iff : (h : ℤ) → T (outside h) ↔ Outside h
+outside-iff : (h : ℤ) → T (outside h) ↔ Outside h
 unfolding outside
 outside-iff h =
     Iff·trans (or-iff (ltZ h (negℤ (pos 1000000))) (ltZ (pos 1000000) h) (lt-iff h (negℤ (pos 1000000))) (lt-iff (pos 1000000) h)) (there h, back h)

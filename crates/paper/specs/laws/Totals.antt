@@ -78,7 +78,7 @@ sum-at-most zero k c h = omega arith
 sum-at-most (suc n) k c h = omega (arith, sum-at-most n k c (λ i l. h i (omega arith)), h n (omega arith))
 
 -- u times one cost and v times another.
-pub sum-weighted : (n u v : ℕ) (c d : ℕ → ℕ) → sum n (λ i. u * c i + v * d i) ≡ u * sum n c + v * sum n d
+sum-weighted : (n u v : ℕ) (c d : ℕ → ℕ) → sum n (λ i. u * c i + v * d i) ≡ u * sum n c + v * sum n d
 unfolding sum
 sum-weighted zero u v c d = omega arith
 sum-weighted (suc n) u v c d = omega (arith, sum-weighted n u v c d)
@@ -106,7 +106,7 @@ bends-iff l = (go (eqb (distance (l .y) (l .port)) 0) (eqb→eq (distance (l .y)
 -- ---- bounds
 
 -- No leader has more than one bend.
-pub bends-bound : (l : Leader) → bendsOf l ≤ 1
+bends-bound : (l : Leader) → bendsOf l ≤ 1
 unfolding bendsOf
 bends-bound l = go (eqb (distance (l .y) (l .port)) 0)
   where

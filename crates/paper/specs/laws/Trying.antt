@@ -101,7 +101,7 @@ Inside b f = (i : ℕ) → i < b .pads → f i < b .ports
 
 -- THEOREM. Where only ports of the board pass, some assignment passes exactly if some function at all has the property; so one is found, or none has it.
 module _ (b : Board) {t : (ℕ → ℕ) → Bool} {P : (ℕ → ℕ) → Type 0} (tells : Tells b t P) (only : (f : ℕ → ℕ) → P f → Inside b f) where
-  pub some-word-iff : T (someWord b t) ↔ ((f : ℕ → ℕ) × P f)
+  some-word-iff : T (someWord b t) ↔ ((f : ℕ → ℕ) × P f)
   unfolding someWord
   some-word-iff = (there, back)
     where
@@ -131,7 +131,7 @@ module _ (b : Board) {less : (ℕ → ℕ) → (ℕ → ℕ) → Bool} {Less : (
   some-less-dec f = some-word-dec b (and-tells b (smaller f) tells) (λ g h. only g (h .1))
 
   -- THEOREM. The test tells the least.
-  pub least-iff : (f : ℕ → ℕ) → T (leastTest b less t f) ↔ (P f × ((g : ℕ → ℕ) → P g → ¬ Less g f))
+  least-iff : (f : ℕ → ℕ) → T (leastTest b less t f) ↔ (P f × ((g : ℕ → ℕ) → P g → ¬ Less g f))
   unfolding leastTest
   least-iff f = ((λ e. let r = parts .0 e in (r .0, λ g h l. r .1 (g, (l, h)))), (λ (h, n). parts .1 (h, λ (g, (l, k)). n g k l)))
     where
