@@ -17,6 +17,12 @@ bytes4 n = n % 256 ∷ n / 256 % 256 ∷ n / 65536 % 256 ∷ n / 16777216 ∷ []
 abbrev pub padAndPort : ℕ → ℕ → ℕ → ℕ → List ℕ
 padAndPort name x y port = bytes4 name ++ bytes4 x ++ bytes4 y ++ bytes4 port
 
+-- Two records. All bytes of the second one differ, but for its heights: -1, and the lowest that 32 bits hold.
+abbrev pub sample : List ℕ
+sample =
+    padAndPort 9 9 9 9 ++
+    (1 ∷ 2 ∷ 3 ∷ 4 ∷ 5 ∷ 6 ∷ 7 ∷ 8 ∷ 255 ∷ 255 ∷ 255 ∷ 255 ∷ 0 ∷ 0 ∷ 0 ∷ 128 ∷ [])
+
 abbrev pub J1 : List ℕ
 J1 = padAndPort 101 5 3 3
 

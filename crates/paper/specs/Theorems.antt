@@ -6,7 +6,7 @@ use mathlib.Core.Logic.{_≢_, _⊎_, _↔_}
 use mathlib.Core.Bool.{false}
 use mathlib.Core.List.{List}
 use Prim.Native.Nat.{ℕ, _+_, _*_, _≤_, _<_}
-use lib.ListN.{length}
+use lib.ListN.{length, getD}
 use lib.IntN.{ℤ, pos, negsuc, negℤ, _+ℤ_}
 use lib.Signed.{_≤ℤ_}
 use lib.Ieee.{Float, binary32, fin, mul, ofInt}
@@ -15,7 +15,7 @@ use Rattle.paper.specs.declared.Answer.the-variants.{Total, End}
 use Rattle.paper.specs.declared.Two.{Two}
 use Rattle.paper.specs.declared.Three.{Three}
 use Rattle.paper.specs.declared.Drawn.the-variants.{Straight, Bent}
-use Rattle.paper.specs.Job.{count, portOf}
+use Rattle.paper.specs.Job.{count, twos, nameOf, reservedOf, xOf, yOf, portOf}
 use Rattle.paper.specs.Leaders.{Leader, Between, Touch, lengthOf, bendsOf}
 use Rattle.paper.specs.Plane.{Line, TouchIn}
 use Rattle.paper.specs.Layouts.{Board, boardOf, held, leader, Layout, EachOnce, Untouching, sum, weighted, total, Same, Differ, Proper}
@@ -25,7 +25,7 @@ use Rattle.paper.specs.Canvas.{FourTimesIs, DrawnStraight, DrawnBent}
 use Rattle.paper.specs.Promises.{refusalNumber, refusalIn, Kept, coordinates, overwritten, FirstPromise, NextPromise, PagePromise, MeasurePromise, DrawPromise}
 use Rattle.paper.specs.Promises.{OneReply, RefusesBy}
 use Rattle.paper.specs.Runs.{NextRun, Demand3, PageByNext, PagedOn}
-use Rattle.paper.specs.Sheets.{Each, Allowed, sheets, PageAllowed, pages}
+use Rattle.paper.specs.Sheets.{sample, Each, Allowed, sheets, PageAllowed, pages}
 use Rattle.paper.specs.Straightening.{LeastOfAll, CostsNothing, BendsCanCost}
 use Rattle.paper.specs.laws.Regular.{regular}
 use Rattle.paper.specs.laws.Numbers.{numbered}
@@ -178,6 +178,11 @@ pub draw-bent : (job : List ℕ) (i q : ℕ) (before after : List Float)
     × (after ≡ overwritten (coordinates (Bent d)) before)))
 draw-bent job i q before after = (by.Numbers.bent-told job i q before after, λ (d, a). (Bent d, a, refl))
 
+-- They fill the first places of the list, and the places after those keep their content.
+pub drawn-places : (cs before : List Float) (k : ℕ) (d : Float)
+    → (k < length cs → getD (overwritten cs before) k d ≡ getD cs k d) × (length cs ≤ k → getD (overwritten cs before) k d ≡ getD before k d)
+drawn-places = by.Drawn.overwritten-is
+
 -- Four times a drawn number, in 32-bit floats, is the whole number that it stands for; and no other float stands for it.
 pub four-times : (a : Float) (v : ℤ) → FourTimesIs a v → mul binary32 a (fin false 1 (pos 2)) ≡ ofInt binary32 v
 four-times a v = by.Quarter.four-times-mul {a = a} v
@@ -239,6 +244,11 @@ pub bends-can-cost : BendsCanCost
 bends-can-cost = by.Shortest.bends-can-cost
 
 -- ---- the worked sheets
+
+-- The fields of a record, byte by byte: offsets, little-endian, two's complement.
+pub fields-read : (count sample ≡ 2) × (nameOf sample 1 ≡ 513) × (reservedOf sample 1 ≡ 1027) × (xOf sample 1 ≡ 134678021)
+    × (yOf sample 1 ≡ negℤ (pos 1)) × (portOf sample 1 ≡ negℤ (pos 2147483648)) × (twos 2147483647 ≡ pos 2147483647)
+fields-read = by.Vectors.fields-read
 
 -- P1 to P12, and those of 02 for 12 and for both records of 9, are replies that the promises allow; so are Page's eight.
 pub worked : Each Allowed sheets

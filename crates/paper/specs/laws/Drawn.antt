@@ -1,14 +1,15 @@
 -- What is drawn of a leader: `leaderDrawn` satisfies the paper's words, and nothing else does.
 --     drawn-is;  straight-one, bent-one;  draw-answers: what Draw then answers;  bent-sheet, straight-sheet: J5's
-use mathlib.Core.Path.{_≡_, refl, ap}
+use mathlib.Core.Path.{_≡_, refl, sym, ap, _∙_}
 use mathlib.Core.Bool.{Bool, true, false, cond}
 use mathlib.Core.List.{List}
-use Prim.Native.Nat.{ℕ, _^_, _≤_, _<_, zero-le}
+use Prim.Native.Nat.{ℕ, _+_, _-_, _^_, _≤_, _<_, zero-le}
 use native.Mathlib.Nat.{le-trans, le-of-eq, lt-of-le-of-lt}
 use native.Mathlib.Omega.{arith}
 use borrow.Author.Tests.{eq-eqb, ne-eqb}
 use lib.Dec.{lit<, eqb}
-use lib.ListN.{length}
+use lib.ListN.{length, getD, drop, List·getD-append}
+use lib.Seq.{getD-append-add, getD-drop}
 use lib.IntN.{pos, negsuc, negℤ, natAbs, ℤ, ℤ-discrete}
 use lib.Ieee.{Float, fin, round}
 use Rattle.numbers.specs.Signs.{natAbs-neg, apart-zero, zero-apart}
@@ -117,6 +118,17 @@ pub passed-on-sheet : (job : List ℕ) (i q room : ℕ) → Passed (drawTrials j
 passed-on-sheet job i q room p =
     let a = draw-accepted job i q room p in
     record { right = a .0 .width i (a .2); pad = a .0 .pad i (a .2); port = a .0 .port q (a .3) }
+
+-- The coordinates fill the first places, and the places after those keep their content.
+pub overwritten-is : (cs before : List Float) (k : ℕ) (d : Float)
+    → (k < length cs → getD (overwritten cs before) k d ≡ getD cs k d) × (length cs ≤ k → getD (overwritten cs before) k d ≡ getD before k d)
+overwritten-is cs before k d = (List·getD-append cs (drop (length cs) before) d k, late)
+  where
+    late : length cs ≤ k → getD (overwritten cs before) k d ≡ getD before k d
+    late h =
+        let e : k ≡ length cs + (k - length cs) = omega arith in
+        ap (λ (m : ℕ). getD (overwritten cs before) m d) e ∙ getD-append-add cs (drop (length cs) before) (k - length cs) d
+        ∙ getD-drop (length cs) before (k - length cs) d ∙ ap (λ (m : ℕ). getD before m d) (sym e)
 
 -- A drawn leader has at most six coordinates.
 pub coordinates-few : (d : Drawn) → length (coordinates d) ≤ 6

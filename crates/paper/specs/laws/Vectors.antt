@@ -1,25 +1,21 @@
--- One record byte by byte, and one drawn leader place by place: offsets, little-endian, two's complement, x before y.
+-- One record byte by byte, after another, and one drawn leader place by place: offsets, little-endian, two's complement, x before y.
 --     fields-read, coordinates-read
 use mathlib.Core.Path.{_≡_, refl}
-use mathlib.Core.List.{List, [], _∷_}
-use Prim.Native.Nat.{ℕ}
+use mathlib.Core.List.{[], _∷_}
 use lib.IntN.{pos, negℤ}
 use lib.Ieee.{round}
-use Rattle.paper.specs.Job.{twos, nameOf, reservedOf, xOf, yOf, portOf}
+use Rattle.paper.specs.Job.{count, twos, nameOf, reservedOf, xOf, yOf, portOf}
 use Rattle.paper.specs.Layouts.{boardOf, leader}
 use Rattle.paper.specs.Promises.{coordinates}
-use Rattle.paper.specs.Sheets.{J5}
+use Rattle.paper.specs.Sheets.{sample, J5}
 use Rattle.paper.specs.laws.Quarter.{quarter}
 use Rattle.paper.specs.laws.Drawn.{canvas, leaderDrawn}
 
-abbrev sample : List ℕ
-sample = 1 ∷ 2 ∷ 3 ∷ 4 ∷ 5 ∷ 6 ∷ 7 ∷ 8 ∷ 255 ∷ 255 ∷ 255 ∷ 255 ∷ 0 ∷ 0 ∷ 0 ∷ 128 ∷ []
-
--- The five fields of a record, and the last number that is not negative.
-pub fields-read : (nameOf sample 0 ≡ 513) × (reservedOf sample 0 ≡ 1027) × (xOf sample 0 ≡ 134678021)
-    × (yOf sample 0 ≡ negℤ (pos 1)) × (portOf sample 0 ≡ negℤ (pos 2147483648)) × (twos 2147483647 ≡ pos 2147483647)
+-- How many records, the five fields of the second, and the last number that is not negative.
+pub fields-read : (count sample ≡ 2) × (nameOf sample 1 ≡ 513) × (reservedOf sample 1 ≡ 1027) × (xOf sample 1 ≡ 134678021)
+    × (yOf sample 1 ≡ negℤ (pos 1)) × (portOf sample 1 ≡ negℤ (pos 2147483648)) × (twos 2147483647 ≡ pos 2147483647)
 unfolding nameOf reservedOf xOf yOf portOf twos
-fields-read = (refl, refl, refl, refl, refl, refl)
+fields-read = (refl, refl, refl, refl, refl, refl, refl)
 
 -- J5, record 2 to port 0, and record 0 to port 1: quarters of x and of -y, x before y.
 pub coordinates-read : (coordinates (leaderDrawn (leader (boardOf J5) 2 0))
