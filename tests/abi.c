@@ -123,6 +123,20 @@ enum { LENT = 8 };
 static const uint8_t one_pad[CHEREMYSL_RECORD_BYTES] = {1, 0, 0, 0, 5}; /* straight, total 5 */
 static const float own_floats[LENT] = {-1, -2, -3, -4, -5, -6, -7, -8};
 
+/* On a job that is accepted: NULL with 0 is a list without room, and a page without room is filled. */
+static void no_room(void) {
+    size_t bytes = sizeof one_pad;
+    is_refusal(measure_call(one_pad, bytes, 1, 0, NULL, 0), CHEREMYSL_NO_ROOM, 0, 0);
+    is_refusal(draw_call(one_pad, bytes, 0, 0, NULL, 0), CHEREMYSL_NO_ROOM, 0, 0);
+#ifndef NO_SEARCH
+    static const uint16_t layout[1] = {0};
+    is_refusal(first_call(one_pad, bytes, 1, 0, NULL, 0), CHEREMYSL_NO_ROOM, 0, 0);
+    is_refusal(next_call(one_pad, bytes, 1, 0, NULL, 0), CHEREMYSL_NO_ROOM, 0, 0);
+    is_refusal(page_call(one_pad, bytes, 1, 0, NULL, 0, NULL, 0), CHEREMYSL_NO_ROOM, 0, 0);
+    check(page_call(one_pad, bytes, 1, 0, layout, 1, NULL, 0) == 0);
+#endif
+}
+
 static void draw_keeps(size_t job_bytes, int64_t wanted, int from) {
     float points[LENT];
     memcpy(points, own_floats, sizeof own_floats);
@@ -181,6 +195,7 @@ int main(void) {
     pairs();
     texts();
     calls();
+    no_room();
     limits();
     version();
     lists();
