@@ -1,4 +1,5 @@
 -- The tests that the code computes for each fault of Refusals.antt, that each says what its fault says, and each call's tests in order.
+--     bad-size-iff, bad-weight-iff, bad-field-iff, not-above-iff, too-close-iff, same-name-iff, same-x-iff, bad-entry-iff, bad-number-iff
 use mathlib.Core.Path.{_≡_, subst}
 use mathlib.Core.Logic.{_⊎_, inl, inr, ⊎-elim, _↔_, Iff·trans}
 use mathlib.Core.Bool.{Bool, false, not, _&&_, _||_, or-assoc}

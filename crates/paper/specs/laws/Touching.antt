@@ -1,4 +1,5 @@
 -- Leaders touch exactly as 01's criterion says.
+--     touch-iff: 01's criterion;  meet-iff: the test decides touching
 use mathlib.Core.Path.{refl, sym, _∙_, subst}
 use mathlib.Core.Logic.{_≢_, _⊎_, inl, inr, ⊎-elim, _↔_}
 use mathlib.Core.Bool.{_&&_}

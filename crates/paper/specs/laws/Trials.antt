@@ -1,4 +1,5 @@
 -- Trials in general: an input is passed or refused, in one way; trials put one after the other.
+--     not-both, refused-one: an input has one verdict;  passed-append, append-passed, refused-left, refused-right: one list of trials after another
 use mathlib.Core.Path.{_≡_, refl, sym, _∙_}
 use mathlib.Core.Logic.{inl, inr}
 use mathlib.Core.List.{List, [], _∷_, _++_}
