@@ -1,4 +1,4 @@
--- TRIALS ARE DECIDED: each call's trials are passed, or one of them refuses. By tests that are computed, or by any other way to decide their faults.
+-- TRIALS ARE DECIDED: each call's trials are passed, or one of them refuses. By tests that are computed.
 --     first-decided, measure-decided, draw-decided;  tests-decide: of any trials whose tests say what they say;  tests-pass, tests-refuse: computed
 use mathlib.Core.Path.{_≡_, refl}
 use mathlib.Core.Logic.{_⊎_, inl, inr, ⊎-elim, _↔_}
