@@ -18,9 +18,9 @@ use Rattle.paper.specs.declared.Drawn.the-variants.{Straight, Bent}
 use Rattle.paper.specs.Job.{count, twos, nameOf, reservedOf, xOf, yOf, portOf}
 use Rattle.paper.specs.Leaders.{Leader, Between, Touch, lengthOf, bendsOf}
 use Rattle.paper.specs.Plane.{Line, TouchIn}
-use Rattle.paper.specs.Layouts.{Board, boardOf, held, leader, Layout, EachOnce, Untouching, sum, weighted, total, Same, Differ, Proper}
+use Rattle.paper.specs.Layouts.{Board, boardOf, held, leader, Touching, Layout, EachOnce, Untouching, sum, weighted, total, Same, Differ, Proper}
 use Rattle.paper.specs.Problem.{Best, Before, FirstBest, NextBest, LastBest, labeling, labelingOf}
-use Rattle.paper.specs.Refusals.{Passed, firstTrials, measureTrials, nextTrials, drawTrials, callsOf, Alone, Named}
+use Rattle.paper.specs.Refusals.{FirstFault, Passed, ofPairs, firstTrials, measureTrials, nextTrials, drawTrials, callsOf, Alone, FirstPair, Named}
 use Rattle.paper.specs.Canvas.{FourTimesIs, DrawnStraight, DrawnBent}
 use Rattle.paper.specs.Promises.{refusalNumber, refusalIn, Kept, coordinates, overwritten, FirstPromise, NextPromise, PagePromise, MeasurePromise, DrawPromise}
 use Rattle.paper.specs.Promises.{OneReply, RefusesBy}
@@ -74,6 +74,10 @@ pub draw-refuses : (job : List ℕ) (i q : ℕ) (before : List Float) (m : ℤ) 
 draw-refuses job i q before m after = by.Numbers.draw-refuses job i q before after m
 
 -- ---- both records of 9 (02)
+
+-- What 9 finds, on any board, is the first touching pair, and nothing else is.
+pub first-pair : (b : Board) (f : ℕ → ℕ) (i j : ℕ) → FirstFault (ofPairs 9 (b .pads) (Touching b f)) i j ↔ FirstPair b f i j
+first-pair = by.Named.first-pair
 
 -- Measure's refusal names one record, or by 9 the first touching pair; so does Next's, and so Page's, whose trials are Next's.
 pub measure-names : (job : List ℕ) (lw bw : ℕ) (list : List ℕ) (m : ℤ) → MeasurePromise job lw bw list m → m ≤ℤ negℤ (pos 65536)

@@ -1,19 +1,18 @@
 -- THE RECORDS THAT A REFUSAL NAMES. Refusal 9 names the first touching pair. Every other names one record, so that C's number of it is -(65,536 × r + i).
 --
---     measure-named, next-named, first-named, draw-named;  alone-number
+--     first-pair;  measure-named, next-named, first-named, draw-named;  alone-number
 use mathlib.Core.Path.{_≡_, refl, sym, subst}
-use mathlib.Core.Logic.{_≢_, inl, inr}
+use mathlib.Core.Logic.{_≢_, inl, inr, _↔_}
 use mathlib.Core.List.{List, [], _∷_, _++_}
 use Prim.Native.Nat.{ℕ, _+_, _*_}
 use native.Mathlib.Omega.{arith}
 use lib.ListN.{length}
 use lib.IntN.{pos, negℤ}
 use Rattle.paper.specs.declared.Refusal.{Refusal}
-use Rattle.paper.specs.Job.{count}
-use Rattle.paper.specs.Layouts.{boardOf, held, Touching}
+use Rattle.paper.specs.Layouts.{Board, boardOf, held, Touching}
 use Rattle.paper.specs.Problem.{labelingOf}
 use Rattle.paper.specs.Refusals.{Trial, FirstFault, RefusedBy, refusal, ofEach, ofPairs, jobTrials, layoutTrials, bestTrial, numberTrial}
-use Rattle.paper.specs.Refusals.{firstTrials, measureTrials, nextTrials, drawTrials, Alone, Named}
+use Rattle.paper.specs.Refusals.{firstTrials, measureTrials, nextTrials, drawTrials, Alone, FirstPair, Named}
 use Rattle.paper.specs.Promises.{refusalNumber}
 
 -- ---- a refusal by some trial
@@ -71,28 +70,31 @@ draw-named job i q room r =
       ),
     )
 
+-- THEOREM. On any board, what 9 finds is the first touching pair, and nothing else is.
+pub first-pair : (b : Board) (f : ℕ → ℕ) (i j : ℕ) → FirstFault (ofPairs 9 (b .pads) (Touching b f)) i j ↔ FirstPair b f i j
+first-pair b f i j = (
+  (λ a. record {
+    inside = a .inside;
+    before = a .named .here .0;
+    touch = a .named .here .1;
+    smallest = λ k m h g x. a .first .none-below k h (m, g, x);
+    smallest-earlier = λ m h x. a .named .none-below m h (omega (arith, a .named .here .0), x);
+  }),
+  (λ p. record {
+    inside = p .inside;
+    first = record { here = (j, p .before, p .touch); none-below = λ k h (m, g, x). p .smallest k m h g x };
+    named = record { here = (p .before, p .touch); none-below = λ m h x. p .smallest-earlier m h (x .1) };
+  }),
+)
+
 module _ (job : List ℕ) (lw bw : ℕ) (list : List ℕ) where
   abbrev Told : Refusal → Type 0
   Told = Named (boardOf job) (held list)
 
-  touching : (i j : ℕ) → FirstFault (ofPairs 9 (count job) (Touching (boardOf job) (held list))) i j → Told (refusal 9 i j)
-  touching i j a =
-      let (l, t) = a .named .here in
-      inr (
-        refl,
-        record {
-          inside = a .inside;
-          before = l;
-          touch = t;
-          smallest = λ k m h g x. a .first .none-below k h (m, g, x);
-          smallest-earlier = λ m h x. a .named .none-below m h (omega arith, x);
-        },
-      )
-
   of-measure : OfEach Told (measureTrials job lw bw list)
   of-measure =
       each-append Told (firstTrials job lw bw (length list)) (layoutTrials (boardOf job) list) (of-first Told (λ r a. inl a) job lw bw (length list))
-      (one Told (λ r a. inl a) 8 _ _ (λ e. omega arith), (touching, tt))
+      (one Told (λ r a. inl a) 8 _ _ (λ e. omega arith), ((λ i j a. inr (refl, first-pair (boardOf job) (held list) i j .0 a)), tt))
 
   -- THEOREM. Measure names one record, or by 9 the first touching pair; so does Next, and so Page, whose trials are Next's.
   pub measure-named : (r : Refusal) → RefusedBy (measureTrials job lw bw list) r → Told r
