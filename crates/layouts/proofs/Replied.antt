@@ -93,5 +93,5 @@ module _ (job : List ℕ) (lw bw : ℕ) {given w₀ w : List ℕ} (C : Copied (c
           (follows (labelingOf job lw bw) steady w page v after (r .count) (rw (e, W .begins .1) at (W .turns))),
       W .least given best,
     ),
-    λ e. ((λ s. (rw e at (W .begins .0)) (best-same (labelingOf job lw bw) steady (held given) (held w) back s)), (rw e at (W .turns)) .1),
+    λ e. let none = rw e at (W .turns) in ((λ s. (rw e at (W .begins .0)) (best-same (labelingOf job lw bw) steady (held given) (held w) back s)), none .1, none .2),
   )

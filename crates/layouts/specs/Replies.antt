@@ -53,11 +53,11 @@ NextOn job lw bw before after End =
     × (after ≡ before)
 NextOn job lw bw before after NotBest = (¬ Best (labelingOf job lw bw) (held before)) × (after ≡ before)
 
--- PAGE, asked of an untouching layout: it is best, and those that follow stand on the page; or it is not best, and the page is kept.
+-- PAGE, asked of an untouching layout: it is best, and those that follow stand on the page; or it is not best, none follows, and the page is kept.
 abbrev pub PageOn : List ℕ → ℕ → ℕ → List ℕ → List ℕ → List ℕ → Walked → Type 0
 PageOn job lw bw given before after r =
     ((r .best ≡ true)
     → Best (labelingOf job lw bw) (held given)
     × Following (labelingOf job lw bw) given before (r .count) after
     × (r .total ≡ totalOf job lw bw given))
-    × ((r .best ≡ false) → (¬ Best (labelingOf job lw bw) (held given)) × (after ≡ before))
+    × ((r .best ≡ false) → (¬ Best (labelingOf job lw bw) (held given)) × (after ≡ before) × (r .count ≡ 0))

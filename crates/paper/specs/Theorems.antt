@@ -7,7 +7,7 @@ use mathlib.Core.Bool.{false}
 use mathlib.Core.List.{List}
 use Prim.Native.Nat.{ℕ, _+_, _*_, _≤_, _<_}
 use lib.ListN.{length, getD}
-use lib.IntN.{ℤ, pos, negsuc, negℤ, _+ℤ_}
+use lib.IntN.{ℤ, pos, negsuc, negℤ, natAbs, _+ℤ_}
 use lib.Signed.{_≤ℤ_}
 use lib.Ieee.{Float, binary32, fin, mul, ofInt}
 use Rattle.paper.specs.declared.Refusal.{Refusal}
@@ -140,6 +140,14 @@ pub next-passed : (job : List ℕ) (lw bw : ℕ) (list : List ℕ) → Passed (n
     ↔ (Passed (firstTrials job lw bw (length list)) × Best (labelingOf job lw bw) (held list))
 next-passed job lw bw = regular job lw bw .next-is
 
+-- An accepted job has 1 to 64 records, their fields in range, pads whose x differ, and ports that rise.
+pub accepted-job : (job : List ℕ) (lw bw room : ℕ) → Passed (firstTrials job lw bw room)
+    → (0 < count job) × (count job ≤ 64) × Proper (boardOf job)
+    × ((i : ℕ) → i < count job → (reservedOf job i ≡ 0) × (1 ≤ xOf job i) × (xOf job i ≤ 1000000) × (natAbs (yOf job i) ≤ 1000000) × (natAbs (portOf job i) ≤ 1000000))
+accepted-job job lw bw room p =
+    let a = by.Accepted.first-accepted job lw bw room p .0 in
+    (a .some, a .few, a .proper, λ i l. (a .reserved i l, a .right i l, a .width i l, a .pad i l, a .port i l))
+
 -- In every accepted job each port is at least 8 above those before it (02), so that ports rise.
 pub ports-apart : (job : List ℕ) (lw bw room : ℕ) → Passed (firstTrials job lw bw room)
     → (a c : ℕ) → a < c → c < count job → (portOf job a +ℤ pos 8) ≤ℤ portOf job c
@@ -193,6 +201,10 @@ four-times a v = by.Quarter.four-times-mul {a = a} v
 
 pub drawn-once : (a b : Float) (v : ℤ) → FourTimesIs a v → FourTimesIs b v → a ≡ b
 drawn-once a b v = by.Quarter.four-times-one {a = a} {b = b} v
+
+-- A drawn zero is positive zero.
+pub drawn-zero : (a : Float) → FourTimesIs a (pos 0) → a ≡ fin false 0 (pos 0)
+drawn-zero a = by.Quarter.zero-positive {a = a}
 
 -- With both weights 0 every untouching layout is best; and every job that is accepted has one.
 pub zero-weights : (b : Board) (f : ℕ → ℕ) → Untouching b f → Best (labeling b (weighted b 0 0)) f

@@ -48,6 +48,10 @@ pub quarter-zero : quarter (pos 0) ≡ fin false 0 (pos 0)
 unfolding quarter round
 quarter-zero = refl
 
+-- So a drawn zero is positive zero.
+pub zero-positive : {a : Float} → FourTimesIs a (pos 0) → a ≡ fin false 0 (pos 0)
+zero-positive p = quarter-only (pos 0) (lit< tt) p ∙ quarter-zero
+
 not-minus-zero : (v : ℤ) (e : ℤ) → HasValue (fin true 0 e) (negative v) (natAbs v) 4 → ⊥
 not-minus-zero (pos n) e p = true≢false (p .0)
 not-minus-zero (negsuc n) e p =
