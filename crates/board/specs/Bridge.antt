@@ -16,7 +16,7 @@ use Rattle.steps.specs.Steps.{figureOf}
 use Rattle.choices.specs.Choices as choices
 use Rattle.choices.specs.Lists.{listed}
 use Rattle.paper.specs.Leaders.{Between}
-use Rattle.paper.specs.Layouts.{Board, Untouching, sum, total}
+use Rattle.paper.specs.Layouts.{Board, Untouching, sum, figure, total}
 use Rattle.paper.specs.Problem.{Best, Before, FirstBest, NextBest, LastBest, labeling}
 use Rattle.paper.specs.laws.Totals.{sum-same}
 use Rattle.paper.specs.laws.Boards.{untouched-iff, untouching-of}
@@ -30,7 +30,7 @@ unfolding sumTo sum
 sum-to c zero = refl
 sum-to c (suc n) = omega (arith, sum-to c n)
 
-module _ {b : Board} {cost : ℕ → ℕ → ℕ} {order lo hi cs : List ℕ} (W : WorkOf b cost order lo hi cs) where
+module _ {b : Board} {order lo hi cs : List ℕ} (W : WorkOf b order lo hi cs) where
   same-n : length order ≡ b .pads
   same-n = W .listed .arranged .long
 
@@ -58,7 +58,7 @@ module _ {b : Board} {cost : ℕ → ℕ → ℕ} {order lo hi cs : List ℕ} (W
       level = λ j. level j (decLt j (b .pads));
       top = λ j. omega (arith, most j (decLt j (b .pads)), same-n);
     };
-    square = rw same-n (rw (W .even) at (W .costs .square));
+    square = rw same-n (rw (W .even) at (W .square));
     arranged = rw same-n (W .listed .arranged);
   }
 
@@ -118,22 +118,22 @@ module _ {b : Board} {cost : ℕ → ℕ → ℕ} {order lo hi cs : List ℕ} (W
   -- ---- totals
 
   -- The search's sum is the total.
-  pub sum-total : (f : ℕ → ℕ) → Untouching b f → strips.costSum (figureOf cs (length order)) order f ≡ total b cost f
+  pub sum-total : (f : ℕ → ℕ) → Untouching b f → strips.costSum (figureOf cs (length order)) order f ≡ total b (figure b cs) f
   sum-total f u =
       sum-order (figureOf cs (length order)) f (b .pads) order (listed proper .distinct) below member
       ∙ sum-to (λ j. figureOf cs (length order) j (f j)) (b .pads)
-      ∙ sum-same (b .pads) (λ j. figureOf cs (length order) j (f j)) (λ j. cost j (f j)) (λ j h. rw (same-n, ← W .even) (W .costs .at j (f j) h (u .layout .inside j h)))
+      ∙ sum-same (b .pads) (λ j. figureOf cs (length order) j (f j)) (λ j. figure b cs j (f j)) (λ j h. rw (same-n, W .even))
 
   -- ---- best layouts and their order
 
   -- The search's best layouts are the best layouts,
-  pub optimal-is-best : (f : ℕ → ℕ) → Optimal (gridOf order cs lo hi) order (length order) f → Best (labeling b cost) f
+  pub optimal-is-best : (f : ℕ → ℕ) → Optimal (gridOf order cs lo hi) order (length order) f → Best (labeling b (figure b cs)) f
   optimal-is-best f o = let u = sol-untouching f (o .layout) in record {
     counts = u;
     least = λ g v. rw (← sum-total f u, ← sum-total g v) (o .least g (untouching-sol g v));
   }
 
-  pub best-is-optimal : (f : ℕ → ℕ) → Best (labeling b cost) f → Optimal (gridOf order cs lo hi) order (length order) f
+  pub best-is-optimal : (f : ℕ → ℕ) → Best (labeling b (figure b cs)) f → Optimal (gridOf order cs lo hi) order (length order) f
   best-is-optimal f s = record {
     layout = untouching-sol f (s .counts);
     least = λ g t. rw (sum-total f (s .counts), sum-total g (sol-untouching g t)) (s .least g (sol-untouching g t));
@@ -159,15 +159,15 @@ module _ {b : Board} {cost : ℕ → ℕ → ℕ} {order lo hi cs : List ℕ} (W
   last f g (inr e) c = earlier-asym f g order e (before-earlier g f c)
 
   -- THEOREMS: the search's first, next and last best layouts are those of the paper.
-  pub first-best : (f : ℕ → ℕ) → EarliestOn order (Optimal (gridOf order cs lo hi) order (length order)) f → FirstBest (labeling b cost) f
+  pub first-best : (f : ℕ → ℕ) → EarliestOn order (Optimal (gridOf order cs lo hi) order (length order)) f → FirstBest (labeling b (figure b cs)) f
   first-best f e = record { best = optimal-is-best f (e .has); earliest = λ g s. last f g (e .first g (best-is-optimal g s)) }
 
-  pub next-best : (l f : ℕ → ℕ) → EarliestOn order (Later (gridOf order cs lo hi) order (length order) l) f → NextBest (labeling b cost) l f
+  pub next-best : (l f : ℕ → ℕ) → EarliestOn order (Later (gridOf order cs lo hi) order (length order) l) f → NextBest (labeling b (figure b cs)) l f
   next-best l f e = record {
     best = optimal-is-best f (e .has .best);
     later = earlier-before l f (e .has .later);
     earliest = λ g s k. last f g (e .first g (record { best = best-is-optimal g s; later = before-earlier l g k }));
   }
 
-  pub last-best : (l : ℕ → ℕ) → ((g : ℕ → ℕ) → ¬ Later (gridOf order cs lo hi) order (length order) l g) → LastBest (labeling b cost) l
+  pub last-best : (l : ℕ → ℕ) → ((g : ℕ → ℕ) → ¬ Later (gridOf order cs lo hi) order (length order) l g) → LastBest (labeling b (figure b cs)) l
   last-best l e g s k = e g (record { best = best-is-optimal g s; later = before-earlier l g k })

@@ -1,12 +1,12 @@
-// The work lists of a job's board: its pads from right to left, their sides among the ports, and the cost of each pad with
-// each port. Every number of the job is read from its bytes.
+// The work lists of a job's board: its pads from right to left, and their sides among the ports. Every number of the job is read
+// from its bytes.
 ghost use mathlib.Core.Path.{_≡_};
-ghost use Prim.Native.Nat.{_+_, _*_, _≤_, _<_};
 ghost use lib.ListN.{length};
 ghost use Rattle.paper.specs.Job.{count};
-ghost use Rattle.paper.specs.Layouts.{boardOf, weighted};
+ghost use Rattle.paper.specs.Layouts.{boardOf};
 ghost use Rattle.paper.specs.laws.Accepted.{Accepted};
-ghost use Rattle.board.specs.Lists.{Under, Upto, SidesOf, Weighed, CostsOf, Lent, WorkOn};
+ghost use Rattle.order.specs.Falling.{OrderOf};
+ghost use Rattle.board.specs.Lists.{Under, Upto, SidesOf, Lent};
 
 // How many ports are below the height h. Ports rise: the last one below it is found by halving.
 fn under(job: &[u8], h: i64) -> u16
@@ -55,49 +55,11 @@ fn sides(job: &[u8], lo: &mut [u8], hi: &mut [u8])
     }
 }
 
-// The costs of pad j with each port.
-fn weigh_row(job: &[u8], lw: u32, bw: u32, cost: &mut [u32], j: u16)
-    requires { ⌜ Accepted (now job) × (lw ≤ 1000) × (bw ≤ 1000) × (j < count (now job)) ⌝ }
-    requires { ⌜ Weighed (boardOf (now job)) (weighted (boardOf (now job)) lw bw) (now cost) (j * count (now job)) ⌝ }
-    ensures { λ _. ⌜ Weighed (boardOf (now (job .entry))) (weighted (boardOf (now (job .entry))) lw bw) (now (cost .exit)) ((j + 1) * count (now (job .entry))) ⌝ }
-{
-    let n = job::records(job);
-    let row = (j as usize) * (n as usize);
-    let mut q: u16 = 0;
-    while q < n {
-        cost[row + q as usize] = measure::cost(job, lw, bw, j, q);
-        q += 1;
-    }
-}
-
-// The costs of each pad with each port.
-fn weigh(job: &[u8], lw: u32, bw: u32, cost: &mut [u32])
-    requires { ⌜ Accepted (now job) × (lw ≤ 1000) × (bw ≤ 1000) × (length (now cost) ≡ count (now job) * count (now job)) ⌝ }
-    ensures { λ _. ⌜ CostsOf (boardOf (now (job .entry))) (weighted (boardOf (now (job .entry))) lw bw) (now (cost .exit)) ⌝ }
-{
-    let n = job::records(job);
-    let mut j: u16 = 0;
-    while j < n {
-        weigh_row(job, lw, bw, cost, j);
-        j += 1;
-    }
-}
-
-// The work lists of a job.
-pub fn prepare(
-    job: &[u8],
-    lw: u32,
-    bw: u32,
-    order: &mut [u8],
-    lo: &mut [u8],
-    hi: &mut [u8],
-    cost: &mut [u32],
-)
-    requires { ⌜ Accepted (now job) × (lw ≤ 1000) × (bw ≤ 1000) ⌝ }
-    requires { ⌜ Lent (count (now job)) (now order) (now lo) (now hi) (now cost) ⌝ }
-    ensures { λ _. ⌜ WorkOn (now (job .entry)) lw bw (now (order .exit)) (now (lo .exit)) (now (hi .exit)) (now (cost .exit)) ⌝ }
+// The work lists of a job's pads.
+pub fn prepare(job: &[u8], order: &mut [u8], lo: &mut [u8], hi: &mut [u8])
+    requires { ⌜ Accepted (now job) × Lent (count (now job)) (now order) (now lo) (now hi) ⌝ }
+    ensures { λ _. ⌜ OrderOf (boardOf (now (job .entry))) (now (order .exit)) × SidesOf (boardOf (now (job .entry))) (now (lo .exit)) (now (hi .exit)) ⌝ }
 {
     order::by_falling_x(job, order);
     sides(job, lo, hi);
-    weigh(job, lw, bw, cost);
 }

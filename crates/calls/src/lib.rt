@@ -1,94 +1,68 @@
-// The calls as Rattle functions that answer an enum. Each keeps the promise of its name in paper's Promises.antt, for every input.
+// The calls as Rattle functions that answer an enum: here by weights, in `table` by a table. Each keeps the promise of its name in paper's
+// Promises.antt, for every input.
+mod search;
+pub mod table;
+mod weighted;
+
 use checks::Verdict;
-use layouts::Step;
+use checks::verdicts;
+use measure::Badness;
 use paper::Answer;
 use paper::Drawn;
 use paper::Paged;
-use paper::Refusal;
 ghost use mathlib.Core.Path.{_≡_};
 ghost use lib.ListN.{length};
-ghost use Rattle.paper.specs.Layouts.{boardOf, leader};
-ghost use Rattle.paper.specs.Refusals.{Passed, refusal, measureTrials, drawTrials};
+ghost use Rattle.paper.specs.Layouts.{boardOf, leader, byWeights};
+ghost use Rattle.paper.specs.Refusals.{Passed, drawTrials};
 ghost use Rattle.paper.specs.Promises.{FirstAnswers, NextAnswers, PageAnswers, MeasureAnswers, DrawAnswers};
 ghost use Rattle.paper.specs.laws.Drawn.{leaderDrawn};
 
 // First: the earliest best layout, in the first n entries of `list`.
 pub fn first(job: &[u8], lw: u32, bw: u32, list: &mut [u16]) -> Answer
-    ensures { λ r. ⌜ FirstAnswers (now (job .entry)) lw bw (now (list .entry)) r (now (list .exit)) ⌝ }
+    ensures { λ r. ⌜ FirstAnswers (now (job .entry)) (byWeights lw bw) (now (list .entry)) r (now (list .exit)) ⌝ }
 {
-    let v = checks::verdicts::of_first(job, lw, bw, list.len());
+    let v = verdicts::of_first(job, verdicts::of_weights(lw, bw), list.len());
     match v {
-        Verdict::Sound => Answer::Total(layouts::first_on(job, lw, bw, list)),
+        Verdict::Sound => weighted::first(job, lw, bw, list),
         Verdict::Refused(r) => Answer::Refused(r),
-    }
-}
-
-// 10: the given layout has no touching pair but isn't best.
-fn not_best() -> Refusal
-    ensures { λ r. ⌜ r ≡ refusal 10 0 0 ⌝ }
-{
-    Refusal {
-        reason: 10,
-        at: 0,
-        earlier: 0,
-    }
-}
-
-// Next, once the layout is known to be untouching.
-fn step(job: &[u8], lw: u32, bw: u32, list: &mut [u16]) -> Answer
-    requires { ⌜ Passed (measureTrials (now job) lw bw (now list)) ⌝ }
-    ensures { λ r. ⌜ NextAnswers (now (job .entry)) lw bw (now (list .entry)) r (now (list .exit)) ⌝ }
-{
-    let s = layouts::next_on(job, lw, bw, list);
-    match s {
-        Step::Total(t) => Answer::Total(t),
-        Step::End => Answer::End,
-        Step::NotBest => Answer::Refused(not_best()),
     }
 }
 
 // Next: the earliest best layout after the one in `list`.
 pub fn next(job: &[u8], lw: u32, bw: u32, list: &mut [u16]) -> Answer
-    ensures { λ r. ⌜ NextAnswers (now (job .entry)) lw bw (now (list .entry)) r (now (list .exit)) ⌝ }
+    ensures { λ r. ⌜ NextAnswers (now (job .entry)) (byWeights lw bw) (now (list .entry)) r (now (list .exit)) ⌝ }
 {
-    let v = checks::verdicts::of_measure(job, lw, bw, list);
+    let v = verdicts::of_measure(job, verdicts::of_weights(lw, bw), list);
     match v {
-        Verdict::Sound => step(job, lw, bw, list),
+        Verdict::Sound => weighted::next(job, lw, bw, list),
         Verdict::Refused(r) => Answer::Refused(r),
-    }
-}
-
-// Page, once the layout is known to be untouching.
-fn follow(job: &[u8], lw: u32, bw: u32, list: &[u16], page: &mut [u16]) -> Paged
-    requires { ⌜ Passed (measureTrials (now job) lw bw (now list)) ⌝ }
-    ensures { λ r. ⌜ PageAnswers (now (job .entry)) lw bw (now (list .entry)) (now (page .entry)) r (now (page .exit)) ⌝ }
-{
-    let s = layouts::page_on(job, lw, bw, list, page);
-    if s.best {
-        Paged::Wrote(s.count)
-    } else {
-        Paged::Refused(not_best())
     }
 }
 
 // Page: the best layouts after the one in `list`, one after the other in `page`.
 pub fn page(job: &[u8], lw: u32, bw: u32, list: &[u16], page: &mut [u16]) -> Paged
-    ensures { λ r. ⌜ PageAnswers (now (job .entry)) lw bw (now (list .entry)) (now (page .entry)) r (now (page .exit)) ⌝ }
+    ensures { λ r. ⌜ PageAnswers (now (job .entry)) (byWeights lw bw) (now (list .entry)) (now (page .entry)) r (now (page .exit)) ⌝ }
 {
-    let v = checks::verdicts::of_measure(job, lw, bw, list);
+    let v = verdicts::of_measure(job, verdicts::of_weights(lw, bw), list);
     match v {
-        Verdict::Sound => follow(job, lw, bw, list, page),
+        Verdict::Sound => weighted::page(job, lw, bw, list, page),
         Verdict::Refused(r) => Paged::Refused(r),
     }
 }
 
 // Measure: the total of an untouching layout, best or not.
 pub fn measure(job: &[u8], lw: u32, bw: u32, list: &[u16]) -> Answer
-    ensures { λ r. ⌜ MeasureAnswers (now (job .entry)) lw bw (now (list .entry)) r ⌝ }
+    ensures { λ r. ⌜ MeasureAnswers (now (job .entry)) (byWeights lw bw) (now (list .entry)) r ⌝ }
 {
-    let v = checks::verdicts::of_measure(job, lw, bw, list);
+    let v = verdicts::of_measure(job, verdicts::of_weights(lw, bw), list);
+    let none = [0u32; 1];
     match v {
-        Verdict::Sound => Answer::Total(measure::total(job, lw, bw, list)),
+        Verdict::Sound => Answer::Total(measure::total(
+            Badness::Weights(lw, bw),
+            job,
+            &none[..0],
+            list,
+        )),
         Verdict::Refused(r) => Answer::Refused(r),
     }
 }
@@ -107,7 +81,7 @@ fn lead(job: &[u8], i: u32, q: u32, room: usize) -> Drawn
 pub fn draw(job: &[u8], i: u32, q: u32, points: &mut [f32]) -> Drawn
     ensures { λ r. ⌜ DrawAnswers (now (job .entry)) i q (now (points .entry)) r (now (points .exit)) ⌝ }
 {
-    let v = checks::verdicts::of_draw(job, i, q, points.len());
+    let v = verdicts::of_draw(job, i, q, points.len());
     match v {
         Verdict::Sound => {
             let d = lead(job, i, q, points.len());

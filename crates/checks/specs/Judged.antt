@@ -8,8 +8,9 @@ use native.Mathlib.Omega.{arith}
 use lib.Dec.{T, ltb, ltb→lt, lt→ltb}
 use Rattle.numbers.specs.Tests.{both, true-iff}
 use Rattle.paper.specs.declared.Refusal.{Refusal}
+use Rattle.paper.specs.Layouts.{Badness}
 use Rattle.paper.specs.Refusals.{Trial, Smallest, Passed, RefusedBy, firstTrials, measureTrials, drawTrials}
-use Rattle.paper.specs.laws.Tests.{Test, atEach, atPairs, withEarlier, firstTests, measureTests, drawTests}
+use Rattle.paper.specs.laws.Tests.{Test, atEach, atPairs, withEarlier, badnessTest, firstTests, measureTests, drawTests}
 use Rattle.paper.specs.laws.Trials.{passed-append, refused-left, refused-right}
 use Rattle.paper.specs.laws.Decided.{reasonOf, TestOf, TestsOf, first-tests, measure-tests, draw-tests}
 use Rattle.find.specs.declared.Found.{Found}
@@ -107,11 +108,11 @@ tests-judge (s ∷ ss) [] a = absurd a
 tests-judge (s ∷ ss) (t ∷ ts) (a, k) = judged-on (outcome (reasonOf s) (foundBy s)) ss (t ∷ []) ts (test-judged s t a) (λ p. tests-judge ss ts (k (p .0)))
 
 -- THEOREM, for every input of First, of Measure and of Draw.
-pub first-judged : (job : List ℕ) (lw bw room : ℕ) → Judged (verdictAfter Sound (firstTests job lw bw room)) (firstTrials job lw bw room)
-first-judged job lw bw room = tests-judge (firstTests job lw bw room) (firstTrials job lw bw room) (first-tests job lw bw room)
+pub first-judged : (job : List ℕ) (bad : Badness) (room : ℕ) → Judged (verdictAfter Sound (firstTests job (badnessTest job bad) room)) (firstTrials job bad room)
+first-judged job bad room = tests-judge (firstTests job (badnessTest job bad) room) (firstTrials job bad room) (first-tests job bad room)
 
-pub measure-judged : (job : List ℕ) (lw bw : ℕ) (list : List ℕ) → Judged (verdictAfter Sound (measureTests job lw bw list)) (measureTrials job lw bw list)
-measure-judged job lw bw list = tests-judge (measureTests job lw bw list) (measureTrials job lw bw list) (measure-tests job lw bw list)
+pub measure-judged : (job : List ℕ) (bad : Badness) (list : List ℕ) → Judged (verdictAfter Sound (measureTests job (badnessTest job bad) list)) (measureTrials job bad list)
+measure-judged job bad list = tests-judge (measureTests job (badnessTest job bad) list) (measureTrials job bad list) (measure-tests job bad list)
 
 pub draw-judged : (job : List ℕ) (i q room : ℕ) → Judged (verdictAfter Sound (drawTests job i q room)) (drawTrials job i q room)
 draw-judged job i q room = tests-judge (drawTests job i q room) (drawTrials job i q room) (draw-tests job i q room)

@@ -4,11 +4,12 @@ use mathlib.Core.Path.{_≡_, refl}
 use Prim.Native.Nat.{ℕ}
 use Rattle.paper.specs.declared.Refusal.{Refusal}
 use Rattle.paper.specs.Refusals.{refusal}
-use Rattle.paper.specs.laws.Tests.{Test, atEach, atPairs}
+use Rattle.paper.specs.laws.Tests.{Test, atEach, atPairs, atWhole}
 use Rattle.paper.specs.laws.Decided.{reasonOf}
 use Rattle.find.specs.declared.Found.{Found}
 use Rattle.find.specs.declared.Found.the-variants.{At, Nowhere}
 use Rattle.find.specs.Search.{firstWhere, firstPairWhere}
+use Rattle.checks.specs.declared.Given.{Given}
 use Rattle.checks.specs.declared.Verdict.{Verdict}
 use Rattle.checks.specs.declared.Verdict.the-variants.{Sound, Refused}
 
@@ -29,6 +30,10 @@ andThen (Refused r) t = Refused r
 abbrev pub verdictAfter : Verdict → List Test → Verdict
 verdictAfter v [] = v
 verdictAfter v (t ∷ ts) = verdictAfter (andThen v t) ts
+
+-- the test of the weights or of the table
+abbrev pub givenTest : Given → Test
+givenTest g = atWhole (g .reason) (g .fault)
 
 -- one list of tests after another
 pub after-append : (v : Verdict) (ts us : List Test) → verdictAfter v (ts ++ us) ≡ verdictAfter (verdictAfter v ts) us

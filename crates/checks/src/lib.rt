@@ -3,6 +3,12 @@ pub mod verdicts;
 
 use paper::Refusal;
 
+// The check of what a leader costs by, weights or a table: its refusal number, and whether they are at fault.
+pub struct Given {
+    reason: u16,
+    fault: bool,
+}
+
 // What the checks come to.
 pub enum Verdict {
     Sound,

@@ -1,4 +1,5 @@
 // The checks of each call, in order. A verdict goes from check to check, and a refusal stands.
+use crate::Given;
 use crate::Verdict;
 use find::Check;
 use find::Found;
@@ -8,9 +9,9 @@ ghost use Prim.Native.Nat.{_≤_};
 ghost use lib.ListN.{length};
 ghost use Rattle.paper.specs.Job.{count};
 ghost use Rattle.paper.specs.Layouts.{boardOf, held};
-ghost use Rattle.paper.specs.laws.Tests.{badEntry, meetAt, atEach, atPairs, atWhole, jobTests, layoutTests, firstTests, measureTests, drawTests};
+ghost use Rattle.paper.specs.laws.Tests.{badWeight, badTable, badEntry, meetAt, atEach, atPairs, atWhole, jobTests, layoutTests, firstTests, measureTests, drawTests};
 ghost use Rattle.find.specs.Dispatch.{testOf, Led};
-ghost use Rattle.checks.specs.Verdicts.{outcome, andThen, verdictAfter};
+ghost use Rattle.checks.specs.Verdicts.{outcome, andThen, verdictAfter, givenTest};
 
 // What a check found, as a verdict.
 fn verdict(reason: u16, found: Found) -> Verdict
@@ -99,21 +100,40 @@ pub fn of_layout(v: Verdict, job: &[u8], list: &[u16]) -> Verdict
     try_touching(v8, job, list)
 }
 
-// First, with room for so many entries: 1, 2, 3 and the job's.
-pub fn of_first(job: &[u8], lw: u32, bw: u32, room: usize) -> Verdict
-    ensures { λ r. ⌜ r ≡ verdictAfter Verdict.Sound (firstTests (now (job .entry)) lw bw room) ⌝ }
+// 2, of weights; 13, of a table of so many figures.
+pub fn of_weights(lw: u32, bw: u32) -> Given
+    ensures { λ r. ⌜ r ≡ record { reason = 2; fault = badWeight lw bw } ⌝ }
+{
+    Given {
+        reason: 2,
+        fault: faults::bad_weight(lw, bw),
+    }
+}
+
+pub fn of_table(job: &[u8], figures: usize) -> Given
+    ensures { λ r. ⌜ r ≡ record { reason = 13; fault = badTable (count (now (job .entry))) figures } ⌝ }
+{
+    Given {
+        reason: 13,
+        fault: faults::bad_table(job, figures),
+    }
+}
+
+// First, with room for so many entries: 1, 2 or 13, 3 and the job's.
+pub fn of_first(job: &[u8], given: Given, room: usize) -> Verdict
+    ensures { λ r. ⌜ r ≡ verdictAfter Verdict.Sound (firstTests (now (job .entry)) (givenTest given) room) ⌝ }
 {
     let v1 = try_whole(Verdict::Sound, 1, faults::bad_size(job));
-    let v2 = try_whole(v1, 2, faults::bad_weight(lw, bw));
+    let v2 = try_whole(v1, given.reason, given.fault);
     let v3 = try_whole(v2, 3, room < job.len() / 16);
     of_job(v3, job)
 }
 
 // Measure: First's, 8 and 9.
-pub fn of_measure(job: &[u8], lw: u32, bw: u32, list: &[u16]) -> Verdict
-    ensures { λ r. ⌜ r ≡ verdictAfter Verdict.Sound (measureTests (now (job .entry)) lw bw (now (list .entry))) ⌝ }
+pub fn of_measure(job: &[u8], given: Given, list: &[u16]) -> Verdict
+    ensures { λ r. ⌜ r ≡ verdictAfter Verdict.Sound (measureTests (now (job .entry)) (givenTest given) (now (list .entry))) ⌝ }
 {
-    let v = of_first(job, lw, bw, list.len());
+    let v = of_first(job, given, list.len());
     of_layout(v, job, list)
 }
 

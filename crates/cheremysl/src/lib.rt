@@ -5,6 +5,7 @@ use paper::Drawn;
 use paper::Paged;
 use paper::Refusal;
 ghost use mathlib.Core.Path.{_≡_};
+ghost use Rattle.paper.specs.Layouts.{byWeights, byTable};
 ghost use Rattle.paper.specs.Promises.{refusalNumber, number, pagedNumber, drawnNumber};
 ghost use Rattle.paper.specs.Promises.{FirstPromise, NextPromise, PagePromise, MeasurePromise, DrawPromise};
 ghost use Rattle.paper.specs.laws.Bounds.{Bounded, Counted};
@@ -55,7 +56,7 @@ pub extern "C" fn cheremysl_first(
     bend_weight: u32,
     layout: &mut [u16],
 ) -> i64
-    ensures { λ r. ⌜ FirstPromise (now (job .entry)) «length_weight» «bend_weight» (now (layout .entry)) r (now (layout .exit)) ⌝ }
+    ensures { λ r. ⌜ FirstPromise (now (job .entry)) (byWeights «length_weight» «bend_weight») (now (layout .entry)) r (now (layout .exit)) ⌝ }
 {
     of_answer(calls::first(job, length_weight, bend_weight, layout))
 }
@@ -67,7 +68,7 @@ pub extern "C" fn cheremysl_next(
     bend_weight: u32,
     layout: &mut [u16],
 ) -> i64
-    ensures { λ r. ⌜ NextPromise (now (job .entry)) «length_weight» «bend_weight» (now (layout .entry)) r (now (layout .exit)) ⌝ }
+    ensures { λ r. ⌜ NextPromise (now (job .entry)) (byWeights «length_weight» «bend_weight») (now (layout .entry)) r (now (layout .exit)) ⌝ }
 {
     of_answer(calls::next(job, length_weight, bend_weight, layout))
 }
@@ -80,7 +81,7 @@ pub extern "C" fn cheremysl_page(
     layout: &[u16],
     page: &mut [u16],
 ) -> i64
-    ensures { λ r. ⌜ PagePromise (now (job .entry)) «length_weight» «bend_weight» (now (layout .entry)) (now (page .entry)) r (now (page .exit)) ⌝ }
+    ensures { λ r. ⌜ PagePromise (now (job .entry)) (byWeights «length_weight» «bend_weight») (now (layout .entry)) (now (page .entry)) r (now (page .exit)) ⌝ }
 {
     of_paged(calls::page(job, length_weight, bend_weight, layout, page))
 }
@@ -92,9 +93,30 @@ pub extern "C" fn cheremysl_measure(
     bend_weight: u32,
     layout: &[u16],
 ) -> i64
-    ensures { λ r. ⌜ MeasurePromise (now (job .entry)) «length_weight» «bend_weight» (now (layout .entry)) r ⌝ }
+    ensures { λ r. ⌜ MeasurePromise (now (job .entry)) (byWeights «length_weight» «bend_weight») (now (layout .entry)) r ⌝ }
 {
     of_answer(calls::measure(job, length_weight, bend_weight, layout))
+}
+
+#[no_mangle]
+pub extern "C" fn cheremysl_table_first(job: &[u8], table: &[u32], layout: &mut [u16]) -> i64
+    ensures { λ r. ⌜ FirstPromise (now (job .entry)) (byTable (now (table .entry))) (now (layout .entry)) r (now (layout .exit)) ⌝ }
+{
+    of_answer(calls::table::first(job, table, layout))
+}
+
+#[no_mangle]
+pub extern "C" fn cheremysl_table_next(job: &[u8], table: &[u32], layout: &mut [u16]) -> i64
+    ensures { λ r. ⌜ NextPromise (now (job .entry)) (byTable (now (table .entry))) (now (layout .entry)) r (now (layout .exit)) ⌝ }
+{
+    of_answer(calls::table::next(job, table, layout))
+}
+
+#[no_mangle]
+pub extern "C" fn cheremysl_table_measure(job: &[u8], table: &[u32], layout: &[u16]) -> i64
+    ensures { λ r. ⌜ MeasurePromise (now (job .entry)) (byTable (now (table .entry))) (now (layout .entry)) r ⌝ }
+{
+    of_answer(calls::table::measure(job, table, layout))
 }
 
 #[no_mangle]

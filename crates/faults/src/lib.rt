@@ -4,7 +4,7 @@ ghost use Prim.Native.Nat.{_<_};
 ghost use lib.ListN.{length};
 ghost use Rattle.paper.specs.Job.{count};
 ghost use Rattle.paper.specs.Layouts.{boardOf, held};
-ghost use Rattle.paper.specs.laws.Tests.{badSize, badWeight, outside, badField, notAbove, tooClose, sameName, sameX, sameEntry, between, leadersMeet, meetAt, badNumber};
+ghost use Rattle.paper.specs.laws.Tests.{badSize, badWeight, badTable, outside, badField, notAbove, tooClose, sameName, sameX, sameEntry, between, leadersMeet, meetAt, badNumber};
 
 // 1: the byte count.
 pub fn bad_size(job: &[u8]) -> bool
@@ -18,6 +18,18 @@ pub fn bad_weight(lw: u32, bw: u32) -> bool
     ensures { λ r. ⌜ r ≡ badWeight lw bw ⌝ }
 {
     (1000 < lw) | (1000 < bw)
+}
+
+// 13: the table's length. The product n * n could wrap before 1 is tried, a quotient and a remainder cannot.
+pub fn bad_table(job: &[u8], figures: usize) -> bool
+    ensures { λ r. ⌜ r ≡ badTable (count (now (job .entry))) figures ⌝ }
+{
+    let n = job.len() / 16;
+    if n == 0 {
+        figures != 0
+    } else {
+        (figures / n != n) | (figures % n != 0)
+    }
 }
 
 // 4: the fields of record i.

@@ -7,7 +7,7 @@ use lib.ListN.{length}
 use Rattle.totals.specs.Cell.{Table}
 use Rattle.choices.specs.Choices as choices
 use Rattle.steps.specs.Totals.{best-total}
-use Rattle.paper.specs.Layouts.{Board, held}
+use Rattle.paper.specs.Layouts.{Board, held, figure}
 use Rattle.paper.specs.Problem.{labeling}
 use Rattle.paper.specs.Promises.{Kept}
 use Rattle.paper.specs.laws.Existence.{untouching-exists}
@@ -20,7 +20,7 @@ use Rattle.walks.specs.Walks.{listRules, Startable, Walks}
 use Rattle.walks.specs.Says.{Says, walks-said}
 use Rattle.layouts.specs.Replies.{rulesOf, StartOn}
 
-module _ (b : Board) (cost : ℕ → ℕ → ℕ) {order lo hi cs : List ℕ} (W : WorkOf b cost order lo hi cs) where
+module _ (b : Board) {order lo hi cs : List ℕ} (W : WorkOf b order lo hi cs) where
   same-n : length order ≡ b .pads
   same-n = W .listed .arranged .long
 
@@ -40,7 +40,7 @@ module _ (b : Board) (cost : ℕ → ℕ → ℕ) {order lo hi cs : List ℕ} (W
   kept-on : (w v : List ℕ) → choices.KeptFrom (length order) w v → Kept (b .pads) w v
   kept-on w v K = record { long = K .long; rest = λ k h. K .rest k (omega (arith, same-n)) }
 
-  says : Says (listRules order cs lo hi) (rulesOf (labeling b cost))
+  says : Says (listRules order cs lo hi) (rulesOf (labeling b (figure b cs)))
   says = record {
     earliest = λ w v e. (first-best W (held v) (e .earliest), kept-on w v (e .kept));
     best = λ w. (optimal-is-best W (held w), best-is-optimal W (held w));
@@ -50,6 +50,6 @@ module _ (b : Board) (cost : ℕ → ℕ → ℕ) {order lo hi cs : List ℕ} (W
   }
 
   pub walks-on : (start : Start) (w page v after : List ℕ) (r : Walked)
-      → Walks (listRules order cs lo hi) (length order) start w page v after r → Walks (rulesOf (labeling b cost)) (b .pads) start w page v after r
-  walks-on start w page v after r P = subst (λ (n : ℕ). Walks (rulesOf (labeling b cost)) n start w page v after r) same-n
+      → Walks (listRules order cs lo hi) (length order) start w page v after r → Walks (rulesOf (labeling b (figure b cs))) (b .pads) start w page v after r
+  walks-on start w page v after r P = subst (λ (n : ℕ). Walks (rulesOf (labeling b (figure b cs))) n start w page v after r) same-n
       (walks-said says (length order) start w page v after r P)

@@ -5,7 +5,7 @@ use mathlib.Core.List.{List}
 use Prim.Native.Nat.{ℕ, _≤_}
 use lib.ListN.{length}
 use Rattle.paper.specs.Job.{count}
-use Rattle.paper.specs.Layouts.{Board, held, Untouching}
+use Rattle.paper.specs.Layouts.{Board, held, Untouching, Badness}
 use Rattle.paper.specs.Problem.{Problem, Best, FirstBest, NextBest, LastBest, labelingOf}
 use Rattle.paper.specs.Promises.{Kept, Following}
 use Rattle.paper.specs.laws.Totals.{totalOf}
@@ -26,8 +26,8 @@ rulesOf p = record {
   Least = λ t. (w : List ℕ) → Best p (held w) → t ≡ p .value (held w);
 }
 
-abbrev pub jobRules : List ℕ → ℕ → ℕ → Rules
-jobRules job lw bw = rulesOf (labelingOf job lw bw)
+abbrev pub jobRules : List ℕ → Badness → Rules
+jobRules job bad = rulesOf (labelingOf job bad)
 
 -- A walk starts with room for a layout, and with an untouching one if it is given.
 abbrev pub StartOn : Start → Board → List ℕ → Type 0
@@ -35,29 +35,29 @@ StartOn First b w = b .pads ≤ length w
 StartOn Given b w = (b .pads ≤ length w) × Untouching b (held w)
 
 -- FIRST: the list holds the earliest best layout, t is its total, and the entries from n on are kept.
-abbrev pub FirstOn : List ℕ → ℕ → ℕ → List ℕ → List ℕ → ℕ → Type 0
-FirstOn job lw bw before after t =
-    FirstBest (labelingOf job lw bw) (held after) × (t ≡ totalOf job lw bw after) × Kept (count job) before after
+abbrev pub FirstOn : List ℕ → Badness → List ℕ → List ℕ → ℕ → Type 0
+FirstOn job bad before after t =
+    FirstBest (labelingOf job bad) (held after) × (t ≡ totalOf job bad after) × Kept (count job) before after
 
 -- NEXT, asked of an untouching layout: it is best, and the earliest best layout after it has replaced it; or it is the last best one, and is kept; or it
 -- is not best, and is kept.
-abbrev pub NextOn : List ℕ → ℕ → ℕ → List ℕ → List ℕ → Step → Type 0
-NextOn job lw bw before after (Total t) =
-    Best (labelingOf job lw bw) (held before)
-    × NextBest (labelingOf job lw bw) (held before) (held after)
-    × (t ≡ totalOf job lw bw after)
+abbrev pub NextOn : List ℕ → Badness → List ℕ → List ℕ → Step → Type 0
+NextOn job bad before after (Total t) =
+    Best (labelingOf job bad) (held before)
+    × NextBest (labelingOf job bad) (held before) (held after)
+    × (t ≡ totalOf job bad after)
     × Kept (count job) before after
-NextOn job lw bw before after End =
-    Best (labelingOf job lw bw) (held before)
-    × LastBest (labelingOf job lw bw) (held before)
+NextOn job bad before after End =
+    Best (labelingOf job bad) (held before)
+    × LastBest (labelingOf job bad) (held before)
     × (after ≡ before)
-NextOn job lw bw before after NotBest = (¬ Best (labelingOf job lw bw) (held before)) × (after ≡ before)
+NextOn job bad before after NotBest = (¬ Best (labelingOf job bad) (held before)) × (after ≡ before)
 
 -- PAGE, asked of an untouching layout: it is best, and those that follow stand on the page; or it is not best, none follows, and the page is kept.
-abbrev pub PageOn : List ℕ → ℕ → ℕ → List ℕ → List ℕ → List ℕ → Walked → Type 0
-PageOn job lw bw given before after r =
+abbrev pub PageOn : List ℕ → Badness → List ℕ → List ℕ → List ℕ → Walked → Type 0
+PageOn job bad given before after r =
     ((r .best ≡ true)
-    → Best (labelingOf job lw bw) (held given)
-    × Following (labelingOf job lw bw) given before (r .count) after
-    × (r .total ≡ totalOf job lw bw given))
-    × ((r .best ≡ false) → (¬ Best (labelingOf job lw bw) (held given)) × (after ≡ before) × (r .count ≡ 0))
+    → Best (labelingOf job bad) (held given)
+    × Following (labelingOf job bad) given before (r .count) after
+    × (r .total ≡ totalOf job bad given))
+    × ((r .best ≡ false) → (¬ Best (labelingOf job bad) (held given)) × (after ≡ before) × (r .count ≡ 0))

@@ -1,12 +1,13 @@
-// First, Next and Page on a job that has passed the checks: each is a walk over the job's work lists and their table, with its own room.
+// First, Next and Page on a job that has passed the checks, by a table of what each pad costs with each port: each is a walk over the
+// job's work lists, with its own room. The table is read where it is lent.
 use walks::Start;
 use walks::Walked;
 ghost use mathlib.Core.Path.{_≡_};
 ghost use Prim.Native.Nat.{_≤_};
 ghost use lib.ListN.{length};
 ghost use Rattle.paper.specs.Job.{count};
-ghost use Rattle.paper.specs.Layouts.{boardOf, held, Untouching};
-ghost use Rattle.paper.specs.laws.Accepted.{Accepted};
+ghost use Rattle.paper.specs.Layouts.{boardOf, held, Untouching, byTable};
+ghost use Rattle.paper.specs.laws.Accepted.{Accepted, Fair};
 ghost use Rattle.board.specs.Lists.{Lent};
 ghost use Rattle.walks.specs.Walks.{Walks};
 ghost use Rattle.layouts.specs.Replies.{jobRules, StartOn, FirstOn, NextOn, PageOn};
@@ -18,54 +19,48 @@ pub enum Step {
     NotBest,
 }
 
-// A walk, with lists lent for the work lists and their table.
+// A walk, with lists lent for the work lists and the table of least totals.
 fn walk_at(
     start: Start,
     job: &[u8],
-    lw: u32,
-    bw: u32,
+    figures: &[u32],
     order: &mut [u8],
     lo: &mut [u8],
     hi: &mut [u8],
-    cost: &mut [u32],
     heads: &mut [u8],
     totals: &mut [u64],
     w: &mut [u16],
     page: &mut [u16],
 ) -> Walked
-    requires { ⌜ Accepted (now job) × (lw ≤ 1000) × (bw ≤ 1000) × StartOn start (boardOf (now job)) (now w) ⌝ }
-    requires { ⌜ Lent (count (now job)) (now order) (now lo) (now hi) (now cost) × (length (now heads) ≡ 2145) × (length (now totals) ≡ 2145) ⌝ }
-    ensures { λ r. ⌜ Walks (jobRules (now (job .entry)) lw bw) (count (now (job .entry))) start (now (w .entry)) (now (page .entry)) (now (w .exit))
-        (now (page .exit)) r ⌝ }
+    requires { ⌜ Accepted (now job) × Fair (now job) (byTable (now figures)) × StartOn start (boardOf (now job)) (now w) ⌝ }
+    requires { ⌜ Lent (count (now job)) (now order) (now lo) (now hi) × (length (now heads) ≡ 2145) × (length (now totals) ≡ 2145) ⌝ }
+    ensures { λ r. ⌜ Walks (jobRules (now (job .entry)) (byTable (now (figures .entry)))) (count (now (job .entry))) start (now (w .entry)) (now (page .entry))
+        (now (w .exit)) (now (page .exit)) r ⌝ }
 {
-    board::prepare(job, lw, bw, order, lo, hi, cost);
-    let least = table::fill(heads, totals, order, cost, lo, hi);
-    walks::walk(start, heads, totals, order, cost, lo, hi, w, page, least)
+    board::prepare(job, order, lo, hi);
+    let least = table::fill(heads, totals, order, figures, lo, hi);
+    walks::walk(start, heads, totals, order, figures, lo, hi, w, page, least)
 }
 
 // A walk through the best layouts of a job.
-fn walk(start: Start, job: &[u8], lw: u32, bw: u32, w: &mut [u16], page: &mut [u16]) -> Walked
-    requires { ⌜ Accepted (now job) × (lw ≤ 1000) × (bw ≤ 1000) × StartOn start (boardOf (now job)) (now w) ⌝ }
-    ensures { λ r. ⌜ Walks (jobRules (now (job .entry)) lw bw) (count (now (job .entry))) start (now (w .entry)) (now (page .entry)) (now (w .exit))
-        (now (page .exit)) r ⌝ }
+fn walk(start: Start, job: &[u8], figures: &[u32], w: &mut [u16], page: &mut [u16]) -> Walked
+    requires { ⌜ Accepted (now job) × Fair (now job) (byTable (now figures)) × StartOn start (boardOf (now job)) (now w) ⌝ }
+    ensures { λ r. ⌜ Walks (jobRules (now (job .entry)) (byTable (now (figures .entry)))) (count (now (job .entry))) start (now (w .entry)) (now (page .entry))
+        (now (w .exit)) (now (page .exit)) r ⌝ }
 {
     let n = job.len() / 16;
-    let square = n * n;
     let mut order = [0u8; 64];
     let mut lo = [0u8; 64];
     let mut hi = [0u8; 64];
-    let mut cost = [0u32; 4096];
     let mut heads = [0u8; 2145];
     let mut totals = [0u64; 2145];
     walk_at(
         start,
         job,
-        lw,
-        bw,
+        figures,
         &mut order[..n],
         &mut lo[..n],
         &mut hi[..n],
-        &mut cost[..square],
         &mut heads,
         &mut totals,
         w,
@@ -74,23 +69,23 @@ fn walk(start: Start, job: &[u8], lw: u32, bw: u32, w: &mut [u16], page: &mut [u
 }
 
 // First: a walk from the earliest best layout, with room for none on its page.
-pub fn first_on(job: &[u8], lw: u32, bw: u32, layout: &mut [u16]) -> u64
-    requires { ⌜ Accepted (now job) × (lw ≤ 1000) × (bw ≤ 1000) × (count (now job) ≤ length (now layout)) ⌝ }
-    ensures { λ t. ⌜ FirstOn (now (job .entry)) lw bw (now (layout .entry)) (now (layout .exit)) t ⌝ }
+pub fn first_on(job: &[u8], figures: &[u32], layout: &mut [u16]) -> u64
+    requires { ⌜ Accepted (now job) × Fair (now job) (byTable (now figures)) × (count (now job) ≤ length (now layout)) ⌝ }
+    ensures { λ t. ⌜ FirstOn (now (job .entry)) (byTable (now (figures .entry))) (now (layout .entry)) (now (layout .exit)) t ⌝ }
 {
     let mut page = [0u16; 1];
-    walk(Start::First, job, lw, bw, layout, &mut page[..0]).total
+    walk(Start::First, job, figures, layout, &mut page[..0]).total
 }
 
 // Next: a walk from an untouching layout, with room for one.
-pub fn next_on(job: &[u8], lw: u32, bw: u32, layout: &mut [u16]) -> Step
-    requires { ⌜ Accepted (now job) × (lw ≤ 1000) × (bw ≤ 1000) × (count (now job) ≤ length (now layout)) ⌝ }
+pub fn next_on(job: &[u8], figures: &[u32], layout: &mut [u16]) -> Step
+    requires { ⌜ Accepted (now job) × Fair (now job) (byTable (now figures)) × (count (now job) ≤ length (now layout)) ⌝ }
     requires { ⌜ Untouching (boardOf (now job)) (held (now layout)) ⌝ }
-    ensures { λ r. ⌜ NextOn (now (job .entry)) lw bw (now (layout .entry)) (now (layout .exit)) r ⌝ }
+    ensures { λ r. ⌜ NextOn (now (job .entry)) (byTable (now (figures .entry))) (now (layout .entry)) (now (layout .exit)) r ⌝ }
 {
     let n = job.len() / 16;
     let mut page = [0u16; 64];
-    let r = walk(Start::Given, job, lw, bw, layout, &mut page[..n]);
+    let r = walk(Start::Given, job, figures, layout, &mut page[..n]);
     if r.best {
         if r.count == 0 {
             Step::End
@@ -103,12 +98,12 @@ pub fn next_on(job: &[u8], lw: u32, bw: u32, layout: &mut [u16]) -> Step
 }
 
 // Page: a walk from a copy of an untouching layout, with the room of a page.
-pub fn page_on(job: &[u8], lw: u32, bw: u32, layout: &[u16], page: &mut [u16]) -> Walked
-    requires { ⌜ Accepted (now job) × (lw ≤ 1000) × (bw ≤ 1000) × (count (now job) ≤ length (now layout)) ⌝ }
+pub fn page_on(job: &[u8], figures: &[u32], layout: &[u16], page: &mut [u16]) -> Walked
+    requires { ⌜ Accepted (now job) × Fair (now job) (byTable (now figures)) × (count (now job) ≤ length (now layout)) ⌝ }
     requires { ⌜ Untouching (boardOf (now job)) (held (now layout)) ⌝ }
-    ensures { λ r. ⌜ PageOn (now (job .entry)) lw bw (now (layout .entry)) (now (page .entry)) (now (page .exit)) r ⌝ }
+    ensures { λ r. ⌜ PageOn (now (job .entry)) (byTable (now (figures .entry))) (now (layout .entry)) (now (page .entry)) (now (page .exit)) r ⌝ }
 {
     let mut w = [0u16; 64];
     walks::copy(layout, job.len() / 16, &mut w, 0);
-    walk(Start::Given, job, lw, bw, &mut w, page)
+    walk(Start::Given, job, figures, &mut w, page)
 }

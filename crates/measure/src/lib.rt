@@ -3,10 +3,11 @@ ghost use mathlib.Core.Path.{_≡_};
 ghost use Prim.Native.Nat.{_<_, _≤_};
 ghost use Rattle.paper.specs.Job.{count, yOf, portOf};
 ghost use Rattle.paper.specs.Leaders.{distance, lengthOf, bendsOf};
-ghost use Rattle.paper.specs.Layouts.{boardOf, leader, weighted};
+ghost use Rattle.paper.specs.Layouts.{boardOf, leader, costOf, weighted as weightedCost};
 ghost use Rattle.paper.specs.laws.Totals.{totalOf};
 ghost use Rattle.paper.specs.Refusals.{Passed, measureTrials};
-ghost use Rattle.paper.specs.laws.Accepted.{Accepted};
+ghost use Rattle.paper.specs.laws.Accepted.{Accepted, Fair};
+ghost use Rattle.measure.specs.Given.{givenBy};
 
 // The hand of the leader of pad i to port q: how long it is.
 fn hand(job: &[u8], i: u16, q: u16) -> u64
@@ -33,24 +34,44 @@ pub fn bends(job: &[u8], i: u16, q: u16) -> u64
 }
 
 // What it costs with these weights: 32 bits hold it in every accepted job, and so narrow, the compiler works out four at a time.
-pub fn cost(job: &[u8], lw: u32, bw: u32, i: u16, q: u16) -> u32
+pub fn weighted(job: &[u8], lw: u32, bw: u32, i: u16, q: u16) -> u32
     requires { ⌜ Accepted (now job) × (lw ≤ 1000) × (bw ≤ 1000) × (i < count (now job)) × (q < count (now job)) ⌝ }
-    ensures { λ r. ⌜ (r ≡ weighted (boardOf (now (job .entry))) lw bw i q) × (r ≤ 3000001000) ⌝ }
+    ensures { λ r. ⌜ r ≡ weightedCost (boardOf (now (job .entry))) lw bw i q ⌝ }
 {
     lw * (length(job, i, q) as u32) + bw * (bends(job, i, q) as u32)
 }
 
+// What a leader costs by: these weights, length before bend, or the table lent beside.
+pub enum Badness {
+    Weights(u32, u32),
+    Table,
+}
+
+// What the leader of pad i to port q costs.
+fn cost(bad: Badness, job: &[u8], figures: &[u32], i: u16, q: u16) -> u32
+    requires { ⌜ Accepted (now job) × Fair (now job) (givenBy bad (now figures)) × (i < count (now job)) × (q < count (now job)) ⌝ }
+    ensures { λ r. ⌜ r ≡ costOf (boardOf (now (job .entry))) (givenBy bad (now (figures .entry))) i q ⌝ }
+{
+    match bad {
+        Badness::Weights(lw, bw) => weighted(job, lw, bw, i, q),
+        Badness::Table => {
+            let n = job::records(job);
+            figures[(i as usize) * (n as usize) + q as usize]
+        }
+    }
+}
+
 // The total of the layout that a list holds, once Measure's trials are passed.
-pub fn total(job: &[u8], lw: u32, bw: u32, list: &[u16]) -> u64
-    requires { ⌜ Passed (measureTrials (now job) lw bw (now list)) ⌝ }
-    ensures { λ r. ⌜ (r ≡ totalOf (now (job .entry)) lw bw (now (list .entry))) × (r ≤ 192000064000) ⌝ }
+pub fn total(bad: Badness, job: &[u8], figures: &[u32], list: &[u16]) -> u64
+    requires { ⌜ Passed (measureTrials (now job) (givenBy bad (now figures)) (now list)) ⌝ }
+    ensures { λ r. ⌜ r ≡ totalOf (now (job .entry)) (givenBy bad (now (figures .entry))) (now (list .entry)) ⌝ }
 {
     let n = job::records(job);
     let mut sum: u64 = 0;
     let mut i: u16 = 0;
     while i < n {
         let q = list[i as usize];
-        sum += cost(job, lw, bw, i, q) as u64;
+        sum += cost(bad, job, figures, i, q) as u64;
         i += 1;
     }
     sum

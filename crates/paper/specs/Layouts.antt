@@ -4,7 +4,7 @@ use mathlib.Core.Path.{_≡_}
 use mathlib.Core.Logic.{_≢_}
 use mathlib.Core.List.{List}
 use Prim.Native.Nat.{ℕ, zero, suc, _+_, _*_, _≤_, _<_}
-use lib.ListN.{getD}
+use lib.ListN.{length, getD}
 use lib.IntN.{ℤ}
 use lib.Signed.{_<ℤ_}
 use Rattle.paper.specs.Job.{count, xOf, yOf, portOf}
@@ -73,9 +73,27 @@ unfoldable pub sum : ℕ → (ℕ → ℕ) → ℕ
 sum zero c = 0
 sum (suc n) c = sum n c + c n
 
--- What it costs to lead pad i to port q: length and bends, each times its weight.
+-- What it costs to lead pad i to port q. By weights: length and bends, each times its weight.
 unfoldable pub weighted : Board → ℕ → ℕ → ℕ → ℕ → ℕ
 weighted b lw bw i q = lw * lengthOf (leader b i q) + bw * bendsOf (leader b i q)
+
+-- By a table (02): "pad by pad, ports rising", the figure of pad i with port q.
+abbrev pub figure : Board → List ℕ → ℕ → ℕ → ℕ
+figure b figures i q = getD figures (i * b .ports + q) 0
+
+-- A call is given two weights, length before bend, or a table. Benkert's word for what a leader costs is badness.
+pub data Badness : Type 0 where
+  byWeights : ℕ → ℕ → Badness
+  byTable : List ℕ → Badness
+
+abbrev pub costOf : Board → Badness → ℕ → ℕ → ℕ
+costOf b (byWeights lw bw) = weighted b lw bw
+costOf b (byTable figures) = figure b figures
+
+-- The table of a cost.
+pub record TableOf (b : Board) (cost : ℕ → ℕ → ℕ) (figures : List ℕ) : Type 0 where
+  pub long : length figures ≡ b .pads * b .ports
+  pub at : (i q : ℕ) → i < b .pads → q < b .ports → figure b figures i q ≡ cost i q
 
 -- The total of a layout, for any such cost. (With the weighted cost it is (length weight × sum of lengths) + (bend weight × sum of bends): `total-is`.)
 abbrev pub total : Board → (ℕ → ℕ → ℕ) → (ℕ → ℕ) → ℕ

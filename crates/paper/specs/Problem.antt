@@ -3,7 +3,7 @@
 use mathlib.Core.Path.{_≡_}
 use mathlib.Core.List.{List}
 use Prim.Native.Nat.{ℕ, _≤_, _<_}
-use Rattle.paper.specs.Layouts.{Board, boardOf, Untouching, weighted, total}
+use Rattle.paper.specs.Layouts.{Board, boardOf, Untouching, Badness, costOf, total}
 
 pub record Problem : Type 1 where
   pub board : Board
@@ -39,6 +39,6 @@ LastBest p l = (g : ℕ → ℕ) → Best p g → ¬ Before (p .board) l g
 abbrev pub labeling : Board → (ℕ → ℕ → ℕ) → Problem
 labeling b cost = record { board = b; Counts = Untouching b; value = total b cost }
 
--- 01's: the board of a job, and the weighted cost; lw and bw are the length weight and the bend weight.
-abbrev pub labelingOf : List ℕ → ℕ → ℕ → Problem
-labelingOf job lw bw = labeling (boardOf job) (weighted (boardOf job) lw bw)
+-- On the board of a job: 01's by weights, 02's by a table.
+abbrev pub labelingOf : List ℕ → Badness → Problem
+labelingOf job bad = labeling (boardOf job) (costOf (boardOf job) bad)

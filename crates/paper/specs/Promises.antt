@@ -15,7 +15,7 @@ use Rattle.paper.specs.declared.Paged.{Paged}
 use Rattle.paper.specs.declared.Paged.the-variants.{Wrote, Refused as NotPaged}
 use Rattle.paper.specs.declared.Drawn.{Drawn}
 use Rattle.paper.specs.declared.Drawn.the-variants.{Straight, Bent, Refused as NotDrawn}
-use Rattle.paper.specs.Layouts.{boardOf, held, leader}
+use Rattle.paper.specs.Layouts.{boardOf, held, leader, Badness}
 use Rattle.paper.specs.Problem.{Problem, FirstBest, NextBest, LastBest}
 use Rattle.paper.specs.Refusals.{Trial, Passed, RefusedBy, refusal, drawTrials, Calls, entries, callsOf}
 use Rattle.paper.specs.Canvas.{DrawnStraight, DrawnBent}
@@ -71,7 +71,7 @@ overwritten cs before = cs ++ drop (length cs) before
 
 -- ---- the promises
 
--- Each is said for any calls, by their problem and their trials, and then for 01's.
+-- Each is said for any calls, by their problem and their trials, and then for those on a job.
 
 -- FIRST: the earliest best layout fills the first n entries, and the answer is its value: for 01, its total.
 abbrev pub FirstOver : Calls → List ℕ → Answer → List ℕ → Type 0
@@ -121,31 +121,31 @@ PageReplies c given before m after = (a : Paged) × PageOver c given before a af
 abbrev pub MeasureReplies : Calls → List ℕ → ℤ → Type 0
 MeasureReplies c list m = (a : Answer) × MeasureOver c list a × (m ≡ number a)
 
--- ---- 01's calls: their answers in the language, and their promises to C
+-- ---- the calls on a job, by weights and by tables: their answers in the language, and their promises to C
 
-abbrev pub FirstAnswers : List ℕ → ℕ → ℕ → List ℕ → Answer → List ℕ → Type 0
-FirstAnswers job lw bw = FirstOver (callsOf job lw bw)
+abbrev pub FirstAnswers : List ℕ → Badness → List ℕ → Answer → List ℕ → Type 0
+FirstAnswers job bad = FirstOver (callsOf job bad)
 
-abbrev pub NextAnswers : List ℕ → ℕ → ℕ → List ℕ → Answer → List ℕ → Type 0
-NextAnswers job lw bw = NextOver (callsOf job lw bw)
+abbrev pub NextAnswers : List ℕ → Badness → List ℕ → Answer → List ℕ → Type 0
+NextAnswers job bad = NextOver (callsOf job bad)
 
-abbrev pub PageAnswers : List ℕ → ℕ → ℕ → List ℕ → List ℕ → Paged → List ℕ → Type 0
-PageAnswers job lw bw = PageOver (callsOf job lw bw)
+abbrev pub PageAnswers : List ℕ → Badness → List ℕ → List ℕ → Paged → List ℕ → Type 0
+PageAnswers job bad = PageOver (callsOf job bad)
 
-abbrev pub MeasureAnswers : List ℕ → ℕ → ℕ → List ℕ → Answer → Type 0
-MeasureAnswers job lw bw = MeasureOver (callsOf job lw bw)
+abbrev pub MeasureAnswers : List ℕ → Badness → List ℕ → Answer → Type 0
+MeasureAnswers job bad = MeasureOver (callsOf job bad)
 
-abbrev pub FirstPromise : List ℕ → ℕ → ℕ → List ℕ → ℤ → List ℕ → Type 0
-FirstPromise job lw bw = FirstReplies (callsOf job lw bw)
+abbrev pub FirstPromise : List ℕ → Badness → List ℕ → ℤ → List ℕ → Type 0
+FirstPromise job bad = FirstReplies (callsOf job bad)
 
-abbrev pub NextPromise : List ℕ → ℕ → ℕ → List ℕ → ℤ → List ℕ → Type 0
-NextPromise job lw bw = NextReplies (callsOf job lw bw)
+abbrev pub NextPromise : List ℕ → Badness → List ℕ → ℤ → List ℕ → Type 0
+NextPromise job bad = NextReplies (callsOf job bad)
 
-abbrev pub PagePromise : List ℕ → ℕ → ℕ → List ℕ → List ℕ → ℤ → List ℕ → Type 0
-PagePromise job lw bw = PageReplies (callsOf job lw bw)
+abbrev pub PagePromise : List ℕ → Badness → List ℕ → List ℕ → ℤ → List ℕ → Type 0
+PagePromise job bad = PageReplies (callsOf job bad)
 
-abbrev pub MeasurePromise : List ℕ → ℕ → ℕ → List ℕ → ℤ → Type 0
-MeasurePromise job lw bw = MeasureReplies (callsOf job lw bw)
+abbrev pub MeasurePromise : List ℕ → Badness → List ℕ → ℤ → Type 0
+MeasurePromise job bad = MeasureReplies (callsOf job bad)
 
 -- DRAW: the leader of the pad of record i to port q.
 abbrev pub DrawAnswers : List ℕ → ℕ → ℕ → List Float → Drawn → List Float → Type 0

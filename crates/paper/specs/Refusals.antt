@@ -1,14 +1,14 @@
--- DEFINITIONS. 01, "Refusal numbers", and of 02, 12 and both records of 9: what is at fault for each number, and each call's trials, in their order.
+-- DEFINITIONS. 01, "Refusal numbers", and of 02, 12, 13 and both records of 9: what is at fault for each number, and each call's trials, in their order.
 use mathlib.Core.Path.{_≡_}
 use mathlib.Core.Logic.{_≢_, _⊎_}
 use mathlib.Core.List.{List, [], _∷_, _++_}
-use Prim.Native.Nat.{ℕ, _-_, _%_, _≤_, _<_}
+use Prim.Native.Nat.{ℕ, _*_, _-_, _%_, _≤_, _<_}
 use lib.ListN.{length}
 use lib.IntN.{ℤ, pos, natAbs, _-ℤ_}
 use lib.Signed.{_≤ℤ_, _<ℤ_}
 use Rattle.paper.specs.declared.Refusal.{Refusal}
 use Rattle.paper.specs.Job.{count, nameOf, reservedOf, xOf, yOf, portOf}
-use Rattle.paper.specs.Layouts.{Board, boardOf, held, Touching}
+use Rattle.paper.specs.Layouts.{Board, boardOf, held, Touching, Badness, byWeights, byTable}
 use Rattle.paper.specs.Problem.{Problem, Best, labelingOf}
 
 -- ---- trials
@@ -127,17 +127,22 @@ bestTrial p list = ofWhole 10 (p .Counts (held list) × ¬ Best p (held list))
 abbrev pub numberTrial : List ℕ → ℕ → ℕ → Trial
 numberTrial job i q = ofWhole 11 ((count job ≤ i) ⊎ (count job ≤ q))
 
--- First, with room for so many entries: 1, 2, 3 and the job's. 3: the layout list has fewer than n entries
-abbrev pub firstTrials : List ℕ → ℕ → ℕ → ℕ → List Trial
-firstTrials job lw bw room = ofWhole 1 (BadSize job) ∷ ofWhole 2 (BadWeight lw bw) ∷ ofWhole 3 (room < count job) ∷ jobTrials job
+-- 2 of weights; of a table 13: it has another length than n × n
+abbrev pub badnessTrial : List ℕ → Badness → Trial
+badnessTrial job (byWeights lw bw) = ofWhole 2 (BadWeight lw bw)
+badnessTrial job (byTable figures) = ofWhole 13 (length figures ≢ count job * count job)
+
+-- First, with room for so many entries: 1, 2 or 13, 3 and the job's. 3: the layout list has fewer than n entries
+abbrev pub firstTrials : List ℕ → Badness → ℕ → List Trial
+firstTrials job bad room = ofWhole 1 (BadSize job) ∷ badnessTrial job bad ∷ ofWhole 3 (room < count job) ∷ jobTrials job
 
 -- Measure: First's, 8 and 9
-abbrev pub measureTrials : List ℕ → ℕ → ℕ → List ℕ → List Trial
-measureTrials job lw bw list = firstTrials job lw bw (length list) ++ layoutTrials (boardOf job) list
+abbrev pub measureTrials : List ℕ → Badness → List ℕ → List Trial
+measureTrials job bad list = firstTrials job bad (length list) ++ layoutTrials (boardOf job) list
 
 -- Next: Measure's and 10
-abbrev pub nextTrials : List ℕ → ℕ → ℕ → List ℕ → List Trial
-nextTrials job lw bw list = measureTrials job lw bw list ++ (bestTrial (labelingOf job lw bw) list ∷ [])
+abbrev pub nextTrials : List ℕ → Badness → List ℕ → List Trial
+nextTrials job bad list = measureTrials job bad list ++ (bestTrial (labelingOf job bad) list ∷ [])
 
 -- Draw, of record i to port q with room for so many floats: 1, 3, the job's and 11. 3: the float list has fewer than six
 abbrev pub drawTrials : List ℕ → ℕ → ℕ → ℕ → List Trial
@@ -156,13 +161,13 @@ pub record Calls : Type 1 where
 abbrev pub entries : Calls → ℕ
 entries c = c .problem .board .pads
 
--- 01's, on a job with its weights.
-abbrev pub callsOf : List ℕ → ℕ → ℕ → Calls
-callsOf job lw bw = record {
-  problem = labelingOf job lw bw;
-  first = firstTrials job lw bw;
-  measure = measureTrials job lw bw;
-  next = nextTrials job lw bw;
+-- On a job: 01's with its weights, 02's with its table.
+abbrev pub callsOf : List ℕ → Badness → Calls
+callsOf job bad = record {
+  problem = labelingOf job bad;
+  first = firstTrials job bad;
+  measure = measureTrials job bad;
+  next = nextTrials job bad;
 }
 
 -- ---- which records a refusal names

@@ -1,8 +1,9 @@
 -- DEFINITIONS. 01, "Sheets worked by hand": the jobs as bytes, and the sheets P1 to P12, each with its call, its input and its whole reply.
--- After P10 stands Measure's sheet for "its total is 85"; after P12, four for refusal 12 and four for both records of 9. Page has its own list.
+-- After P10 stands Measure's sheet for "its total is 85"; after P12, four for refusal 12, four for both records of 9, and those of tables. Page has its own list.
 use mathlib.Core.Path.{_≡_}
 use mathlib.Core.List.{List, [], _∷_, _++_}
 use Prim.Native.Nat.{ℕ, _/_, _%_}
+use Rattle.paper.specs.Layouts.{Badness, byWeights, byTable}
 use Rattle.paper.specs.Refusals.{refusal}
 use Rattle.paper.specs.declared.Answer.{Answer}
 use Rattle.paper.specs.declared.Answer.the-variants.{Total, End, Refused}
@@ -42,23 +43,30 @@ J5 = padAndPort 101 10 10 0 ++ padAndPort 102 20 20 10 ++ padAndPort 103 30 30 2
 abbrev pub twoPairs : List ℕ
 twoPairs = padAndPort 101 10 0 0 ++ padAndPort 102 20 15 10 ++ padAndPort 103 30 20 20 ++ padAndPort 104 40 5 30
 
--- A sheet: call, job, weights, the list at entry, the answer, the list at exit.
+-- The pad of record 1 is as high as port 1. Led there it has no bend, and its arm crosses the hand of record 0, which goes down to port 0. Led the other way
+-- the leaders do not touch. And a table by which the leaders that touch cost nothing, and the others 1 each.
+abbrev pub levelPad : List ℕ
+levelPad = padAndPort 101 10 20 0 ++ padAndPort 102 20 10 10
+
+abbrev pub crossingPays : List ℕ
+crossingPays = 0 ∷ 1 ∷ 1 ∷ 0 ∷ []
+
+-- A sheet: call, job, weights or table, the list at entry, the answer, the list at exit.
 pub data Call : Type 0 where
   First Next Measure : Call
 
 pub record Sheet : Type 0 where
   pub call : Call
   pub job : List ℕ
-  pub lw : ℕ
-  pub bw : ℕ
+  pub bad : Badness
   pub before : List ℕ
   pub answer : Answer
   pub after : List ℕ
 
 abbrev pub AllowedBy : Call → Sheet → Type 0
-AllowedBy First s = FirstPromise (s .job) (s .lw) (s .bw) (s .before) (number (s .answer)) (s .after)
-AllowedBy Next s = NextPromise (s .job) (s .lw) (s .bw) (s .before) (number (s .answer)) (s .after)
-AllowedBy Measure s = MeasurePromise (s .job) (s .lw) (s .bw) (s .before) (number (s .answer)) × (s .after ≡ s .before)
+AllowedBy First s = FirstPromise (s .job) (s .bad) (s .before) (number (s .answer)) (s .after)
+AllowedBy Next s = NextPromise (s .job) (s .bad) (s .before) (number (s .answer)) (s .after)
+AllowedBy Measure s = MeasurePromise (s .job) (s .bad) (s .before) (number (s .answer)) × (s .after ≡ s .before)
 
 -- The call's promise allows this reply.
 abbrev pub Allowed : Sheet → Type 0
@@ -70,7 +78,10 @@ Each P [] = Unit {0}
 Each P (s ∷ ss) = P s × Each P ss
 
 abbrev pub sheet : Call → List ℕ → ℕ → ℕ → List ℕ → Answer → List ℕ → Sheet
-sheet call job lw bw before answer after = record { call = call; job = job; lw = lw; bw = bw; before = before; answer = answer; after = after }
+sheet call job lw bw before answer after = record { call = call; job = job; bad = byWeights lw bw; before = before; answer = answer; after = after }
+
+abbrev pub tableSheet : Call → List ℕ → List ℕ → List ℕ → Answer → List ℕ → Sheet
+tableSheet call job figures before answer after = record { call = call; job = job; bad = byTable figures; before = before; answer = answer; after = after }
 
 abbrev pub refused : ℕ → ℕ → Answer
 refused r i = Refused (refusal r i 0)
@@ -78,6 +89,10 @@ refused r i = Refused (refusal r i 0)
 -- refusal 9 with the two records
 abbrev pub refusedPair : ℕ → ℕ → Answer
 refusedPair i j = Refused (refusal 9 i j)
+
+-- J3 with a third pad and a third port: (1 2 0), (1 0 2) and (0 1 2) are best.
+abbrev pub J3plus : List ℕ
+J3plus = J3 ++ padAndPort 103 30 15 30
 
 abbrev pub sheets : List Sheet
 sheets =
@@ -102,6 +117,18 @@ sheets =
     sheet Measure J5 1 0 (2 ∷ 0 ∷ 1 ∷ []) (refusedPair 2 0) (2 ∷ 0 ∷ 1 ∷ []) ∷  -- 9
     sheet Next twoPairs 1 0 (1 ∷ 3 ∷ 2 ∷ 0 ∷ []) (refusedPair 2 1) (1 ∷ 3 ∷ 2 ∷ 0 ∷ []) ∷  -- 9
     sheet Measure (padAndPort 101 30 30 0 ++ padAndPort 102 20 20 10 ++ padAndPort 103 10 10 20) 1 0 (0 ∷ 1 ∷ 2 ∷ []) (refusedPair 2 1) (0 ∷ 1 ∷ 2 ∷ []) ∷  -- 9
+    tableSheet First J1 (4294967295 ∷ []) (9 ∷ []) (Total 4294967295) (0 ∷ []) ∷  -- the largest figure
+    tableSheet First J3plus (5 ∷ 1 ∷ 5 ∷ 5 ∷ 5 ∷ 1 ∷ 1 ∷ 5 ∷ 5 ∷ []) (9 ∷ 9 ∷ 9 ∷ []) (Total 3) (1 ∷ 2 ∷ 0 ∷ []) ∷  -- pad by pad, ports rising
+    tableSheet Measure J3plus (1 ∷ 2 ∷ 4 ∷ 8 ∷ 16 ∷ 32 ∷ 64 ∷ 128 ∷ 256 ∷ []) (1 ∷ 2 ∷ 0 ∷ []) (Total 98) (1 ∷ 2 ∷ 0 ∷ []) ∷  -- 2 + 32 + 64
+    tableSheet Next J3 (7 ∷ 7 ∷ 7 ∷ 7 ∷ []) (1 ∷ 0 ∷ []) (Total 14) (0 ∷ 1 ∷ []) ∷
+    tableSheet Next J3 (7 ∷ 7 ∷ 7 ∷ 7 ∷ []) (0 ∷ 1 ∷ []) End (0 ∷ 1 ∷ []) ∷
+    tableSheet Next J3 (1 ∷ 2 ∷ 3 ∷ 1 ∷ []) (1 ∷ 0 ∷ []) (refused 10 0) (1 ∷ 0 ∷ []) ∷  -- 5 and not 2
+    tableSheet First levelPad crossingPays (9 ∷ 9 ∷ []) (Total 2) (1 ∷ 0 ∷ []) ∷  -- though the figures of (0 1) are 0:
+    tableSheet Measure levelPad crossingPays (0 ∷ 1 ∷ []) (refusedPair 1 0) (0 ∷ 1 ∷ []) ∷  -- its leaders touch
+    tableSheet First [] [] [] (refused 1 0) [] ∷  -- 1 before 13
+    tableSheet First J3 (1 ∷ 1 ∷ 1 ∷ []) (9 ∷ []) (refused 13 0) (9 ∷ []) ∷  -- 13 before 3
+    tableSheet First J3 (1 ∷ 1 ∷ 1 ∷ 1 ∷ 1 ∷ []) (9 ∷ 9 ∷ []) (refused 13 0) (9 ∷ 9 ∷ []) ∷  -- longer
+    tableSheet First J3 (1 ∷ 1 ∷ 1 ∷ 1 ∷ []) (9 ∷ []) (refused 3 0) (9 ∷ []) ∷
     []
 
 -- ---- Page
@@ -109,25 +136,20 @@ sheets =
 -- Its sheet: job, weights, the given layout, the page at entry, the answer, the page at exit.
 pub record PageSheet : Type 0 where
   pub job : List ℕ
-  pub lw : ℕ
-  pub bw : ℕ
+  pub bad : Badness
   pub given : List ℕ
   pub before : List ℕ
   pub answer : Paged
   pub after : List ℕ
 
 abbrev pub PageAllowed : PageSheet → Type 0
-PageAllowed s = PagePromise (s .job) (s .lw) (s .bw) (s .given) (s .before) (pagedNumber (s .answer)) (s .after)
+PageAllowed s = PagePromise (s .job) (s .bad) (s .given) (s .before) (pagedNumber (s .answer)) (s .after)
 
 abbrev pub pageSheet : List ℕ → ℕ → ℕ → List ℕ → List ℕ → Paged → List ℕ → PageSheet
-pageSheet job lw bw given before answer after = record { job = job; lw = lw; bw = bw; given = given; before = before; answer = answer; after = after }
+pageSheet job lw bw given before answer after = record { job = job; bad = byWeights lw bw; given = given; before = before; answer = answer; after = after }
 
 abbrev pub pageRefused : ℕ → ℕ → Paged
 pageRefused r i = NotPaged (refusal r i 0)
-
--- J3 with a third pad and a third port: (1 2 0), (1 0 2) and (0 1 2) are best.
-abbrev pub J3plus : List ℕ
-J3plus = J3 ++ padAndPort 103 30 15 30
 
 -- In this order: fewer than fit, where the end comes; none after the last; no room for one; as many as fit; two; a refusal; a refusal without room;
 -- both records of 9.

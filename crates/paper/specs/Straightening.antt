@@ -1,13 +1,14 @@
 -- DEFINITIONS. 02: "Some board designers still believe that untouching leaders must be longer. For bend weight 0 we want it shown that no layout at
--- all, touching or not, has a smaller total than the one First returns." And by an example: with a bend weight, untouching leaders can cost more.
+-- all, touching or not, has a smaller total than the one First returns." "No. 5 does not speak of these tables": by examples, with a bend weight and with a
+-- table untouching leaders can cost more.
 use mathlib.Core.Path.{_≡_}
-use mathlib.Core.List.{List, [], _∷_, _++_}
+use mathlib.Core.List.{List, [], _∷_}
 use Prim.Native.Nat.{ℕ, _+_, _*_, _≤_, _<_}
 use lib.IntN.{pos}
 use Rattle.paper.specs.Job.{count}
-use Rattle.paper.specs.Layouts.{Board, boardOf, held, Touching, Layout, EachOnce, weighted, total}
+use Rattle.paper.specs.Layouts.{Board, boardOf, held, Touching, Layout, EachOnce, Badness, byWeights, byTable, costOf, total}
 use Rattle.paper.specs.Promises.{FirstPromise}
-use Rattle.paper.specs.Sheets.{padAndPort}
+use Rattle.paper.specs.Sheets.{levelPad, crossingPays}
 
 -- No layout at all, touching or not, has a smaller total than t: on any board, where ports may stay free. (On a job's board the layouts are the lists in
 -- which each port number stands once: `layout-iff`.)
@@ -15,22 +16,22 @@ abbrev pub LeastOfAll : Board → (ℕ → ℕ → ℕ) → ℕ → Type 0
 LeastOfAll b cost t = (f : ℕ → ℕ) → Layout b f → t ≤ total b cost f
 
 -- Straightening costs nothing: no list in which each port number stands once has a smaller total than First answers.
-abbrev pub CostsNothing : List ℕ → ℕ → ℕ → Type 0
-CostsNothing job lw bw = (before after : List ℕ) (t : ℕ) → FirstPromise job lw bw before (pos t) after
-    → (list : List ℕ) → EachOnce (boardOf job) (held list) → t ≤ total (boardOf job) (weighted (boardOf job) lw bw) (held list)
+abbrev pub CostsNothing : List ℕ → Badness → Type 0
+CostsNothing job bad = (before after : List ℕ) (t : ℕ) → FirstPromise job bad before (pos t) after
+    → (list : List ℕ) → EachOnce (boardOf job) (held list) → t ≤ total (boardOf job) (costOf (boardOf job) bad) (held list)
 
 -- It costs something: First answers t, and a list in which each port number stands once, and two leaders touch, has the smaller total u.
-pub record Costs (job : List ℕ) (lw bw t : ℕ) (list : List ℕ) (u : ℕ) : Type 0 where
-  pub first : (before : List ℕ) × (after : List ℕ) × FirstPromise job lw bw before (pos t) after
+pub record Costs (job : List ℕ) (bad : Badness) (t : ℕ) (list : List ℕ) (u : ℕ) : Type 0 where
+  pub first : (before : List ℕ) × (after : List ℕ) × FirstPromise job bad before (pos t) after
   pub once : EachOnce (boardOf job) (held list)
   pub touch : (i : ℕ) × (j : ℕ) × (j < i) × (i < count job) × Touching (boardOf job) (held list) i j
-  pub sums : u ≡ total (boardOf job) (weighted (boardOf job) lw bw) (held list)
+  pub sums : u ≡ total (boardOf job) (costOf (boardOf job) bad) (held list)
   pub smaller : u < t
 
--- With a bend weight it can. The pad of record 1 is as high as port 1. Led there it has no bend, and its arm crosses the hand of record 0, which goes down
--- to port 0. Led the other way the leaders do not touch: their lengths are the same together, and both have a bend.
-abbrev pub levelPad : List ℕ
-levelPad = padAndPort 101 10 20 0 ++ padAndPort 102 20 10 10
-
+-- With a bend weight it can: the lengths of the two layouts are the same together, and untouching both leaders have a bend.
 abbrev pub BendsCanCost : Type 0
-BendsCanCost = (lw bw : ℕ) → lw ≤ 1000 → bw ≤ 1000 → 0 < bw → Costs levelPad lw bw (50 * lw + 2 * bw) (0 ∷ 1 ∷ []) (50 * lw + bw)
+BendsCanCost = (lw bw : ℕ) → lw ≤ 1000 → bw ≤ 1000 → 0 < bw → Costs levelPad (byWeights lw bw) (50 * lw + 2 * bw) (0 ∷ 1 ∷ []) (50 * lw + bw)
+
+-- With a table it can.
+abbrev pub TablesCanCost : Type 0
+TablesCanCost = Costs levelPad (byTable crossingPays) 2 (0 ∷ 1 ∷ []) 0

@@ -1,6 +1,6 @@
 -- THE THEOREMS, in the order of the demands. Each is a closed statement about every input; nothing is assumed above it. The definitions are the files beside this
 -- one; the proofs are in laws/, for the prover. A call that keeps its promise, and the code is proved to, has all that is said here.
---     m is the number that C gets, before and after are what the lent list holds at entry and at exit, lw and bw the weights
+--     m is the number that C gets, before and after are what the lent list holds at entry and at exit, bad the weights or the table
 use mathlib.Core.Path.{_≡_, refl}
 use mathlib.Core.Logic.{_≢_, _⊎_, _↔_}
 use mathlib.Core.Bool.{false}
@@ -18,7 +18,8 @@ use Rattle.paper.specs.declared.Drawn.the-variants.{Straight, Bent}
 use Rattle.paper.specs.Job.{count, twos, nameOf, reservedOf, xOf, yOf, portOf}
 use Rattle.paper.specs.Leaders.{Leader, Between, Touch, lengthOf, bendsOf}
 use Rattle.paper.specs.Plane.{Line, TouchIn}
-use Rattle.paper.specs.Layouts.{Board, boardOf, held, leader, Touching, Layout, EachOnce, Untouching, sum, weighted, total, Same, Differ, Proper}
+use Rattle.paper.specs.Layouts.{Board, boardOf, held, leader, Touching, Layout, EachOnce, Untouching, sum, weighted, figure, Badness, byWeights, byTable, costOf, TableOf, total}
+use Rattle.paper.specs.Layouts.{Same, Differ, Proper}
 use Rattle.paper.specs.Problem.{Best, Before, FirstBest, NextBest, LastBest, labeling, labelingOf}
 use Rattle.paper.specs.Refusals.{FirstFault, Passed, ofPairs, firstTrials, measureTrials, nextTrials, drawTrials, callsOf, Alone, FirstPair, Named}
 use Rattle.paper.specs.Canvas.{FourTimesIs, DrawnStraight, DrawnBent}
@@ -26,7 +27,7 @@ use Rattle.paper.specs.Promises.{refusalNumber, refusalIn, Kept, coordin
 use Rattle.paper.specs.Promises.{OneReply, RefusesBy}
 use Rattle.paper.specs.Runs.{NextRun, Demand3, PageByNext, PagedOn}
 use Rattle.paper.specs.Sheets.{sample, Each, Allowed, sheets, PageAllowed, pages}
-use Rattle.paper.specs.Straightening.{LeastOfAll, CostsNothing, BendsCanCost}
+use Rattle.paper.specs.Straightening.{LeastOfAll, CostsNothing, BendsCanCost, TablesCanCost}
 use Rattle.paper.specs.laws.Regular.{regular}
 use Rattle.paper.specs.laws.Numbers.{numbered}
 use Rattle.paper.specs.laws as by
@@ -34,40 +35,40 @@ use Rattle.paper.specs.laws as by
 -- ---- DEMAND 1: every input gets an answer, and bad ones, but no others, are refused by number with the record at fault; then nothing is written
 
 -- Every input to First has exactly one reply; so has every input to Next, to Page, to Measure and to Draw.
-pub first-one-reply : (job : List ℕ) (lw bw : ℕ) (before : List ℕ) → OneReply (FirstPromise job lw bw before)
-first-one-reply job lw bw before = (by.Met.first-met (callsOf job lw bw) (regular job lw bw) before, by.Determined.first-determined (callsOf job lw bw) before)
+pub first-one-reply : (job : List ℕ) (bad : Badness) (before : List ℕ) → OneReply (FirstPromise job bad before)
+first-one-reply job bad before = (by.Met.first-met (callsOf job bad) (regular job bad) before, by.Determined.first-determined (callsOf job bad) before)
 
-pub next-one-reply : (job : List ℕ) (lw bw : ℕ) (before : List ℕ) → OneReply (NextPromise job lw bw before)
-next-one-reply job lw bw before = (by.Met.next-met (callsOf job lw bw) (regular job lw bw) before, by.Determined.next-determined (callsOf job lw bw) before)
+pub next-one-reply : (job : List ℕ) (bad : Badness) (before : List ℕ) → OneReply (NextPromise job bad before)
+next-one-reply job bad before = (by.Met.next-met (callsOf job bad) (regular job bad) before, by.Determined.next-determined (callsOf job bad) before)
 
-pub page-one-reply : (job : List ℕ) (lw bw : ℕ) (given before : List ℕ) → OneReply (PagePromise job lw bw given before)
-page-one-reply job lw bw given before =
-    (by.Met.page-met (callsOf job lw bw) (regular job lw bw) given before, by.Determined.page-determined (callsOf job lw bw) given before)
+pub page-one-reply : (job : List ℕ) (bad : Badness) (given before : List ℕ) → OneReply (PagePromise job bad given before)
+page-one-reply job bad given before =
+    (by.Met.page-met (callsOf job bad) (regular job bad) given before, by.Determined.page-determined (callsOf job bad) given before)
 
-pub measure-one-reply : (job : List ℕ) (lw bw : ℕ) (list : List ℕ)
-    → ((m : ℤ) × MeasurePromise job lw bw list m) × ((m n : ℤ) → MeasurePromise job lw bw list m → MeasurePromise job lw bw list n → m ≡ n)
-measure-one-reply job lw bw list = (by.Met.measure-met (callsOf job lw bw) (regular job lw bw) list, by.Determined.measure-determined (callsOf job lw bw) list)
+pub measure-one-reply : (job : List ℕ) (bad : Badness) (list : List ℕ)
+    → ((m : ℤ) × MeasurePromise job bad list m) × ((m n : ℤ) → MeasurePromise job bad list m → MeasurePromise job bad list n → m ≡ n)
+measure-one-reply job bad list = (by.Met.measure-met (callsOf job bad) (regular job bad) list, by.Determined.measure-determined (callsOf job bad) list)
 
 pub draw-one-reply : (job : List ℕ) (i q : ℕ) (before : List Float) → OneReply (DrawPromise job i q before)
 draw-one-reply job i q before = (by.Met.draw-met job i q before, by.Determined.draw-determined job i q before)
 
 -- First's number is a refusal exactly if one of its trials fails, and then it is that of the first that does, with its records, and the list holds what it held;
 -- so are Next's, Page's, Measure's and Draw's.
-pub first-refuses : (job : List ℕ) (lw bw : ℕ) (before : List ℕ) (m : ℤ) (after : List ℕ) → FirstPromise job lw bw before m after
-    → RefusesBy (firstTrials job lw bw (length before)) m (after ≡ before)
-first-refuses job lw bw before m after = by.Numbers.first-refuses (callsOf job lw bw) (numbered job lw bw) before after m
+pub first-refuses : (job : List ℕ) (bad : Badness) (before : List ℕ) (m : ℤ) (after : List ℕ) → FirstPromise job bad before m after
+    → RefusesBy (firstTrials job bad (length before)) m (after ≡ before)
+first-refuses job bad before m after = by.Numbers.first-refuses (callsOf job bad) (numbered job bad) before after m
 
-pub next-refuses : (job : List ℕ) (lw bw : ℕ) (before : List ℕ) (m : ℤ) (after : List ℕ) → NextPromise job lw bw before m after
-    → RefusesBy (nextTrials job lw bw before) m (after ≡ before)
-next-refuses job lw bw before m after = by.Numbers.next-refuses (callsOf job lw bw) (numbered job lw bw) before after m
+pub next-refuses : (job : List ℕ) (bad : Badness) (before : List ℕ) (m : ℤ) (after : List ℕ) → NextPromise job bad before m after
+    → RefusesBy (nextTrials job bad before) m (after ≡ before)
+next-refuses job bad before m after = by.Numbers.next-refuses (callsOf job bad) (numbered job bad) before after m
 
-pub page-refuses : (job : List ℕ) (lw bw : ℕ) (given before : List ℕ) (m : ℤ) (after : List ℕ) → PagePromise job lw bw given before m after
-    → RefusesBy (nextTrials job lw bw given) m (after ≡ before)
-page-refuses job lw bw given before m after = by.Numbers.page-refuses (callsOf job lw bw) (numbered job lw bw) given before after m
+pub page-refuses : (job : List ℕ) (bad : Badness) (given before : List ℕ) (m : ℤ) (after : List ℕ) → PagePromise job bad given before m after
+    → RefusesBy (nextTrials job bad given) m (after ≡ before)
+page-refuses job bad given before m after = by.Numbers.page-refuses (callsOf job bad) (numbered job bad) given before after m
 
-pub measure-refuses : (job : List ℕ) (lw bw : ℕ) (list : List ℕ) (m : ℤ) → MeasurePromise job lw bw list m
-    → RefusesBy (measureTrials job lw bw list) m (Unit {0})
-measure-refuses job lw bw = by.Numbers.measure-refuses (callsOf job lw bw) (numbered job lw bw)
+pub measure-refuses : (job : List ℕ) (bad : Badness) (list : List ℕ) (m : ℤ) → MeasurePromise job bad list m
+    → RefusesBy (measureTrials job bad list) m (Unit {0})
+measure-refuses job bad = by.Numbers.measure-refuses (callsOf job bad) (numbered job bad)
 
 pub draw-refuses : (job : List ℕ) (i q : ℕ) (before : List Float) (m : ℤ) (after : List Float) → DrawPromise job i q before m after
     → RefusesBy (drawTrials job i q (length before)) m (after ≡ before)
@@ -80,22 +81,22 @@ pub first-pair : (b : Board) (f : ℕ → ℕ) (i j : ℕ) → FirstFault (ofPai
 first-pair = by.Named.first-pair
 
 -- Measure's refusal names one record, or by 9 the first touching pair; so does Next's, and so Page's, whose trials are Next's.
-pub measure-names : (job : List ℕ) (lw bw : ℕ) (list : List ℕ) (m : ℤ) → MeasurePromise job lw bw list m → m ≤ℤ negℤ (pos 65536)
+pub measure-names : (job : List ℕ) (bad : Badness) (list : List ℕ) (m : ℤ) → MeasurePromise job bad list m → m ≤ℤ negℤ (pos 65536)
     → Named (boardOf job) (held list) (refusalIn m)
-measure-names job lw bw list m p l = by.Named.measure-named job lw bw list (refusalIn m) (measure-refuses job lw bw list m p .named l .0)
+measure-names job bad list m p l = by.Named.measure-named job bad list (refusalIn m) (measure-refuses job bad list m p .named l .0)
 
-pub next-names : (job : List ℕ) (lw bw : ℕ) (before : List ℕ) (m : ℤ) (after : List ℕ) → NextPromise job lw bw before m after → m ≤ℤ negℤ (pos 65536)
+pub next-names : (job : List ℕ) (bad : Badness) (before : List ℕ) (m : ℤ) (after : List ℕ) → NextPromise job bad before m after → m ≤ℤ negℤ (pos 65536)
     → Named (boardOf job) (held before) (refusalIn m)
-next-names job lw bw before m after p l = by.Named.next-named job lw bw before (refusalIn m) (next-refuses job lw bw before m after p .named l .0)
+next-names job bad before m after p l = by.Named.next-named job bad before (refusalIn m) (next-refuses job bad before m after p .named l .0)
 
-pub page-names : (job : List ℕ) (lw bw : ℕ) (given before : List ℕ) (m : ℤ) (after : List ℕ) → PagePromise job lw bw given before m after → m ≤ℤ negℤ (pos 65536)
+pub page-names : (job : List ℕ) (bad : Badness) (given before : List ℕ) (m : ℤ) (after : List ℕ) → PagePromise job bad given before m after → m ≤ℤ negℤ (pos 65536)
     → Named (boardOf job) (held given) (refusalIn m)
-page-names job lw bw given before m after p l = by.Named.next-named job lw bw given (refusalIn m) (page-refuses job lw bw given before m after p .named l .0)
+page-names job bad given before m after p l = by.Named.next-named job bad given (refusalIn m) (page-refuses job bad given before m after p .named l .0)
 
 -- First and Draw name one record; and of a refusal that does, C's number is -(65,536 × r + i).
-pub first-names : (job : List ℕ) (lw bw : ℕ) (before : List ℕ) (m : ℤ) (after : List ℕ) → FirstPromise job lw bw before m after → m ≤ℤ negℤ (pos 65536)
+pub first-names : (job : List ℕ) (bad : Badness) (before : List ℕ) (m : ℤ) (after : List ℕ) → FirstPromise job bad before m after → m ≤ℤ negℤ (pos 65536)
     → Alone (refusalIn m)
-first-names job lw bw before m after p l = by.Named.first-named job lw bw (length before) (refusalIn m) (first-refuses job lw bw before m after p .named l .0)
+first-names job bad before m after p l = by.Named.first-named job bad (length before) (refusalIn m) (first-refuses job bad before m after p .named l .0)
 
 pub draw-names : (job : List ℕ) (i q : ℕ) (before : List Float) (m : ℤ) (after : List Float) → DrawPromise job i q before m after → m ≤ℤ negℤ (pos 65536)
     → Alone (refusalIn m)
@@ -107,51 +108,51 @@ alone-number = by.Named.alone-number
 -- ---- DEMAND 2: each pad has its own port, no two leaders share a point, and no such sheet has a smaller total; total and drawn points are exact
 
 -- First answers t exactly if the input passes and the list then holds the earliest best layout, t its total, the other entries kept.
-pub first-answers : (job : List ℕ) (lw bw : ℕ) (before : List ℕ) (t : ℕ) (after : List ℕ)
-    → FirstPromise job lw bw before (pos t) after
-    ↔ (Passed (firstTrials job lw bw (length before)) × FirstBest (labelingOf job lw bw) (held after)
-    × (t ≡ total (boardOf job) (weighted (boardOf job) lw bw) (held after)) × Kept (count job) before after)
-first-answers job lw bw before t after = (by.Numbers.total-told (callsOf job lw bw) (numbered job lw bw) before after t, λ a. (Total t, a, refl))
+pub first-answers : (job : List ℕ) (bad : Badness) (before : List ℕ) (t : ℕ) (after : List ℕ)
+    → FirstPromise job bad before (pos t) after
+    ↔ (Passed (firstTrials job bad (length before)) × FirstBest (labelingOf job bad) (held after)
+    × (t ≡ total (boardOf job) (costOf (boardOf job) bad) (held after)) × Kept (count job) before after)
+first-answers job bad before t after = (by.Numbers.total-told (callsOf job bad) (numbered job bad) before after t, λ a. (Total t, a, refl))
 
 -- Next answers t exactly if it then holds the earliest best layout after the given one, and end (-1) exactly if no best layout comes after it.
-pub next-answers : (job : List ℕ) (lw bw : ℕ) (before : List ℕ) (t : ℕ) (after : List ℕ)
-    → NextPromise job lw bw before (pos t) after
-    ↔ (Passed (nextTrials job lw bw before) × NextBest (labelingOf job lw bw) (held before) (held after)
-    × (t ≡ total (boardOf job) (weighted (boardOf job) lw bw) (held after)) × Kept (count job) before after)
-next-answers job lw bw before t after = (by.Numbers.next-total-told (callsOf job lw bw) (numbered job lw bw) before after t, λ a. (Total t, a, refl))
+pub next-answers : (job : List ℕ) (bad : Badness) (before : List ℕ) (t : ℕ) (after : List ℕ)
+    → NextPromise job bad before (pos t) after
+    ↔ (Passed (nextTrials job bad before) × NextBest (labelingOf job bad) (held before) (held after)
+    × (t ≡ total (boardOf job) (costOf (boardOf job) bad) (held after)) × Kept (count job) before after)
+next-answers job bad before t after = (by.Numbers.next-total-told (callsOf job bad) (numbered job bad) before after t, λ a. (Total t, a, refl))
 
-pub next-ends : (job : List ℕ) (lw bw : ℕ) (before after : List ℕ)
-    → NextPromise job lw bw before (negsuc 0) after
-    ↔ (Passed (nextTrials job lw bw before) × LastBest (labelingOf job lw bw) (held before) × (after ≡ before))
-next-ends job lw bw before after = (by.Numbers.end-told (callsOf job lw bw) (numbered job lw bw) before after, λ a. (End, a, refl))
+pub next-ends : (job : List ℕ) (bad : Badness) (before after : List ℕ)
+    → NextPromise job bad before (negsuc 0) after
+    ↔ (Passed (nextTrials job bad before) × LastBest (labelingOf job bad) (held before) × (after ≡ before))
+next-ends job bad before after = (by.Numbers.end-told (callsOf job bad) (numbered job bad) before after, λ a. (End, a, refl))
 
 -- Measure answers t exactly if the list holds an untouching layout, best or not, and t is its total.
-pub measure-answers : (job : List ℕ) (lw bw : ℕ) (list : List ℕ) (t : ℕ)
-    → MeasurePromise job lw bw list (pos t)
-    ↔ (Passed (measureTrials job lw bw list) × (t ≡ total (boardOf job) (weighted (boardOf job) lw bw) (held list)))
-measure-answers job lw bw list t = (by.Numbers.measure-told (callsOf job lw bw) (numbered job lw bw) list t, λ a. (Total t, a, refl))
+pub measure-answers : (job : List ℕ) (bad : Badness) (list : List ℕ) (t : ℕ)
+    → MeasurePromise job bad list (pos t)
+    ↔ (Passed (measureTrials job bad list) × (t ≡ total (boardOf job) (costOf (boardOf job) bad) (held list)))
+measure-answers job bad list t = (by.Numbers.measure-told (callsOf job bad) (numbered job bad) list t, λ a. (Total t, a, refl))
 
 -- What is passed: 8 and 9 exactly if the list holds an untouching layout; Next's trials exactly if First's are, and the list holds a best one.
-pub measure-passed : (job : List ℕ) (lw bw : ℕ) (list : List ℕ) → Passed (measureTrials job lw bw list)
-    ↔ (Passed (firstTrials job lw bw (length list)) × Untouching (boardOf job) (held list))
-measure-passed job lw bw list = (by.Accepted.measure-accepted job lw bw list, λ (p, u). by.Accepted.untouching-passed job lw bw list p u)
+pub measure-passed : (job : List ℕ) (bad : Badness) (list : List ℕ) → Passed (measureTrials job bad list)
+    ↔ (Passed (firstTrials job bad (length list)) × Untouching (boardOf job) (held list))
+measure-passed job bad list = (by.Accepted.measure-accepted job bad list, λ (p, u). by.Accepted.untouching-passed job bad list p u)
 
-pub next-passed : (job : List ℕ) (lw bw : ℕ) (list : List ℕ) → Passed (nextTrials job lw bw list)
-    ↔ (Passed (firstTrials job lw bw (length list)) × Best (labelingOf job lw bw) (held list))
-next-passed job lw bw = regular job lw bw .next-is
+pub next-passed : (job : List ℕ) (bad : Badness) (list : List ℕ) → Passed (nextTrials job bad list)
+    ↔ (Passed (firstTrials job bad (length list)) × Best (labelingOf job bad) (held list))
+next-passed job bad = regular job bad .next-is
 
 -- An accepted job has 1 to 64 records, their fields in range, pads whose x differ, and ports that rise.
-pub accepted-job : (job : List ℕ) (lw bw room : ℕ) → Passed (firstTrials job lw bw room)
+pub accepted-job : (job : List ℕ) (bad : Badness) (room : ℕ) → Passed (firstTrials job bad room)
     → (0 < count job) × (count job ≤ 64) × Proper (boardOf job)
     × ((i : ℕ) → i < count job → (reservedOf job i ≡ 0) × (1 ≤ xOf job i) × (xOf job i ≤ 1000000) × (natAbs (yOf job i) ≤ 1000000) × (natAbs (portOf job i) ≤ 1000000))
-accepted-job job lw bw room p =
-    let a = by.Accepted.first-accepted job lw bw room p .0 in
+accepted-job job bad room p =
+    let a = by.Accepted.first-accepted job bad room p .0 in
     (a .some, a .few, a .proper, λ i l. (a .reserved i l, a .right i l, a .width i l, a .pad i l, a .port i l))
 
 -- In every accepted job each port is at least 8 above those before it (02), so that ports rise.
-pub ports-apart : (job : List ℕ) (lw bw room : ℕ) → Passed (firstTrials job lw bw room)
+pub ports-apart : (job : List ℕ) (bad : Badness) (room : ℕ) → Passed (firstTrials job bad room)
     → (a c : ℕ) → a < c → c < count job → (portOf job a +ℤ pos 8) ≤ℤ portOf job c
-ports-apart job lw bw room p = by.Accepted.first-accepted job lw bw room p .0 .spaced
+ports-apart job bad room p = by.Accepted.first-accepted job bad room p .0 .spaced
 
 -- In a layout each port number stands exactly once, and where each does, that is a layout (with as many ports as pads, as in every job).
 pub each-port-once : (b : Board) (f : ℕ → ℕ) → b .ports ≡ b .pads → Layout b f ↔ EachOnce b f
@@ -164,8 +165,8 @@ touch-plane = by.Plane.touch-plane
 pub touch-criterion : (l m : Leader) → m .x < l .x → Touch l m ↔ Between (l .port) (m .y) (m .port)
 touch-criterion = by.Touching.touch-iff
 
--- The total is (length weight × sum of lengths) + (bend weight × sum of bends); a leader has no bend exactly if its pad is at its port's height; and a total is at
--- most 192,000,064,000.
+-- By weights the total is (length weight × sum of lengths) + (bend weight × sum of bends); a leader has no bend exactly if its pad is at its port's height; and a
+-- total is at most 192,000,064,000. By a table of figures of 32 bits it is at most 64 times the largest, 274,877,906,880. C's number has 63 bits for it.
 pub total-is : (b : Board) (lw bw : ℕ) (f : ℕ → ℕ)
     → total b (weighted b lw bw) f ≡ lw * sum (b .pads) (λ i. lengthOf (leader b i (f i))) + bw * sum (b .pads) (λ i. bendsOf (leader b i (f i)))
 total-is = by.Totals.total-is
@@ -173,9 +174,15 @@ total-is = by.Totals.total-is
 pub no-bend : (l : Leader) → (bendsOf l ≡ 0) ↔ (l .y ≡ l .port)
 no-bend = by.Totals.bends-iff
 
-pub total-bound : (job : List ℕ) (lw bw : ℕ) (list : List ℕ) → Passed (measureTrials job lw bw list)
+pub total-bound : (job : List ℕ) (lw bw : ℕ) (list : List ℕ) → Passed (measureTrials job (byWeights lw bw) list)
     → total (boardOf job) (weighted (boardOf job) lw bw) (held list) ≤ 192000064000
-total-bound job lw bw list p = by.Bounds.measure-bounded job lw bw list (Total (total (boardOf job) (weighted (boardOf job) lw bw) (held list))) (p, refl)
+total-bound job lw bw list p =
+    let (accepted, fair, room) = by.Accepted.measure-facts job (byWeights lw bw) list p in
+    by.Accepted.accepted-bound job lw bw accepted (fair .0) (fair .1) (held list) (by.Accepted.measure-accepted job (byWeights lw bw) list p .1 .layout)
+
+pub table-bound : (job figures list : List ℕ) → ((k : ℕ) → getD figures k 0 < 4294967296) → Passed (measureTrials job (byTable figures) list)
+    → total (boardOf job) (figure (boardOf job) figures) (held list) ≤ 274877906880
+table-bound job figures list narrow p = by.Bounds.measure-bounded job (byTable figures) narrow list (Total _) (p, refl)
 
 -- Draw answers 2 exactly if the first four places then hold the two points of a leader without a bend, and 3 exactly if the six hold the three of one with a bend.
 pub draw-straight : (job : List ℕ) (i q : ℕ) (before after : List Float)
@@ -210,8 +217,8 @@ drawn-zero a = by.Quarter.zero-positive {a = a}
 pub zero-weights : (b : Board) (f : ℕ → ℕ) → Untouching b f → Best (labeling b (weighted b 0 0)) f
 zero-weights = by.Boards.zero-weights
 
-pub untouching-exists : (job : List ℕ) (lw bw room : ℕ) → Passed (firstTrials job lw bw room) → (f : ℕ → ℕ) × Untouching (boardOf job) f
-untouching-exists job lw bw = regular job lw bw .exists
+pub untouching-exists : (job : List ℕ) (bad : Badness) (room : ℕ) → Passed (firstTrials job bad room) → (f : ℕ → ℕ) × Untouching (boardOf job) f
+untouching-exists job bad = regular job bad .exists
 
 -- ---- DEMAND 3: the first sheet and then the next until the end gives every best sheet, each exactly once, in order, and no other; the end comes
 
@@ -225,39 +232,69 @@ before-trans = by.Order.before-trans
 pub before-total : (b : Board) (f g : ℕ → ℕ) → Before b f g ⊎ Same b f g ⊎ Before b g f
 before-total = by.Order.before-total
 
--- For every accepted job and pair of weights, in the words of Runs.
-pub demand-3 : (job : List ℕ) (lw bw : ℕ) (list : List ℕ) → Passed (firstTrials job lw bw (length list)) → Demand3 (callsOf job lw bw) list
-demand-3 job lw bw list = by.Demand.demand-3 (callsOf job lw bw) (regular job lw bw) list
+-- For every accepted job and pair of weights, or table, in the words of Runs.
+pub demand-3 : (job : List ℕ) (bad : Badness) (list : List ℕ) → Passed (firstTrials job bad (length list)) → Demand3 (callsOf job bad) list
+demand-3 job bad list = by.Demand.demand-3 (callsOf job bad) (regular job bad) list
 
 -- Whoever asks on from any list that Next accepts comes to the end.
-pub asking-ends : (job : List ℕ) (lw bw : ℕ) (list : List ℕ) → Passed (nextTrials job lw bw list) → (ls : List (List ℕ)) × NextRun (callsOf job lw bw) list ls
-asking-ends job lw bw = by.Demand.next-ends (callsOf job lw bw) (regular job lw bw)
+pub asking-ends : (job : List ℕ) (bad : Badness) (list : List ℕ) → Passed (nextTrials job bad list) → (ls : List (List ℕ)) × NextRun (callsOf job bad) list ls
+asking-ends job bad = by.Demand.next-ends (callsOf job bad) (regular job bad)
 
 -- ---- a page by Next (02)
 
 -- What Page replies, refusals too, is what that many calls of Next give, and nothing else is.
-pub page-by-next : (job : List ℕ) (lw bw : ℕ) (given before : List ℕ) (m : ℤ) (after : List ℕ)
-    → PagePromise job lw bw given before m after ↔ PageByNext (callsOf job lw bw) given before m after
-page-by-next job lw bw = by.ByNext.page-by-next (callsOf job lw bw) (regular job lw bw)
+pub page-by-next : (job : List ℕ) (bad : Badness) (given before : List ℕ) (m : ℤ) (after : List ℕ)
+    → PagePromise job bad given before m after ↔ PageByNext (callsOf job bad) given before m after
+page-by-next job bad = by.ByNext.page-by-next (callsOf job bad) (regular job bad)
 
 -- Who goes on from the last layout of a page loses no layout and meets none twice.
-pub paged-on : (job : List ℕ) (lw bw : ℕ) (given before : List ℕ) (ms : List (List ℕ)) (k : ℕ) (after : List ℕ)
-    → NextRun (callsOf job lw bw) given ms → PagePromise job lw bw given before (pos k) after → PagedOn (callsOf job lw bw) given before ms k after
-paged-on job lw bw = by.ByNext.paged-on (callsOf job lw bw) (regular job lw bw)
+pub paged-on : (job : List ℕ) (bad : Badness) (given before : List ℕ) (ms : List (List ℕ)) (k : ℕ) (after : List ℕ)
+    → NextRun (callsOf job bad) given ms → PagePromise job bad given before (pos k) after → PagedOn (callsOf job bad) given before ms k after
+paged-on job bad = by.ByNext.paged-on (callsOf job bad) (regular job bad)
 
 -- ---- straightening costs no length (02, No. 5)
 
 -- For bend weight 0 no layout at all, touching or not, has a smaller total than First answers; nor than a best one, on any board with enough ports.
-pub straightening-costs-no-length : (job : List ℕ) (lw : ℕ) → CostsNothing job lw 0
+pub straightening-costs-no-length : (job : List ℕ) (lw : ℕ) → CostsNothing job (byWeights lw 0)
 straightening-costs-no-length = by.Shortest.straightening-costs-no-length
 
 pub best-of-all : (b : Board) → Proper b → (lw : ℕ) (f : ℕ → ℕ) → Best (labeling b (weighted b lw 0)) f
     → LeastOfAll b (weighted b lw 0) (total b (weighted b lw 0) f)
 best-of-all = by.Shortest.best-of-all
 
--- With a bend weight it can cost: an example, for every length weight.
+-- With a bend weight it can cost: an example, for every length weight. And with a table.
 pub bends-can-cost : BendsCanCost
 bends-can-cost = by.Shortest.bends-can-cost
+
+pub tables-can-cost : TablesCanCost
+tables-can-cost = by.Shortest.tables-can-cost
+
+-- ---- the weighted calls are the table of weighted lengths and bends (02)
+
+-- By weights that are not refused First replies as by their table, and the other way round; so do Next, Page and Measure.
+pub first-by-table : (job : List ℕ) (lw bw : ℕ) (figures : List ℕ) → lw ≤ 1000 → bw ≤ 1000 → TableOf (boardOf job) (weighted (boardOf job) lw bw) figures
+    → (before : List ℕ) (m : ℤ) (after : List ℕ) → FirstPromise job (byWeights lw bw) before m after ↔ FirstPromise job (byTable figures) before m after
+first-by-table = by.Alike.first-by-table
+
+pub next-by-table : (job : List ℕ) (lw bw : ℕ) (figures : List ℕ) → lw ≤ 1000 → bw ≤ 1000 → TableOf (boardOf job) (weighted (boardOf job) lw bw) figures
+    → (before : List ℕ) (m : ℤ) (after : List ℕ) → NextPromise job (byWeights lw bw) before m after ↔ NextPromise job (byTable figures) before m after
+next-by-table = by.Alike.next-by-table
+
+pub page-by-table : (job : List ℕ) (lw bw : ℕ) (figures : List ℕ) → lw ≤ 1000 → bw ≤ 1000 → TableOf (boardOf job) (weighted (boardOf job) lw bw) figures
+    → (given before : List ℕ) (m : ℤ) (after : List ℕ) → PagePromise job (byWeights lw bw) given before m after ↔ PagePromise job (byTable figures) given before m after
+page-by-table = by.Alike.page-by-table
+
+pub measure-by-table : (job : List ℕ) (lw bw : ℕ) (figures : List ℕ) → lw ≤ 1000 → bw ≤ 1000 → TableOf (boardOf job) (weighted (boardOf job) lw bw) figures
+    → (list : List ℕ) (m : ℤ) → MeasurePromise job (byWeights lw bw) list m ↔ MeasurePromise job (byTable figures) list m
+measure-by-table = by.Alike.measure-by-table
+
+-- There is such a table, and its figures have 32 bits in every job that First accepts.
+pub weighted-table : (b : Board) (lw bw : ℕ) → (figures : List ℕ) × TableOf b (weighted b lw bw) figures
+weighted-table b lw bw = by.Alike.table-of b (weighted b lw bw)
+
+pub weighted-fits : (job : List ℕ) (lw bw room : ℕ) → Passed (firstTrials job (byWeights lw bw) room)
+    → (i q : ℕ) → i < count job → q < count job → weighted (boardOf job) lw bw i q < 4294967296
+weighted-fits = by.Accepted.weighted-fits
 
 -- ---- the worked sheets
 
@@ -266,7 +303,7 @@ pub fields-read : (count sample ≡ 2) × (nameOf sample 1 ≡ 513) × (reserved
     × (yOf sample 1 ≡ negℤ (pos 1)) × (portOf sample 1 ≡ negℤ (pos 2147483648)) × (twos 2147483647 ≡ pos 2147483647)
 fields-read = by.Vectors.fields-read
 
--- P1 to P12, and those of 02 for 12 and for both records of 9, are replies that the promises allow; so are Page's eight.
+-- P1 to P12, and those of 02 for 12, for both records of 9 and by tables, are replies that the promises allow; so are Page's eight.
 pub worked : Each Allowed sheets
 worked = by.Worked.worked
 

@@ -27,6 +27,7 @@ pub mod Kept
 pub mod Earliest
 pub mod Pages
 pub mod Regular
+pub mod Alike
 -- THE THEOREMS: determinacy, each promise can be met, demand 3, a page is what calls of Next give, straightening costs no length, the worked sheets.
 pub mod Determined
 pub mod Met

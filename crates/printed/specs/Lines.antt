@@ -13,7 +13,7 @@ use Rattle.paper.specs.declared.Answer.{Answer}
 use Rattle.paper.specs.declared.Answer.the-variants.{Total, End, Refused}
 use Rattle.paper.specs.Job.{count, nameOf}
 use Rattle.paper.specs.Leaders.{lengthOf, bendsOf}
-use Rattle.paper.specs.Layouts.{boardOf, leader, held}
+use Rattle.paper.specs.Layouts.{byWeights, boardOf, leader, held}
 use Rattle.paper.specs.Refusals.{BadWeight, Passed, measureTrials, callsOf}
 use Rattle.paper.specs.Promises.{FirstAnswers}
 use Rattle.paper.specs.laws.Totals.{totalOf, total-is}
@@ -26,7 +26,7 @@ use Rattle.printed.specs.Printed.{field, line, lines, lengths, bends, sh
 -- THEOREM: what is printed for a job is determined.
 pub printed-one : (job s t : List ℕ) → Printed job s → Printed job t → s ≡ t
 printed-one job s t p q =
-    let (a, l) = first-answer (callsOf job 1 0) (replicate 64 0) (p .answer) (q .answer) (p .list) (q .list) (p .first) (q .first) in
+    let (a, l) = first-answer (callsOf job (byWeights 1 0)) (replicate 64 0) (p .answer) (q .answer) (p .list) (q .list) (p .first) (q .first) in
     p .says ∙ ap (λ (m : List ℕ). told job m (p .answer)) l ∙ ap (told job (q .list)) a ∙ sym (q .says)
 
 -- THEOREM: so are its length and every byte of the list that it is printed into.
@@ -64,10 +64,10 @@ unfolding lines
 lines-more job list i f g = rw add-one (writes-then f g)
 
 -- First's total with the weights 1, 0 is the sum of lengths, and Measure's with 0, 1 the sum of bends.
-lengths-are : (job list : List ℕ) (t : ℕ) → t ≡ totalOf job 1 0 list → t ≡ lengths job list
+lengths-are : (job list : List ℕ) (t : ℕ) → t ≡ totalOf job (byWeights 1 0) list → t ≡ lengths job list
 lengths-are job list t e = omega (arith, total-is (boardOf job) 1 0 (held list))
 
-pub bends-are : (job list : List ℕ) (t : ℕ) → t ≡ totalOf job 0 1 list → t ≡ bends job list
+pub bends-are : (job list : List ℕ) (t : ℕ) → t ≡ totalOf job (byWeights 0 1) list → t ≡ bends job list
 bends-are job list t e = omega (arith, total-is (boardOf job) 0 1 (held list))
 
 -- The whole sheet: the lines, and then the sums.
@@ -77,13 +77,13 @@ pub sheet-written : (job list : List ℕ) {b₀ b₁ b₂ b₃ b₄ : List ℕ} 
 sheet-written job list e f w₀ w₁ w₂ w₃ = rw (← e, ← f) (writes-then (writes-then (writes-then w₀ w₁) w₂) w₃)
 
 -- From First's answer to what is printed.
-module _ (job list : List ℕ) (a : Answer) (f : FirstAnswers job 1 0 (replicate 64 0) a list) where
+module _ (job list : List ℕ) (a : Answer) (f : FirstAnswers job (byWeights 1 0) (replicate 64 0) a list) where
   -- A layout: what the sheet goes by,
-  pub first-passed : (t : ℕ) → a ≡ Total t → Passed (measureTrials job 0 1 list) × (t ≡ lengths job list)
+  pub first-passed : (t : ℕ) → a ≡ Total t → Passed (measureTrials job (byWeights 0 1) list) × (t ≡ lengths job list)
   first-passed t e =
-      let ((c1, (c2, (c3, c))), b, s, k) : FirstAnswers job 1 0 (replicate 64 0) (Total t) list = rw e at f in
+      let ((c1, (c2, (c3, c))), b, s, k) : FirstAnswers job (byWeights 1 0) (replicate 64 0) (Total t) list = rw e at f in
       let l = k .long in
-      (untouching-passed job 0 1 list (c1, (λ i l w. weights w, (λ i h. rw l (c3 i h), c))) (b .best .counts), lengths-are job list t s)
+      (untouching-passed job (byWeights 0 1) list (c1, (λ i l w. weights w, (λ i h. rw l (c3 i h), c))) (b .best .counts), lengths-are job list t s)
     where
       weights : ¬ BadWeight 0 1
       weights (inl h) = omega arith

@@ -11,7 +11,7 @@ use Rattle.paper.specs.declared.Answer.{Answer}
 use Rattle.paper.specs.declared.Answer.the-variants.{Total, End, Refused}
 use Rattle.paper.specs.Job.{count, nameOf}
 use Rattle.paper.specs.Leaders.{lengthOf, bendsOf}
-use Rattle.paper.specs.Layouts.{boardOf, leader, held, sum}
+use Rattle.paper.specs.Layouts.{byWeights, boardOf, leader, held, sum}
 use Rattle.paper.specs.Promises.{FirstAnswers}
 use Rattle.text.specs.Text.{bytes, decimal, Writes}
 
@@ -54,7 +54,7 @@ told job list (Refused r) = refused r
 pub record Printed (job text : List ℕ) : Type 0 where
   pub answer : Answer
   pub list : List ℕ
-  pub first : FirstAnswers job 1 0 (replicate 64 0) answer list
+  pub first : FirstAnswers job (byWeights 1 0) (replicate 64 0) answer list
   pub says : text ≡ told job list answer
 
 -- It is printed into a lent list of bytes: it stands at the start, r is its length, and every byte after it is kept.

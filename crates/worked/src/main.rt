@@ -2,6 +2,7 @@
 //     TITLE: A B [SIZE] | NAME X Y PORT, NAME X Y PORT, .. | ENTRY ENTRY ..;
 // The title's first letter tells the call: First, Next or Measure with the weights A and B; A page with these, of eight entries lent, each 9; Draw of
 // record A to port B, with eight numbers lent, each 99; or Print, the job's sheet. SIZE is the job's size in bytes where it is not 16 for each record.
+// With a small letter, first, next or measure is by a table, whose figures stand in place of A, B and SIZE.
 use libc::STDIN_FILENO;
 use libc::STDOUT_FILENO;
 use paper::Answer;
@@ -240,8 +241,11 @@ fn printed(job: &[u8]) {
 }
 
 // The call that a letter tells.
-fn run(call: u8, job: &[u8], a: u32, b: u32, list: &mut [u16]) {
+fn run(call: u8, job: &[u8], a: u32, b: u32, figures: &[u32], list: &mut [u16]) {
     match call {
+        b'f' => say_answer(calls::table::first(job, figures, list), list),
+        b'n' => say_answer(calls::table::next(job, figures, list), list),
+        b'm' => say_answer(calls::table::measure(job, figures, list), list),
         b'D' => drawn(job, a, b),
         b'P' => printed(job),
         b'M' => say_answer(calls::measure(job, a, b, list), list),
@@ -251,28 +255,30 @@ fn run(call: u8, job: &[u8], a: u32, b: u32, list: &mut [u16]) {
     }
 }
 
-// The job's size in bytes: what the case says, or four for each word.
-fn size_of(said: u32, words: usize) -> usize
+// The job's size in bytes: what the case says, which it does not beside a table, or four for each word.
+fn size_of(call: u8, said: u32, words: usize) -> usize
     requires { ⌜ words ≤ 280 ⌝ }
     ensures { λ r. ⌜ r ≤ 16384 ⌝ }
 {
-    if said <= 16384 {
-        return said as usize;
+    if call <= b'Z' {
+        if said <= 16384 {
+            return said as usize;
+        }
     }
     4 * words
 }
 
 // The call on a job of these words and a list of these entries.
-fn run_on(call: u8, a: u32, b: u32, size: u32, words: &[u32], entries: &[u32])
+fn run_on(call: u8, a: u32, b: u32, size: u32, figures: &[u32], words: &[u32], entries: &[u32])
     requires { ⌜ (length (now words) ≤ 280) × (length (now entries) ≤ 80) ⌝ }
 {
     let mut job = [0u8; 16384];
     let mut list = [0u16; 80];
     pack(words, &mut job);
     narrow(entries, &mut list);
-    let s = size_of(size, words.len());
+    let s = size_of(call, size, words.len());
     let n = entries.len();
-    run(call, &job[..s], a, b, &mut list[..n]);
+    run(call, &job[..s], a, b, figures, &mut list[..n]);
 }
 
 // Runs the case at a place that is not blank, and answers the place after it.
@@ -281,7 +287,7 @@ fn case(text: &[u8], at: usize) -> usize
     ensures { λ r. ⌜ (at < r) × (r ≤ length (now (text .entry))) ⌝ }
 {
     let mut title = [0u32; 1];
-    let mut args = [0u32, 0, 4294967295];
+    let mut args = [0u32, 0, 4294967295, 0, 0, 0, 0, 0, 0, 0];
     let mut words = [0u32; 280];
     let mut entries = [0u32; 80];
     let t = read_part(text, at, b':', &mut title);
@@ -289,6 +295,7 @@ fn case(text: &[u8], at: usize) -> usize
     let w = read_part(text, a.next, b'|', &mut words);
     let e = read_part(text, w.next, b';', &mut entries);
     let stop = e.next - 1;
+    let f = a.count;
     let m = w.count;
     let n = e.count;
     say(&text[at..stop]);
@@ -297,6 +304,7 @@ fn case(text: &[u8], at: usize) -> usize
         args[0],
         args[1],
         args[2],
+        &args[..f],
         &words[..m],
         &entries[..n],
     );

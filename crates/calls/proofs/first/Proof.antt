@@ -1,19 +1,21 @@
 -- `calls::first` meets its contract. Assumes nothing.
 use mathlib.Core.Path.{refl}
 use denote.Ref.{now}
-use borrow.Author.Needs.{needs}
 use lib.ListN.{length}
+use borrow.Author.Needs.{needs}
+use Rattle.paper.specs.Layouts.{byWeights}
 use Rattle.paper.specs.Refusals.{firstTrials}
 use Rattle.checks.specs.Judged.{Judged, judged-sound, judged-refused, first-judged}
-use Rattle.calls.proofs.Facts.{first-answers}
-use Rattle.paper.specs.laws.Accepted.{first-accepted}
 use Rattle.calls.proofs.first.Statement.{statement}
 use Rattle.calls.proofs.first.Tie as tie
 
 -- the verdict is the right one
 judged : (c : tie.After-of-first)
-    → let a = c .before .before .before .args in Judged (c .of-first .result) (firstTrials (now (a .job)) (a .lw) (a .bw) (length (now (a .list))))
-judged c = let a = c .before .before .before .args in rw (c .of-first .ensures) (first-judged (now (a .job)) (a .lw) (a .bw) (length (now (a .list))))
+    → let a = c .before .before .before .before .args in Judged (c .of-first .result) (firstTrials (now (a .job)) (byWeights (a .lw) (a .bw)) (length (now (a .list))))
+judged c = let a = c .before .before .before .before .args in rw (c .of-first .ensures, c .before .of-weights .ensures) (first-judged (now (a .job)) (byWeights (a .lw) (a .bw)) (length (now (a .list))))
+
+of-weights-requires : tie.Need-of-weights-requires
+of-weights-requires c κs = search needs
 
 of-first-requires : tie.Need-of-first-requires
 of-first-requires c κs = search needs
@@ -21,11 +23,8 @@ of-first-requires c κs = search needs
 enum-told : tie.Need-enum-told
 enum-told c = search needs
 
-first-on-requires : tie.Need-first-on-requires
-first-on-requires c κs =
-    let told = c .before in
-    let a = told .before .before .before .before .before .args in
-    first-accepted (now (a .job)) (a .lw) (a .bw) (length (now (a .list))) (judged-sound _ _ (judged (told .before .before)) (told .enum-told .given .1))
+first-requires : tie.Need-first-requires
+first-requires c κs = let told = c .before in judged-sound _ _ (judged (told .before .before)) (told .enum-told .given .1)
 
 enum-known-v : tie.Need-enum-known-v
 enum-known-v c = search needs
@@ -34,12 +33,7 @@ same-length : tie.Need-same-length
 same-length c = search needs
 
 returns : tie.Need-returns
-returns c =
-    let d = c .before .before in
-    let told = d .before .before in
-    let a = told .before .before .before .before .before .args in
-    first-answers (now (a .job)) (a .lw) (a .bw) (now (a .list)) (d .first-on .last .1 .1 .1 .0) (d .first-on .result)
-    (judged-sound _ _ (judged (told .before .before)) (told .enum-told .given .1)) (d .first-on .ensures)
+returns c = search needs
 
 returns-2 : tie.Need-returns-2
 returns-2 c = (judged-refused _ _ _ (judged (c .before .before .before)) (c .before .v .given .1), refl)
@@ -47,4 +41,4 @@ returns-2 c = (judged-refused _ _ _ (judged (c .before .before .before)) (c .bef
 pub first-spec : {M : Type 1} → statement M
 first-spec =
     tie.close
-    (tie.spec of-first-requires enum-told first-on-requires enum-known-v same-length returns returns-2)
+    (tie.spec of-weights-requires of-first-requires enum-told first-requires enum-known-v same-length returns returns-2)

@@ -3,6 +3,7 @@ use mathlib.Core.Path.{_∙_}
 use denote.Ref.{now}
 use mir.Facts.{toZ-ofZ}
 use borrow.Author.Needs.{needs, sfits-of}
+use Rattle.paper.specs.Layouts.{byWeights}
 use Rattle.paper.specs.laws.Bounds.{first-bounded}
 use Rattle.cheremysl.proofs.cheremysl_first.Statement.{statement}
 use Rattle.cheremysl.proofs.cheremysl_first.Tie as tie
@@ -14,7 +15,7 @@ of-answer-requires : tie.Need-of-answer-requires
 of-answer-requires c κs =
     let d = c .before .before in
     let a = d .before .before .before .before .args in
-    first-bounded (now (a .job)) (a .length-weight) (a .bend-weight) (now (a .layout)) (d .first .result) (d .first .last .1 .1 .1 .0) (d .first .ensures)
+    first-bounded (now (a .job)) (byWeights (a .length-weight) (a .bend-weight)) tt (now (a .layout)) (d .first .result) (d .first .last .1 .1 .1 .0) (d .first .ensures)
 
 same-length : tie.Need-same-length
 same-length c = search needs

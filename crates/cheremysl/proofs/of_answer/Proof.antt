@@ -10,7 +10,7 @@ use Rattle.cheremysl.proofs.of_answer.Tie as tie
 use Rattle.cheremysl.proofs.of_refusal.Reads as of-refusal-reads
 
 -- a total fits
-small : (t : ℕ) → t ≤ 192000064000 → t < 2 ^ 63
+small : (t : ℕ) → t ≤ 274877906880 → t < 2 ^ 63
 small t h = omega arith
 
 enum-known-a : tie.Need-enum-known-a

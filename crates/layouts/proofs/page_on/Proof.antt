@@ -1,5 +1,6 @@
--- `sheets::page_on` meets its contract (`page-walked`). Assumes nothing.
+-- `layouts::page_on` meets its contract (`page-walked`). Assumes nothing.
 use borrow.Author.Needs.{needs}
+use Rattle.paper.specs.Layouts.{byTable}
 use Rattle.layouts.proofs.Replied.{copy-startable, page-walked}
 use Rattle.layouts.proofs.page_on.Statement.{statement}
 use Rattle.layouts.proofs.page_on.Tie as tie
@@ -16,9 +17,9 @@ slice-aggregate-walk c = search needs
 walk-requires : tie.Need-walk-requires
 walk-requires c κs =
     let d = c .before .before .before in
-    let s = d .before .before .before .before .before in
+    let s = d .before .before .before .before .before .before in
     let a = s .args in
-    (s .pre .0 .0, s .pre .0 .1, s .pre .0 .2, copy-startable (a .job .now) (a .lw) (a .bw) (d .copy .ensures) (s .pre .0 .0 .few) (s .pre .1))
+    (s .pre .0 .0, s .pre .0 .1, copy-startable (a .job .now) (byTable (a .figures .now)) (d .copy .ensures) (s .pre .0 .0 .few) (s .pre .1))
 
 same-length : tie.Need-same-length
 same-length c = search needs
@@ -27,9 +28,9 @@ returns : tie.Need-returns
 returns c =
     let w = c .before .before .before in
     let d = w .before .before .before .before in
-    let s = d .before .before .before .before .before in
+    let s = d .before .before .before .before .before .before in
     let a = s .args in
-    page-walked (a .job .now) (a .lw) (a .bw) (d .copy .ensures) (a .page .now) _ _ (w .walk .result) (w .walk .ensures)
+    page-walked (a .job .now) (byTable (a .figures .now)) (d .copy .ensures) (a .page .now) _ _ (w .walk .result) (w .walk .ensures)
 
 pub page-on-spec : {M : Type 1} → statement M
 page-on-spec =

@@ -1,61 +1,39 @@
--- `sheets::walk` meets its contract: the lists lent are arrays and parts of arrays. Assumes nothing.
+-- `layouts::walk` meets its contract: the lists lent are arrays and parts of arrays. Assumes nothing.
 use mathlib.Core.Path.{sym, refl}
-use native.Mathlib.Nat.{mul-le-mul}
-use native.Mathlib.Omega.{arith}
 use lib.Seq.{length-take-le}
 use borrow.Author.Needs.{needs}
 use Rattle.layouts.proofs.walk.Statement.{statement}
 use Rattle.layouts.proofs.walk.Tie as tie
 
-mul-square : tie.Need-mul-square
-mul-square c = let h = c .before .before .before .pre .0 .few in omega (arith, mul-le-mul h h)
-
 array-borrow-prefix-order : tie.Need-array-borrow-prefix-order
 array-borrow-prefix-order c = search needs
 
 slice-aggregate-walk-at : tie.Need-slice-aggregate-walk-at
-slice-aggregate-walk-at c = sym (length-take-le _ _ (c .before .before .before .before .pre .0 .few))
+slice-aggregate-walk-at c = sym (length-take-le _ _ (c .before .before .before .before .before .pre .0 .few))
 
 array-borrow-prefix-lo : tie.Need-array-borrow-prefix-lo
 array-borrow-prefix-lo c = search needs
 
 slice-aggregate-walk-at-2 : tie.Need-slice-aggregate-walk-at-2
-slice-aggregate-walk-at-2 c = sym (length-take-le _ _ (c .before .before .before .before .before .pre .0 .few))
+slice-aggregate-walk-at-2 c = sym (length-take-le _ _ (c .before .before .before .before .before .before .pre .0 .few))
 
 array-borrow-prefix-hi : tie.Need-array-borrow-prefix-hi
 array-borrow-prefix-hi c = search needs
 
 slice-aggregate-walk-at-3 : tie.Need-slice-aggregate-walk-at-3
-slice-aggregate-walk-at-3 c = sym (length-take-le _ _ (c .before .before .before .before .before .before .pre .0 .few))
-
-array-borrow-prefix-cost : tie.Need-array-borrow-prefix-cost
-array-borrow-prefix-cost c = let h = c .before .before .before .before .before .before .pre .0 .few in mul-le-mul h h
+slice-aggregate-walk-at-3 c = sym (length-take-le _ _ (c .before .before .before .before .before .before .before .pre .0 .few))
 
 slice-aggregate-walk-at-4 : tie.Need-slice-aggregate-walk-at-4
-slice-aggregate-walk-at-4 c = let h = c .before .before .before .before .before .before .before .pre .0 .few in sym (length-take-le _ _ (mul-le-mul h h))
+slice-aggregate-walk-at-4 c = search needs
 
 slice-aggregate-walk-at-5 : tie.Need-slice-aggregate-walk-at-5
 slice-aggregate-walk-at-5 c = search needs
 
-slice-aggregate-walk-at-6 : tie.Need-slice-aggregate-walk-at-6
-slice-aggregate-walk-at-6 c = search needs
-
 walk-at-requires : tie.Need-walk-at-requires
 walk-at-requires c κs =
     let s = c .before .before .before .before .before .before .before .before .before .before .before in
-    let few = s .pre .0 .few in (
-      s .pre,
-      (
-        record {
-          places = length-take-le _ _ few;
-          lows = length-take-le _ _ few;
-          highs = length-take-le _ _ few;
-          square = length-take-le _ _ (mul-le-mul few few);
-        },
-        refl {a = 2145},
-        refl {a = 2145},
-      ),
-    )
+    let few = s .pre .0 .few in
+    (s .pre, (record { places = length-take-le _ _ few; lows = length-take-le _ _ few; highs = length-take-le _ _ few }, refl {a = 2145}, refl {a = 2145}))
 
 same-length : tie.Need-same-length
 same-length c = search needs
@@ -70,17 +48,14 @@ pub walk-spec : {M : Type 1} → statement M
 walk-spec =
     tie.close
     (tie.spec
-    mul-square
     array-borrow-prefix-order
     slice-aggregate-walk-at
     array-borrow-prefix-lo
     slice-aggregate-walk-at-2
     array-borrow-prefix-hi
     slice-aggregate-walk-at-3
-    array-borrow-prefix-cost
     slice-aggregate-walk-at-4
     slice-aggregate-walk-at-5
-    slice-aggregate-walk-at-6
     walk-at-requires
     same-length
     same-length-2

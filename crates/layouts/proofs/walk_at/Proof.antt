@@ -1,38 +1,46 @@
--- `sheets::walk_at` meets its contract: the lists, then the walk over them, in the paper's words (`walks-on`). Assumes nothing.
+-- `layouts::walk_at` meets its contract: the lists, then the walk over them, in the paper's words (`walks-on`). Assumes nothing.
 use borrow.Author.Needs.{needs}
-use Prim.Native.Nat.{ℕ}
-use Rattle.paper.specs.Layouts.{Board, boardOf, weighted}
+use mathlib.Core.Path.{refl}
+use Rattle.paper.specs.Layouts.{Board, boardOf}
+use Rattle.board.specs.Lists.{WorkOf}
 use Rattle.board.specs.Bridge.{proper}
 use Rattle.layouts.proofs.Translated.{working-on, startable-on, walks-on}
 use Rattle.layouts.proofs.walk_at.Statement.{statement}
 use Rattle.layouts.proofs.walk_at.Tie as tie
 
--- the function's entry, from where the lists are made; the board, and what its leaders cost
+-- the function's entry, from where the lists are made; the board; and the work lists with the table as it is lent
 abbrev start : tie.After-prepare → tie.Start
-start p = p .before .before .before .before .before .before .before .before .before .before .before .before .before .before
+start p = p .before .before .before .before .before .before .before .before .before .before .before .before .before
 
 abbrev board : tie.After-prepare → Board
 board p = boardOf (start p .args .job .now)
 
-abbrev costs : tie.After-prepare → ℕ → ℕ → ℕ
-costs p = weighted (board p) (start p .args .lw) (start p .args .bw)
+work : (p : tie.After-prepare) → let l = p .prepare .last in WorkOf (board p) (l .1 .0) (l .1 .1 .0) (l .1 .1 .1 .0) (start p .args .figures .now)
+work p = let job = start p .pre .0 .0 in record {
+  proper = job .proper;
+  even = refl;
+  few = job .few;
+  listed = p .prepare .ensures .0;
+  sides = p .prepare .ensures .1;
+  square = start p .pre .0 .1;
+}
 
 prepare-requires : tie.Need-prepare-requires
 prepare-requires c κs = search needs
 
 fill-requires : tie.Need-fill-requires
 fill-requires c κs =
-    let p = c .before .before .before .before .before .before .before .before .before .before .before .before .before .before in
-    let proper = proper {cost = costs p} (p .prepare .ensures) in
+    let p = c .before .before .before .before .before .before .before .before .before .before .before in
+    let proper = proper (work p) in
     (proper .pads, (start p .pre .1 .1, start p .pre .1 .2, proper .square))
 
 walk-requires : tie.Need-walk-requires
 walk-requires c κs =
-    let f = c .before .before .before .before .before .before .before .before .before .before .before .before in
-    let p = f .before .before .before .before .before .before .before .before .before .before .before .before .before .before .before in
+    let f = c .before .before .before .before .before .before .before .before .before .before .before in
+    let p = f .before .before .before .before .before .before .before .before .before .before .before .before in
     let s = start p in (
-      working-on (board p) (costs p) (p .prepare .ensures) (s .args .start) (s .args .w .now) (s .pre .0 .0 .some) (f .fill .ensures .0) (s .pre .0 .3),
-      (f .fill .ensures .1, startable-on (board p) (costs p) (p .prepare .ensures) (s .args .start) (s .args .w .now) (s .pre .0 .3)),
+      working-on (board p) (work p) (s .args .start) (s .args .w .now) (s .pre .0 .0 .some) (f .fill .ensures .0) (s .pre .0 .2),
+      (f .fill .ensures .1, startable-on (board p) (work p) (s .args .start) (s .args .w .now) (s .pre .0 .2)),
     )
 
 same-length : tie.Need-same-length
@@ -56,15 +64,12 @@ same-length-6 c = search needs
 same-length-7 : tie.Need-same-length-7
 same-length-7 c = search needs
 
-same-length-8 : tie.Need-same-length-8
-same-length-8 c = search needs
-
 returns : tie.Need-returns
 returns c =
     let d = c .before .before .before .before in
-    let p = d .before .before .before .before .before .before .before .before .before .before .before .before .before .before .before .before .before .before .before .before .before .before .before .before .before .before .before .before in
+    let p = d .before .before .before .before .before .before .before .before .before .before .before .before .before .before .before .before .before .before .before .before .before .before .before .before in
     let a = start p .args in
-    walks-on (board p) (costs p) (p .prepare .ensures) (a .start) (a .w .now) (a .page .now) _ _ (d .walk .result) (d .walk .ensures)
+    walks-on (board p) (work p) (a .start) (a .w .now) (a .page .now) _ _ (d .walk .result) (d .walk .ensures)
 
 pub walk-at-spec : {M : Type 1} → statement M
 walk-at-spec =
@@ -80,5 +85,4 @@ walk-at-spec =
     same-length-5
     same-length-6
     same-length-7
-    same-length-8
     returns)

@@ -5,30 +5,29 @@ use denote.Ref.{now}
 use native.Mathlib.Omega.{arith}
 use borrow.Author.Needs.{needs}
 use Rattle.paper.specs.Job.{count}
-use Rattle.paper.specs.Layouts.{boardOf, held, weighted, sum as costs}
+use Rattle.paper.specs.Layouts.{boardOf, held, costOf, sum as costs}
 use Rattle.paper.specs.laws.Totals.{sum-none, sum-more}
-use Rattle.measure.proofs.Facts.{so-far, total-most}
 use Rattle.paper.specs.laws.Accepted.{measure-facts, measure-entries}
+use Rattle.measure.specs.Given.{givenBy}
 use Rattle.measure.proofs.total.Statement.{statement}
 use Rattle.measure.proofs.total.Tie as tie
 
+-- Each cost has 32 bits, so that 64 of them do not wrap.
 abbrev Inv-loop : tie.InvT-loop
-Inv-loop job lw bw list n sum₀ i₀ sum i = (i ≤ n) × (sum ≡ costs i (λ k. weighted (boardOf job) lw bw k (held list k)))
+Inv-loop bad job figures list n sum₀ i₀ sum i =
+    (i ≤ n) × (sum ≡ costs i (λ k. costOf (boardOf job) (givenBy bad figures) k (held list k))) × (sum ≤ i * 4294967295)
 
 abbrev μ-loop : tie.MeasureT-loop
-μ-loop job lw bw list n sum₀ i₀ sum i = n - i
-
--- the costs so far
-costs-most : (c : tie.At-loop Inv-loop μ-loop) → c .loop .sum ≤ c .loop .i * 3000001000
-costs-most c =
-    let s = c .before .before .before .before in
-    rw (c .loop .inv .1) (so-far (now (s .args .job)) (s .args .lw) (s .args .bw) (now (s .args .list)) (s .pre) (c .loop .i) (omega arith))
+μ-loop bad job figures list n sum₀ i₀ sum i = n - i
 
 records-requires : tie.Need-records-requires Inv-loop μ-loop
-records-requires c κs = let s = c .before .before in omega (arith, measure-facts (now (s .args .job)) (s .args .lw) (s .args .bw) (now (s .args .list)) (s .pre) .0 .size)
+records-requires c κs =
+    let s = c .before .before .before in
+    let a = s .args in
+    omega (arith, measure-facts (now (a .job)) (givenBy (a .bad) (now (a .figures))) (now (a .list)) (s .pre) .0 .size)
 
 loop-holds : tie.Need-loop-holds Inv-loop μ-loop
-loop-holds c = (search needs, sum-none _)
+loop-holds c = (search needs, sum-none _, omega arith)
 
 cast-q : tie.Need-cast-q Inv-loop μ-loop
 cast-q c = search needs
@@ -38,25 +37,28 @@ mul-q c = search needs
 
 shared-slice-read-q : tie.Need-shared-slice-read-q Inv-loop μ-loop
 shared-slice-read-q c =
-    let s = c .before .before .before .before .before .before in
-    omega (arith, measure-facts (now (s .args .job)) (s .args .lw) (s .args .bw) (now (s .args .list)) (s .pre) .3)
+    let s = c .before .before .before .before .before .before .before in
+    let a = s .args in
+    omega (arith, measure-facts (now (a .job)) (givenBy (a .bad) (now (a .figures))) (now (a .list)) (s .pre) .2)
 
--- omega finds the bound of either weight, so that one passed for the other fails where the costs are summed
 cost-requires : tie.Need-cost-requires Inv-loop μ-loop
 cost-requires c κs =
-    let s = c .before .before .before .before .before .before in
+    let s = c .before .before .before .before .before .before .before in
+    let a = s .args in
+    let bad = givenBy (a .bad) (now (a .figures)) in
     let i = c .before .before .loop .i in
-    let h : i < count (now (s .args .job)) = omega arith in
-    let f = measure-facts (now (s .args .job)) (s .args .lw) (s .args .bw) (now (s .args .list)) (s .pre) in
-    (f .0, omega (arith, f), omega (arith, f), h, measure-entries (now (s .args .job)) (s .args .lw) (s .args .bw) (now (s .args .list)) (s .pre) i h)
+    let h : i < count (now (a .job)) = omega arith in
+    let f = measure-facts (now (a .job)) bad (now (a .list)) (s .pre) in
+    (f .0, f .1, h, measure-entries (now (a .job)) bad (now (a .list)) (s .pre) i h)
 
 cast-sum : tie.Need-cast-sum Inv-loop μ-loop
 cast-sum c = search needs
 
 add-sum : tie.Need-add-sum Inv-loop μ-loop
 add-sum c =
-    let s = c .before .before .before .before .before .before .before in
-    omega (arith, costs-most (c .before .before .before), measure-facts (now (s .args .job)) (s .args .lw) (s .args .bw) (now (s .args .list)) (s .pre) .0 .few)
+    let s = c .before .before .before .before .before .before .before .before in
+    let a = s .args in
+    omega (arith, measure-facts (now (a .job)) (givenBy (a .bad) (now (a .figures))) (now (a .list)) (s .pre) .0 .few)
 
 add-i : tie.Need-add-i Inv-loop μ-loop
 add-i c = omega arith
@@ -67,14 +69,13 @@ loop-less c = omega arith
 loop-again : tie.Need-loop-again Inv-loop μ-loop
 loop-again c =
     let at = c .before .before .before .loop in
-    (omega arith, sum-more _ (at .i) (at .sum) (c .cost .result) (at .inv .1) (c .cost .ensures .0))
+    (omega arith, sum-more _ (at .i) (at .sum) (c .cost .result) (at .inv .1) (c .cost .ensures), omega arith)
 
 returns : tie.Need-returns Inv-loop μ-loop
 returns c =
-    let s = c .before .before .before .before .before in
+    let s = c .before .before .before .before .before .before in
     let done : c .before .loop .i ≡ count (now (s .args .job)) = omega arith in
-    let e = rw done at (c .before .loop .inv .1) in
-    (e, rw e (total-most (now (s .args .job)) (s .args .lw) (s .args .bw) (now (s .args .list)) (s .pre)))
+    rw done at (c .before .loop .inv .1)
 
 pub total-spec : {M : Type 1} → statement M
 total-spec =

@@ -7,20 +7,20 @@ use Prim.Native.Nat.{ℕ, zero, suc, _*_, _%_, _-_, _≤_, _<_}
 use native.Mathlib.Nat.{lt-of-not-le, le-of-suc-le-suc, not-suc-le-zero, eq-or-lt-of-le}
 use native.Mathlib.Decide.{ℕ-discrete}
 use native.Mathlib.Omega.{arith}
-use lib.ListN.{length}
+use lib.ListN.{length, getD}
 use lib.IntN.{pos, natAbs, _+ℤ_, _-ℤ_}
 use lib.Signed.{_≤ℤ_}
 use Rattle.numbers.specs.Whole.{whole, nlt-num, plus-num, less-num}
 use Rattle.paper.specs.declared.Refusal.{Refusal}
 use Rattle.paper.specs.Job.{count, reservedOf, xOf, yOf, portOf}
-use Rattle.paper.specs.Layouts.{Board, boardOf, held, weighted, total, Layout, Untouching}
+use Rattle.paper.specs.Layouts.{Board, boardOf, held, Badness, byWeights, byTable, weighted, costOf, total, Layout, Untouching}
 use Rattle.paper.specs.Problem.{Best, labelingOf}
-use Rattle.paper.specs.Refusals.{BadSize, BadEntry, Passed, RefusedBy, refusal}
-use Rattle.paper.specs.Refusals.{jobTrials, firstTrials, measureTrials, nextTrials, drawTrials, layoutTrials, bestTrial, numberTrial}
+use Rattle.paper.specs.Refusals.{BadSize, BadEntry, Clean, Passed, RefusedBy, refusal}
+use Rattle.paper.specs.Refusals.{jobTrials, badnessTrial, firstTrials, measureTrials, nextTrials, drawTrials, layoutTrials, bestTrial, numberTrial}
 use Rattle.paper.specs.Layouts.{Differ, Rising, Proper}
 use Rattle.paper.specs.laws.Trials.{alone, passed-append, append-passed, refused-left, refused-right}
 use Rattle.paper.specs.laws.Decided.{passed-differ}
-use Rattle.paper.specs.laws.Totals.{total-bound}
+use Rattle.paper.specs.laws.Totals.{sum-at-most, weighted-bound, total-bound}
 
 not-lt : {a b : ℕ} → ¬ (a < b) → b ≤ a
 not-lt n = omega arith
@@ -78,13 +78,22 @@ job-accepted job size passed =
       proper = record { enough = omega arith; differ = passed-differ job passed; rising = passed-rising job passed };
     }
 
--- First's trials are passed: an accepted job, weights in range, and room for the layout.
-pub first-accepted : (job : List ℕ) (lw bw room : ℕ) → Passed (firstTrials job lw bw room)
-    → Accepted job × (lw ≤ 1000) × (bw ≤ 1000) × (count job ≤ room)
-first-accepted job lw bw room (c1, (c2, (c3, passed))) = (
+-- 2 and 13 are passed exactly by weights in range, and by tables of n × n figures.
+abbrev pub Fair : List ℕ → Badness → Type 0
+Fair job (byWeights lw bw) = (lw ≤ 1000) × (bw ≤ 1000)
+Fair job (byTable figures) = length figures ≡ count job * count job
+
+pub fair-iff : (job : List ℕ) (bad : Badness) → Clean (badnessTrial job bad) ↔ Fair job bad
+fair-iff job (byWeights lw bw) =
+    ((λ c. (not-lt (λ h. c 0 (omega arith) (inl h)), not-lt (λ h. c 0 (omega arith) (inr h)))), (λ f i l. ⊎-elim (λ h. omega (arith, f .0)) (λ h. omega (arith, f .1))))
+fair-iff job (byTable figures) = ((λ c. Dec·not-not (ℕ-discrete (length figures) (count job * count job)) .0 (c 0 (omega arith))), (λ f i l n. n f))
+
+-- First's trials are passed: an accepted job, weights in range or a table of n × n, and room for the layout.
+pub first-accepted : (job : List ℕ) (bad : Badness) (room : ℕ) → Passed (firstTrials job bad room)
+    → Accepted job × Fair job bad × (count job ≤ room)
+first-accepted job bad room (c1, (c2, (c3, passed))) = (
   job-accepted job (c1 0 (omega arith)) passed,
-  not-lt (λ h. c2 0 (omega arith) (inl h)),
-  not-lt (λ h. c2 0 (omega arith) (inr h)),
+  fair-iff job bad .0 c2,
   not-lt (c3 0 (omega arith)),
 )
 
@@ -103,6 +112,26 @@ pub accepted-bound : (job : List ℕ) (lw bw : ℕ) → Accepted job → lw ≤ 
     → total (boardOf job) (weighted (boardOf job) lw bw) f ≤ 192000064000
 accepted-bound job lw bw a h k f l = total-bound (boardOf job) lw bw h k (a .width) (a .pad) (a .port) f (a .few) (l .inside)
 
+-- By weights or by a table of figures of 32 bits, a leader costs at most 4,294,967,295, and a layout at most 64 times that.
+abbrev pub Narrow : Badness → Type 0
+Narrow (byWeights lw bw) = Unit {0}
+Narrow (byTable figures) = (k : ℕ) → getD figures k 0 < 4294967296
+
+module _ (job : List ℕ) (a : Accepted job) where
+  cost-most : (bad : Badness) → Fair job bad → Narrow bad → (i q : ℕ) → i < count job → q < count job → costOf (boardOf job) bad i q ≤ 4294967295
+  cost-most (byWeights lw bw) fair narrow i q h k = omega (arith, weighted-bound (boardOf job) lw bw (fair .0) (fair .1) (a .width) (a .pad) (a .port) i q h k)
+  cost-most (byTable figures) fair narrow i q h k = le-of-suc-le-suc (narrow _)
+
+  pub total-most : (bad : Badness) → Fair job bad → Narrow bad → (f : ℕ → ℕ) → Layout (boardOf job) f
+      → total (boardOf job) (costOf (boardOf job) bad) f ≤ 274877906880
+  total-most bad fair narrow f l =
+      let each = sum-at-most (count job) 4294967295 (λ i. costOf (boardOf job) bad i (f i)) (λ i h. cost-most bad fair narrow i (f i) h (l .inside i h)) in
+      omega (arith, a .few)
+
+pub weighted-fits : (job : List ℕ) (lw bw room : ℕ) → Passed (firstTrials job (byWeights lw bw) room)
+    → (i q : ℕ) → i < count job → q < count job → weighted (boardOf job) lw bw i q < 4294967296
+weighted-fits job lw bw room p i q h k = let (a, fair, _) = first-accepted job (byWeights lw bw) room p in omega (arith, cost-most job a (byWeights lw bw) fair tt i q h k)
+
 -- 8 and 9 are passed exactly if the list holds an untouching layout, on any board.
 pub layout-passed : (b : Board) (list : List ℕ) → Passed (layoutTrials b list) ↔ Untouching b (held list)
 layout-passed b list = (
@@ -117,42 +146,42 @@ layout-passed b list = (
     entries u i l (inl h) = omega (arith, u .layout .inside i l)
     entries u i l (inr (j, k, e)) = u .layout .own i j k l e
 
-module _ (job : List ℕ) (lw bw : ℕ) (list : List ℕ) where
+module _ (job : List ℕ) (bad : Badness) (list : List ℕ) where
   -- Measure's are passed: First's are, and the list holds an untouching layout.
-  pub measure-accepted : Passed (measureTrials job lw bw list) → Passed (firstTrials job lw bw (length list)) × Untouching (boardOf job) (held list)
+  pub measure-accepted : Passed (measureTrials job bad list) → Passed (firstTrials job bad (length list)) × Untouching (boardOf job) (held list)
   measure-accepted p =
-      let (passed, rest) = append-passed (firstTrials job lw bw (length list)) (layoutTrials (boardOf job) list) p in
+      let (passed, rest) = append-passed (firstTrials job bad (length list)) (layoutTrials (boardOf job) list) p in
       (passed, layout-passed (boardOf job) list .0 rest)
 
-  -- So then the job is accepted, with weights in range and room for the layout, and the entries are port numbers.
-  pub measure-facts : Passed (measureTrials job lw bw list) → Accepted job × (lw ≤ 1000) × (bw ≤ 1000) × (count job ≤ length list)
-  measure-facts p = first-accepted job lw bw (length list) (measure-accepted p .0)
+  -- So then the job is accepted, with weights in range or a table of n × n, and room for the layout, and the entries are port numbers.
+  pub measure-facts : Passed (measureTrials job bad list) → Accepted job × Fair job bad × (count job ≤ length list)
+  measure-facts p = first-accepted job bad (length list) (measure-accepted p .0)
 
-  pub measure-entries : Passed (measureTrials job lw bw list) → (i : ℕ) → i < count job → held list i < count job
+  pub measure-entries : Passed (measureTrials job bad list) → (i : ℕ) → i < count job → held list i < count job
   measure-entries p = measure-accepted p .1 .layout .inside
 
   -- And the other way round.
-  pub untouching-passed : Passed (firstTrials job lw bw (length list)) → Untouching (boardOf job) (held list) → Passed (measureTrials job lw bw list)
-  untouching-passed p u = passed-append (firstTrials job lw bw (length list)) (layoutTrials (boardOf job) list) p (layout-passed (boardOf job) list .1 u)
+  pub untouching-passed : Passed (firstTrials job bad (length list)) → Untouching (boardOf job) (held list) → Passed (measureTrials job bad list)
+  untouching-passed p u = passed-append (firstTrials job bad (length list)) (layoutTrials (boardOf job) list) p (layout-passed (boardOf job) list .1 u)
 
   -- Next refuses by 10 what passes Measure's trials, if the layout is not a best one;
-  pub not-best-refused : Passed (measureTrials job lw bw list) → ¬ Best (labelingOf job lw bw) (held list)
-      → RefusedBy (nextTrials job lw bw list) (refusal 10 0 0)
+  pub not-best-refused : Passed (measureTrials job bad list) → ¬ Best (labelingOf job bad) (held list)
+      → RefusedBy (nextTrials job bad list) (refusal 10 0 0)
   not-best-refused p n =
-      refused-right (measureTrials job lw bw list) (bestTrial (labelingOf job lw bw) list ∷ []) (refusal 10 0 0) p
+      refused-right (measureTrials job bad list) (bestTrial (labelingOf job bad) list ∷ []) (refusal 10 0 0) p
       (inl (refl, record { inside = omega arith; first = record { here = (measure-accepted p .1, n); none-below = λ j l. absurd (omega arith) }; named = alone }))
 
   -- its trials are passed if Measure's are and the list holds a best layout.
-  pub best-passed : Passed (measureTrials job lw bw list) → Best (labelingOf job lw bw) (held list) → Passed (nextTrials job lw bw list)
-  best-passed p b = passed-append (measureTrials job lw bw list) (bestTrial (labelingOf job lw bw) list ∷ []) p ((λ i l (u, n). n b), tt)
+  pub best-passed : Passed (measureTrials job bad list) → Best (labelingOf job bad) (held list) → Passed (nextTrials job bad list)
+  best-passed p b = passed-append (measureTrials job bad list) (bestTrial (labelingOf job bad) list ∷ []) p ((λ i l (u, n). n b), tt)
 
   -- What Measure refuses, Next refuses alike.
-  pub measure-refused : (r : Refusal) → RefusedBy (measureTrials job lw bw list) r → RefusedBy (nextTrials job lw bw list) r
-  measure-refused r = refused-left (measureTrials job lw bw list) (bestTrial (labelingOf job lw bw) list ∷ []) r
+  pub measure-refused : (r : Refusal) → RefusedBy (measureTrials job bad list) r → RefusedBy (nextTrials job bad list) r
+  measure-refused r = refused-left (measureTrials job bad list) (bestTrial (labelingOf job bad) list ∷ []) r
 
   -- Where Next's trials are passed, so are Measure's, and the x of all pads differ.
-  pub next-measured : Passed (nextTrials job lw bw list) → Passed (measureTrials job lw bw list)
-  next-measured p = append-passed (measureTrials job lw bw list) (bestTrial (labelingOf job lw bw) list ∷ []) p .0
+  pub next-measured : Passed (nextTrials job bad list) → Passed (measureTrials job bad list)
+  next-measured p = append-passed (measureTrials job bad list) (bestTrial (labelingOf job bad) list ∷ []) p .0
 
-  pub next-differ : Passed (nextTrials job lw bw list) → Differ (boardOf job)
+  pub next-differ : Passed (nextTrials job bad list) → Differ (boardOf job)
   next-differ p = measure-facts (next-measured p) .0 .proper .differ

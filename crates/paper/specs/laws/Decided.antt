@@ -1,10 +1,10 @@
 -- TRIALS ARE DECIDED: each call's trials are passed, or one of them refuses. By tests that are computed.
 --     first-decided, measure-decided, draw-decided;  tests-decide: of any trials whose tests say what they say;  tests-pass, tests-refuse: computed
 use mathlib.Core.Path.{_≡_, refl}
-use mathlib.Core.Logic.{_⊎_, inl, inr, ⊎-elim, _↔_}
+use mathlib.Core.Logic.{_≢_, _⊎_, inl, inr, ⊎-elim, _↔_}
 use mathlib.Core.Bool.{Bool, true, false, not, _&&_, _||_}
 use mathlib.Core.List.{List, [], _∷_, _++_}
-use Prim.Native.Nat.{ℕ, zero, suc, _≤_, _<_}
+use Prim.Native.Nat.{ℕ, zero, suc, _*_, _≤_, _<_}
 use native.Mathlib.Nat.{le-of-suc-le-suc, not-suc-le-zero, eq-or-lt-of-le}
 use native.Mathlib.Omega.{arith}
 use lib.Dec.{T, eqb, eqb→eq, ltb, ltb→lt}
@@ -12,15 +12,15 @@ use lib.ListN.{length}
 use Rattle.numbers.specs.Tests.{both, either, dec-iff, not-iff, ltb-iff, eqb-iff}
 use Rattle.paper.specs.declared.Refusal.{Refusal}
 use Rattle.paper.specs.Job.{count}
-use Rattle.paper.specs.Layouts.{Board, boardOf, held, leader, Touching}
+use Rattle.paper.specs.Layouts.{Board, boardOf, held, leader, Touching, Badness, byWeights, byTable}
 use Rattle.paper.specs.Refusals.{Trial, Smallest, Clean, FirstFault, Passed, RefusedBy, ofEach, ofWhole, ofPairs}
-use Rattle.paper.specs.Refusals.{BadSize, BadWeight, SameName, SameX, jobTrials, layoutTrials, firstTrials, measureTrials, drawTrials}
+use Rattle.paper.specs.Refusals.{BadSize, BadWeight, SameName, SameX, jobTrials, layoutTrials, badnessTrial, firstTrials, measureTrials, drawTrials}
 use Rattle.paper.specs.Layouts.{Differ}
 use Rattle.paper.specs.laws.Tests.{Test, atEach, atPairs, atWhole, somewhere, withEarlier, somewhere-iff, with-earlier-iff}
-use Rattle.paper.specs.laws.Tests.{badSize, badWeight, badField, notAbove, tooClose, sameName, sameX, badEntry, meetAt, badNumber}
-use Rattle.paper.specs.laws.Tests.{bad-size-iff, bad-weight-iff, bad-field-iff, not-above-iff, too-close-iff}
+use Rattle.paper.specs.laws.Tests.{badSize, badWeight, badTable, badField, notAbove, tooClose, sameName, sameX, badEntry, meetAt, badNumber}
+use Rattle.paper.specs.laws.Tests.{bad-size-iff, bad-weight-iff, bad-table-iff, bad-field-iff, not-above-iff, too-close-iff}
 use Rattle.paper.specs.laws.Tests.{same-name-iff, same-x-iff, bad-entry-iff, bad-number-iff}
-use Rattle.paper.specs.laws.Tests.{jobTests, layoutTests, firstTests, measureTests, drawTests}
+use Rattle.paper.specs.laws.Tests.{jobTests, layoutTests, badnessTest, firstTests, measureTests, drawTests}
 use Rattle.paper.specs.laws.Touching.{meet-iff}
 
 -- The trials are passed, or one of them refuses.
@@ -205,12 +205,17 @@ job-tests job = (
   ),
 )
 
-pub first-tests : (job : List ℕ) (lw bw room : ℕ) → TestsOf (firstTests job lw bw room) (firstTrials job lw bw room)
+badness-test : (job : List ℕ) (bad : Badness) → TestOf (badnessTest job bad) (badnessTrial job bad)
+badness-test job (byWeights lw bw) = whole-test 2 (BadWeight lw bw) (badWeight lw bw) (bad-weight-iff lw bw)
+badness-test job (byTable figures) =
+    whole-test 13 (length figures ≢ count job * count job) (badTable (count job) (length figures)) (bad-table-iff (count job) (length figures))
+
+pub first-tests : (job : List ℕ) (bad : Badness) (room : ℕ) → TestsOf (firstTests job (badnessTest job bad) room) (firstTrials job bad room)
 unfolding firstTests
-first-tests job lw bw room = (
+first-tests job bad room = (
   whole-test 1 (BadSize job) (badSize job) (bad-size-iff job),
   λ _. (
-    whole-test 2 (BadWeight lw bw) (badWeight lw bw) (bad-weight-iff lw bw),
+    badness-test job bad,
     λ _. (whole-test 3 (room < count job) (ltb room (count job)) (ltb-iff room (count job)), λ _. job-tests job),
   ),
 )
@@ -230,11 +235,11 @@ layout-tests b differ list = (
   ),
 )
 
-pub measure-tests : (job : List ℕ) (lw bw : ℕ) (list : List ℕ) → TestsOf (measureTests job lw bw list) (measureTrials job lw bw list)
+pub measure-tests : (job : List ℕ) (bad : Badness) (list : List ℕ) → TestsOf (measureTests job (badnessTest job bad) list) (measureTrials job bad list)
 unfolding measureTests
-measure-tests job lw bw list =
-    tests-append (firstTests job lw bw (length list)) (layoutTests (boardOf job) list) (firstTrials job lw bw (length list)) _
-    (first-tests job lw bw (length list)) (λ passed. layout-tests (boardOf job) (passed-differ job (passed .1 .1 .1)) list)
+measure-tests job bad list =
+    tests-append (firstTests job (badnessTest job bad) (length list)) (layoutTests (boardOf job) list) (firstTrials job bad (length list)) _
+    (first-tests job bad (length list)) (λ passed. layout-tests (boardOf job) (passed-differ job (passed .1 .1 .1)) list)
 
 pub draw-tests : (job : List ℕ) (i q room : ℕ) → TestsOf (drawTests job i q room) (drawTrials job i q room)
 unfolding drawTests
@@ -250,11 +255,11 @@ draw-tests job i q room = (
 )
 
 -- THEOREM: for every input, a call's trials are passed or one of them refuses.
-pub first-decided : (job : List ℕ) (lw bw room : ℕ) → Decided (firstTrials job lw bw room)
-first-decided job lw bw room = tests-decide (firstTests job lw bw room) (firstTrials job lw bw room) (first-tests job lw bw room)
+pub first-decided : (job : List ℕ) (bad : Badness) (room : ℕ) → Decided (firstTrials job bad room)
+first-decided job bad room = tests-decide (firstTests job (badnessTest job bad) room) (firstTrials job bad room) (first-tests job bad room)
 
-pub measure-decided : (job : List ℕ) (lw bw : ℕ) (list : List ℕ) → Decided (measureTrials job lw bw list)
-measure-decided job lw bw list = tests-decide (measureTests job lw bw list) (measureTrials job lw bw list) (measure-tests job lw bw list)
+pub measure-decided : (job : List ℕ) (bad : Badness) (list : List ℕ) → Decided (measureTrials job bad list)
+measure-decided job bad list = tests-decide (measureTests job (badnessTest job bad) list) (measureTrials job bad list) (measure-tests job bad list)
 
 pub draw-decided : (job : List ℕ) (i q room : ℕ) → Decided (drawTrials job i q room)
 draw-decided job i q room = tests-decide (drawTests job i q room) (drawTrials job i q room) (draw-tests job i q room)

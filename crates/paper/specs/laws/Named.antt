@@ -9,10 +9,10 @@ use native.Mathlib.Omega.{arith}
 use lib.ListN.{length}
 use lib.IntN.{pos, negℤ}
 use Rattle.paper.specs.declared.Refusal.{Refusal}
-use Rattle.paper.specs.Layouts.{Board, boardOf, held, Touching}
+use Rattle.paper.specs.Layouts.{Board, boardOf, held, Touching, Badness, byWeights, byTable}
 use Rattle.paper.specs.Problem.{labelingOf}
 use Rattle.paper.specs.Refusals.{Trial, FirstFault, RefusedBy, refusal, ofEach, ofPairs, jobTrials, layoutTrials, bestTrial, numberTrial}
-use Rattle.paper.specs.Refusals.{firstTrials, measureTrials, nextTrials, drawTrials, Alone, FirstPair, Named}
+use Rattle.paper.specs.Refusals.{badnessTrial, firstTrials, measureTrials, nextTrials, drawTrials, Alone, FirstPair, Named}
 use Rattle.paper.specs.Promises.{refusalNumber}
 
 -- ---- a refusal by some trial
@@ -53,12 +53,16 @@ module _ (P : Refusal → Type 0) (says : (r : Refusal) → Alone r → P r) whe
     ),
   )
 
-  of-first : (job : List ℕ) (lw bw room : ℕ) → OfEach P (firstTrials job lw bw room)
-  of-first job lw bw room = (one 1 _ _ (λ e. omega arith), (one 2 _ _ (λ e. omega arith), (one 3 _ _ (λ e. omega arith), of-job job)))
+  of-badness : (job : List ℕ) (bad : Badness) (i j : ℕ) → FirstFault (badnessTrial job bad) i j → P (refusal (badnessTrial job bad .reason) i j)
+  of-badness job (byWeights lw bw) = one 2 _ _ (λ e. omega arith)
+  of-badness job (byTable figures) = one 13 _ _ (λ e. omega arith)
+
+  of-first : (job : List ℕ) (bad : Badness) (room : ℕ) → OfEach P (firstTrials job bad room)
+  of-first job bad room = (one 1 _ _ (λ e. omega arith), (of-badness job bad, (one 3 _ _ (λ e. omega arith), of-job job)))
 
 -- THEOREM. First and Draw name one record.
-pub first-named : (job : List ℕ) (lw bw room : ℕ) (r : Refusal) → RefusedBy (firstTrials job lw bw room) r → Alone r
-first-named job lw bw room r = refused-is Alone (firstTrials job lw bw room) r (of-first Alone (λ r a. a) job lw bw room)
+pub first-named : (job : List ℕ) (bad : Badness) (room : ℕ) (r : Refusal) → RefusedBy (firstTrials job bad room) r → Alone r
+first-named job bad room r = refused-is Alone (firstTrials job bad room) r (of-first Alone (λ r a. a) job bad room)
 
 pub draw-named : (job : List ℕ) (i q room : ℕ) (r : Refusal) → RefusedBy (drawTrials job i q room) r → Alone r
 draw-named job i q room r =
@@ -87,23 +91,23 @@ first-pair b f i j = (
   }),
 )
 
-module _ (job : List ℕ) (lw bw : ℕ) (list : List ℕ) where
+module _ (job : List ℕ) (bad : Badness) (list : List ℕ) where
   abbrev Told : Refusal → Type 0
   Told = Named (boardOf job) (held list)
 
-  of-measure : OfEach Told (measureTrials job lw bw list)
+  of-measure : OfEach Told (measureTrials job bad list)
   of-measure =
-      each-append Told (firstTrials job lw bw (length list)) (layoutTrials (boardOf job) list) (of-first Told (λ r a. inl a) job lw bw (length list))
+      each-append Told (firstTrials job bad (length list)) (layoutTrials (boardOf job) list) (of-first Told (λ r a. inl a) job bad (length list))
       (one Told (λ r a. inl a) 8 _ _ (λ e. omega arith), ((λ i j a. inr (refl, first-pair (boardOf job) (held list) i j .0 a)), tt))
 
   -- THEOREM. Measure names one record, or by 9 the first touching pair; so does Next, and so Page, whose trials are Next's.
-  pub measure-named : (r : Refusal) → RefusedBy (measureTrials job lw bw list) r → Told r
-  measure-named r = refused-is Told (measureTrials job lw bw list) r of-measure
+  pub measure-named : (r : Refusal) → RefusedBy (measureTrials job bad list) r → Told r
+  measure-named r = refused-is Told (measureTrials job bad list) r of-measure
 
-  pub next-named : (r : Refusal) → RefusedBy (nextTrials job lw bw list) r → Told r
+  pub next-named : (r : Refusal) → RefusedBy (nextTrials job bad list) r → Told r
   next-named r =
-      refused-is Told (nextTrials job lw bw list) r
-      (each-append Told (measureTrials job lw bw list) (bestTrial (labelingOf job lw bw) list ∷ []) of-measure
+      refused-is Told (nextTrials job bad list) r
+      (each-append Told (measureTrials job bad list) (bestTrial (labelingOf job bad) list ∷ []) of-measure
       (one Told (λ r a. inl a) 10 _ _ (λ e. omega arith), tt))
 
 -- ---- C's number

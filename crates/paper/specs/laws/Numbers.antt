@@ -20,8 +20,9 @@ use Rattle.paper.specs.declared.Two.{Two}
 use Rattle.paper.specs.declared.Three.{Three}
 use Rattle.paper.specs.declared.Drawn.{Drawn}
 use Rattle.paper.specs.declared.Drawn.the-variants.{Straight, Bent, Refused as NotDrawn}
+use Rattle.paper.specs.Layouts.{Badness, byWeights, byTable}
 use Rattle.paper.specs.Problem.{labelingOf}
-use Rattle.paper.specs.Refusals.{Trial, Clean, Passed, RefusedBy, firstTrials, measureTrials, nextTrials, drawTrials, bestTrial, Calls, callsOf}
+use Rattle.paper.specs.Refusals.{Trial, Clean, Passed, RefusedBy, firstTrials, measureTrials, nextTrials, drawTrials, badnessTrial, bestTrial, Calls, callsOf}
 use Rattle.paper.specs.Promises.{refusalNumber, refusalIn, number, pagedNumber, drawnNumber, FirstOver, NextOver, PageOver, MeasureOver, DrawAnswers}
 use Rattle.paper.specs.Promises.{FirstReplies, NextReplies, PageReplies, MeasureReplies, DrawPromise, RefusesBy}
 use Rattle.paper.specs.laws.Trials.{not-both, refused-left}
@@ -168,17 +169,22 @@ module _ (c : Calls) (N : Numbered c) where
         says (Wrote k) p = inr (p .0, omega whole)
         says (NotPaged r) p = inl (r, p .0, p .1, refl)
 
--- ---- 01's
+-- ---- those on a job
 
-pub numbered : (job : List ℕ) (lw bw : ℕ) → Numbered (callsOf job lw bw)
-numbered job lw bw = record {
-  first = λ room r. refused-small (firstTrials job lw bw room) r (omega arith, omega arith, omega arith, λ c. let few = few-records job (c 0 (omega arith)) in omega arith);
-  measure = λ list r a. next list r (refused-left (measureTrials job lw bw list) (bestTrial (labelingOf job lw bw) list ∷ []) r a);
+-- So is the number of the weights' trial, and of the table's.
+badness-small : (job : List ℕ) (bad : Badness) → (1 ≤ badnessTrial job bad .reason) × (badnessTrial job bad .reason < 65536) × (badnessTrial job bad .among ≤ 65536)
+badness-small job (byWeights lw bw) = omega arith
+badness-small job (byTable figures) = omega arith
+
+pub numbered : (job : List ℕ) (bad : Badness) → Numbered (callsOf job bad)
+numbered job bad = record {
+  first = λ room r. refused-small (firstTrials job bad room) r (omega arith, omega arith, omega arith, λ c. let few = few-records job (c 0 (omega arith)) in omega (arith, badness-small job bad));
+  measure = λ list r a. next list r (refused-left (measureTrials job bad list) (bestTrial (labelingOf job bad) list ∷ []) r a);
   next = next;
 }
   where
-    next : (list : List ℕ) (r : Refusal) → RefusedBy (nextTrials job lw bw list) r → SmallRefusal r
-    next list r = refused-small (nextTrials job lw bw list) r (omega arith, omega arith, omega arith, λ c. let few = few-records job (c 0 (omega arith)) in omega arith)
+    next : (list : List ℕ) (r : Refusal) → RefusedBy (nextTrials job bad list) r → SmallRefusal r
+    next list r = refused-small (nextTrials job bad list) r (omega arith, omega arith, omega arith, λ c. let few = few-records job (c 0 (omega arith)) in omega (arith, badness-small job bad))
 
 -- ---- Draw
 

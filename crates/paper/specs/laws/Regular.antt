@@ -1,6 +1,6 @@
--- What the theorems ask of calls, and that 01's are such.
+-- What the theorems ask of calls, and that those on a job are such.
 --     Regular   their trials can be told, their refusals numbered; what First accepts has a best layout and room for it; and Next accepts the best layouts
---     regular   01's calls, on every job with its weights
+--     regular   the calls on every job, by weights and by tables
 use mathlib.Core.Logic.{_↔_}
 use mathlib.Core.Bool.{not}
 use mathlib.Core.List.{List, [], _∷_, _++_}
@@ -9,11 +9,11 @@ use native.Mathlib.Omega.{arith}
 use lib.Dec.{T}
 use lib.ListN.{length}
 use Rattle.numbers.specs.Tests.{not-iff}
-use Rattle.paper.specs.Layouts.{boardOf, held, weighted, Untouching}
+use Rattle.paper.specs.Layouts.{boardOf, held, Badness, costOf, Untouching}
 use Rattle.paper.specs.Problem.{Best, labelingOf}
 use Rattle.paper.specs.Refusals.{Passed, refusal, firstTrials, measureTrials, nextTrials, Calls, entries, callsOf}
 use Rattle.paper.specs.laws.Trials.{not-both}
-use Rattle.paper.specs.laws.Tests.{Test, atWhole, measureTests}
+use Rattle.paper.specs.laws.Tests.{Test, atWhole, badnessTest, measureTests}
 use Rattle.paper.specs.laws.Decided.{Decided, TestsOf, tests-append, whole-test, tests-decide, measure-tests, first-decided, measure-decided}
 use Rattle.paper.specs.laws.Trying.{Searchable, bestTest, untouchingTest, best-iff, best-dec, labeling-searchable}
 use Rattle.paper.specs.laws.Existence.{untouching-exists}
@@ -35,52 +35,52 @@ pub record Regular (c : Calls) : Type 0 where
   -- Next accepts what First does, with a best layout.
   pub next-is : (list : List ℕ) → Passed (c .next list) ↔ (Passed (c .first (length list)) × Best (c .problem) (held list))
 
--- ---- 01's
+-- ---- those on a job
 
-unfoldable pub nextTests : List ℕ → ℕ → ℕ → List ℕ → List Test
-nextTests job lw bw list = measureTests job lw bw list ++ (atWhole 10 (not (bestTest (labelingOf job lw bw) (untouchingTest (boardOf job)) (held list))) ∷ [])
+unfoldable pub nextTests : List ℕ → Badness → List ℕ → List Test
+nextTests job bad list = measureTests job (badnessTest job bad) list ++ (atWhole 10 (not (bestTest (labelingOf job bad) (untouchingTest (boardOf job)) (held list))) ∷ [])
 
-module _ (job : List ℕ) (lw bw : ℕ) where
-  accepted : (room : ℕ) → Passed (firstTrials job lw bw room) → Accepted job
-  accepted room p = first-accepted job lw bw room p .0
+module _ (job : List ℕ) (bad : Badness) where
+  accepted : (room : ℕ) → Passed (firstTrials job bad room) → Accepted job
+  accepted room p = first-accepted job bad room p .0
 
-  abbrev searchable : (room : ℕ) → Passed (firstTrials job lw bw room) → Searchable (labelingOf job lw bw)
-  searchable room p = labeling-searchable (boardOf job) (weighted (boardOf job) lw bw) (accepted room p .proper .differ)
+  abbrev searchable : (room : ℕ) → Passed (firstTrials job bad room) → Searchable (labelingOf job bad)
+  searchable room p = labeling-searchable (boardOf job) (costOf (boardOf job) bad) (accepted room p .proper .differ)
 
   -- 10 is told by trying every assignment.
-  pub next-tests : (list : List ℕ) → TestsOf (nextTests job lw bw list) (nextTrials job lw bw list)
+  pub next-tests : (list : List ℕ) → TestsOf (nextTests job bad list) (nextTrials job bad list)
   unfolding nextTests
   next-tests list =
-      tests-append (measureTests job lw bw list) _ (measureTrials job lw bw list) _ (measure-tests job lw bw list)
-      (λ p. (whole-test 10 _ (not (bestTest (labelingOf job lw bw) (untouchingTest (boardOf job)) (held list))) (says p), λ _. tt))
+      tests-append (measureTests job (badnessTest job bad) list) _ (measureTrials job bad list) _ (measure-tests job bad list)
+      (λ p. (whole-test 10 _ (not (bestTest (labelingOf job bad) (untouchingTest (boardOf job)) (held list))) (says p), λ _. tt))
     where
-      says : Passed (measureTrials job lw bw list) → T (not (bestTest (labelingOf job lw bw) (untouchingTest (boardOf job)) (held list)))
-          ↔ (Untouching (boardOf job) (held list) × ¬ Best (labelingOf job lw bw) (held list))
+      says : Passed (measureTrials job bad list) → T (not (bestTest (labelingOf job bad) (untouchingTest (boardOf job)) (held list)))
+          ↔ (Untouching (boardOf job) (held list) × ¬ Best (labelingOf job bad) (held list))
       says p =
-          let (q, u) = measure-accepted job lw bw list p in
-          let none = not-iff (bestTest (labelingOf job lw bw) (untouchingTest (boardOf job)) (held list)) (best-iff (labelingOf job lw bw) (searchable (length list) q) (held list)) in
+          let (q, u) = measure-accepted job bad list p in
+          let none = not-iff (bestTest (labelingOf job bad) (untouchingTest (boardOf job)) (held list)) (best-iff (labelingOf job bad) (searchable (length list) q) (held list)) in
           ((λ t. (u, none .0 t)), (λ (v, n). none .1 n))
 
-  pub regular : Regular (callsOf job lw bw)
+  pub regular : Regular (callsOf job bad)
   regular = record {
-    numbered = numbered job lw bw;
-    first-decided = first-decided job lw bw;
-    measure-decided = measure-decided job lw bw;
-    next-decided = λ list. tests-decide (nextTests job lw bw list) (nextTrials job lw bw list) (next-tests list);
+    numbered = numbered job bad;
+    first-decided = first-decided job bad;
+    measure-decided = measure-decided job bad;
+    next-decided = λ list. tests-decide (nextTests job bad list) (nextTrials job bad list) (next-tests list);
     searchable = searchable;
     some = λ room p. accepted room p .some;
     exists = λ room p. untouching-exists (boardOf job) (accepted room p .proper);
-    room = λ room p. first-accepted job lw bw room p .3;
+    room = λ room p. first-accepted job bad room p .2;
     other-room = λ room other (c1, (c2, (c3, rest))) l. (c1, (c2, ((λ i h s. omega arith), rest)));
-    next-is = λ list. (next-best list, λ (p, best). best-passed job lw bw list (untouching-passed job lw bw list p (best .counts)) best);
+    next-is = λ list. (next-best list, λ (p, best). best-passed job bad list (untouching-passed job bad list p (best .counts)) best);
   }
     where
-      next-best : (list : List ℕ) → Passed (nextTrials job lw bw list) → Passed (firstTrials job lw bw (length list)) × Best (labelingOf job lw bw) (held list)
-      next-best list p = go (best-dec (labelingOf job lw bw) (searchable (length list) (m .0)) (held list))
+      next-best : (list : List ℕ) → Passed (nextTrials job bad list) → Passed (firstTrials job bad (length list)) × Best (labelingOf job bad) (held list)
+      next-best list p = go (best-dec (labelingOf job bad) (searchable (length list) (m .0)) (held list))
         where
-          m : Passed (firstTrials job lw bw (length list)) × Untouching (boardOf job) (held list)
-          m = measure-accepted job lw bw list (next-measured job lw bw list p)
+          m : Passed (firstTrials job bad (length list)) × Untouching (boardOf job) (held list)
+          m = measure-accepted job bad list (next-measured job bad list p)
 
-          go : Dec (Best (labelingOf job lw bw) (held list)) → Passed (firstTrials job lw bw (length list)) × Best (labelingOf job lw bw) (held list)
+          go : Dec (Best (labelingOf job bad) (held list)) → Passed (firstTrials job bad (length list)) × Best (labelingOf job bad) (held list)
           go (yes best) = (m .0, best)
-          go (no worse) = absurd (not-both (nextTrials job lw bw list) (refusal 10 0 0) p (not-best-refused job lw bw list (next-measured job lw bw list p) worse))
+          go (no worse) = absurd (not-both (nextTrials job bad list) (refusal 10 0 0) p (not-best-refused job bad list (next-measured job bad list p) worse))

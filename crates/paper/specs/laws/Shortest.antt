@@ -1,8 +1,8 @@
--- STRAIGHTENING COSTS NO LENGTH. For bend weight 0 a best layout is the least of all layouts, touching or not; with a bend weight it need not be.
+-- STRAIGHTENING COSTS NO LENGTH. For bend weight 0 a best layout is the least of all layouts, touching or not; with a bend weight, or a table, it need not be.
 --
---     best-of-all, straightening-costs-no-length, bends-can-cost
-use mathlib.Core.Path.{_≡_, refl, ap, _∙_}
-use mathlib.Core.Logic.{_≢_, inl, inr, ⊎-elim}
+--     best-of-all, straightening-costs-no-length, bends-can-cost, tables-can-cost
+use mathlib.Core.Path.{_≡_, refl, sym, ap, _∙_}
+use mathlib.Core.Logic.{_≢_, inl, inr}
 use mathlib.Core.List.{List, [], _∷_}
 use Prim.Native.Nat.{ℕ, zero, suc, _+_, _*_, _<_}
 use native.Mathlib.Decide.{ℕ-discrete}
@@ -14,16 +14,17 @@ use Rattle.numbers.specs.Whole.{whole}
 use Rattle.paper.specs.declared.Answer.the-variants.{Total}
 use Rattle.paper.specs.Job.{twos, nameOf, reservedOf, xOf, yOf, portOf}
 use Rattle.paper.specs.Leaders.{lengthOf, bendsOf}
-use Rattle.paper.specs.Layouts.{Board, boardOf, held, Touching, EachOnce, Untouching, sum, weighted, total, Proper, Same}
+use Rattle.paper.specs.Layouts.{Board, boardOf, held, Touching, EachOnce, Untouching, sum, Badness, byWeights, byTable, weighted, costOf, total, Proper, Same}
 use Rattle.paper.specs.Problem.{Best, labeling}
 use Rattle.paper.specs.Refusals.{Passed, firstTrials, callsOf}
-use Rattle.paper.specs.Straightening.{LeastOfAll, CostsNothing, levelPad, BendsCanCost}
-use Rattle.paper.specs.laws.Tests.{somewhere, outside, jobTests, firstTests}
-use Rattle.paper.specs.laws.Totals.{total-is}
+use Rattle.paper.specs.Sheets.{levelPad, crossingPays}
+use Rattle.paper.specs.Straightening.{LeastOfAll, CostsNothing, Costs, BendsCanCost, TablesCanCost}
+use Rattle.paper.specs.laws.Tests.{somewhere, outside, jobTests, badnessTest, firstTests}
+use Rattle.paper.specs.laws.Totals.{totalOf, total-is}
 use Rattle.paper.specs.laws.Boards.{layout-iff, layout-same, untouching-same, total-same}
 use Rattle.paper.specs.laws.Decided.{tests-pass, first-tests}
 use Rattle.paper.specs.laws.Existence.{straight-total}
-use Rattle.paper.specs.laws.Accepted.{first-accepted}
+use Rattle.paper.specs.laws.Accepted.{Fair, fair-iff, first-accepted}
 use Rattle.paper.specs.laws.Numbers.{total-told, numbered}
 use Rattle.paper.specs.laws.Regular.{regular}
 use Rattle.paper.specs.laws.Met.{first-made}
@@ -37,10 +38,10 @@ best-of-all b proper lw f best g layout =
     omega (arith, best .least h untouching, total-is b lw 0 h, total-is b lw 0 g, mul-le-mul-left lw shorter)
 
 -- THEOREM. For every accepted job and length weight, with bend weight 0, no list in which each port number stands once has a smaller total than First answers.
-pub straightening-costs-no-length : (job : List ℕ) (lw : ℕ) → CostsNothing job lw 0
+pub straightening-costs-no-length : (job : List ℕ) (lw : ℕ) → CostsNothing job (byWeights lw 0)
 straightening-costs-no-length job lw before after t promise list once =
-    let (passed, first, is, kept) = total-told (callsOf job lw 0) (numbered job lw 0) before after t promise in
-    let accepted = first-accepted job lw 0 (length before) passed .0 in
+    let (passed, first, is, kept) = total-told (callsOf job (byWeights lw 0)) (numbered job (byWeights lw 0)) before after t promise in
+    let accepted = first-accepted job (byWeights lw 0) (length before) passed .0 in
     omega (arith, is, best-of-all (boardOf job) (accepted .proper) lw (held after) (first .best) (held list) (layout-iff (boardOf job) (held list) refl .1 once))
 
 -- ---- with a bend weight
@@ -90,22 +91,31 @@ only-uncrossed f u = go (ℕ-discrete (f 0) 0) (u .layout .inside 0 (omega arith
     go (yes e) h k n = absurd (untouching-same b f (held crossed) (pair crossed e (omega arith)) u .apart 1 0 (omega arith) (omega arith) crossed-touch)
     go (no e) h k n = pair uncrossed (omega arith) (omega arith)
 
--- The job is accepted, whatever the weights.
-sound : Passed (firstTrials levelPad 0 0 2)
+-- The job is accepted, whatever fair weights or table are given.
+sound : Passed (firstTrials levelPad (byWeights 0 0) 2)
 unfolding somewhere outside jobTests firstTests twos nameOf reservedOf xOf yOf portOf
-sound = tests-pass (firstTests levelPad 0 0 2) (firstTrials levelPad 0 0 2) (first-tests levelPad 0 0 2) tt
+sound = tests-pass (firstTests levelPad (badnessTest levelPad (byWeights 0 0)) 2) (firstTrials levelPad (byWeights 0 0) 2) (first-tests levelPad (byWeights 0 0) 2) tt
 
--- THEOREM. With a bend weight untouching leaders can cost more, whatever the length weight is.
-pub bends-can-cost : BendsCanCost
-bends-can-cost lw bw h k bends =
-    let passed : Passed (firstTrials levelPad lw bw 2) = (sound .0, ((λ i l. ⊎-elim (λ m. omega arith) (λ m. omega arith)), sound .1 .1)) in
-    let (t, after, answers) = first-made (callsOf levelPad lw bw) (regular levelPad lw bw) (9 ∷ 9 ∷ []) passed in
-    let cost = weighted b lw bw in
-    let is = answers .2 ∙ total-same b cost (held after) (held uncrossed) (only-uncrossed (held after) (answers .1 .best .counts)) in
+-- So First answers the total of the layout that does not touch.
+costs-more : (bad : Badness) → Fair levelPad bad → (t u : ℕ) → t ≡ totalOf levelPad bad uncrossed → u ≡ totalOf levelPad bad crossed → u < t
+    → Costs levelPad bad t crossed u
+costs-more bad fair t u is sums less =
+    let passed : Passed (firstTrials levelPad bad 2) = (sound .0, (fair-iff levelPad bad .1 fair, sound .1 .1)) in
+    let (v, after, answers) = first-made (callsOf levelPad bad) (regular levelPad bad) (9 ∷ 9 ∷ []) passed in
+    let same = answers .2 ∙ total-same b (costOf b bad) (held after) (held uncrossed) (only-uncrossed (held after) (answers .1 .best .counts)) in
     record {
-      first = (9 ∷ 9 ∷ [], after, (Total t, answers, ap pos (omega (arith, is, uncrossed-total lw bw))));
+      first = (9 ∷ 9 ∷ [], after, (Total v, answers, ap pos (is ∙ sym same)));
       once = crossed-once;
       touch = (1, 0, omega arith, omega arith, crossed-touch);
-      sums = omega (arith, crossed-total lw bw);
-      smaller = omega arith;
+      sums = sums;
+      smaller = less;
     }
+
+-- THEOREM. With a bend weight untouching leaders can cost more, whatever the length weight is; and with a table.
+pub bends-can-cost : BendsCanCost
+bends-can-cost lw bw h k bends =
+    costs-more (byWeights lw bw) (h, k) (50 * lw + 2 * bw) (50 * lw + bw) (omega (arith, uncrossed-total lw bw)) (omega (arith, crossed-total lw bw)) (omega arith)
+
+pub tables-can-cost : TablesCanCost
+unfolding sum
+tables-can-cost = costs-more (byTable crossingPays) refl 2 0 refl refl (omega arith)

@@ -1,10 +1,10 @@
 -- The tests that the code computes for each fault of Refusals.antt, that each says what its fault says, and each call's tests in order.
---     bad-size-iff, bad-weight-iff, bad-field-iff, not-above-iff, too-close-iff, same-name-iff, same-x-iff, bad-entry-iff, bad-number-iff
+--     bad-size-iff, bad-weight-iff, bad-table-iff, bad-field-iff, not-above-iff, too-close-iff, same-name-iff, same-x-iff, bad-entry-iff, bad-number-iff
 use mathlib.Core.Path.{_≡_, subst}
-use mathlib.Core.Logic.{_⊎_, inl, inr, ⊎-elim, _↔_, Iff·trans}
+use mathlib.Core.Logic.{_≢_, _⊎_, inl, inr, ⊎-elim, _↔_, Iff·trans}
 use mathlib.Core.Bool.{Bool, false, not, _&&_, _||_, or-assoc}
 use mathlib.Core.List.{List, [], _∷_, _++_}
-use Prim.Native.Nat.{ℕ, zero, suc, _-_, _%_, _≤_, _<_}
+use Prim.Native.Nat.{ℕ, zero, suc, _*_, _-_, _%_, _≤_, _<_}
 use native.Mathlib.Nat.{le-of-suc-le-suc, not-suc-le-zero, eq-or-lt-of-le}
 use native.Mathlib.Omega.{arith}
 use lib.Dec.{T, eqb, leb, ltb}
@@ -15,7 +15,7 @@ use Rattle.numbers.specs.Whole.{whole}
 use Rattle.numbers.specs.Tests.{and-iff, or-iff, not-iff, leb-iff, ltb-iff, le-iff, eqb-iff, lt-iff}
 use Rattle.paper.specs.Job.{count, nameOf, reservedOf, xOf, yOf, portOf}
 use Rattle.paper.specs.Leaders.{Leader}
-use Rattle.paper.specs.Layouts.{Board, boardOf, held, leader}
+use Rattle.paper.specs.Layouts.{Board, boardOf, held, leader, Badness, byWeights, byTable}
 use Rattle.paper.specs.Refusals.{Earlier, BadSize, BadWeight, Outside, BadField, NotAbove, TooClose, SameName, SameX, BadEntry}
 
 -- p holds at some number below n; q holds of i and a number below i
@@ -26,12 +26,15 @@ somewhere p (suc n) = somewhere p n || p n
 abbrev pub withEarlier : (ℕ → ℕ → Bool) → ℕ → Bool
 withEarlier q i = somewhere (q i) i
 
--- 1, 2
+-- 1, 2, 13
 abbrev pub badSize : List ℕ → Bool
 badSize job = eqb (length job) 0 || not (eqb (length job % 16) 0) || ltb 1024 (length job)
 
 abbrev pub badWeight : ℕ → ℕ → Bool
 badWeight lw bw = ltb 1000 lw || ltb 1000 bw
+
+abbrev pub badTable : ℕ → ℕ → Bool
+badTable n figures = not (eqb figures (n * n))
 
 -- 4
 unfoldable pub outside : ℤ → Bool
@@ -90,7 +93,7 @@ somewhere-iff p P (suc n) says =
 pub with-earlier-iff : (q : ℕ → ℕ → Bool) (R : ℕ → ℕ → Type 0) (i : ℕ) → ((j : ℕ) → j < i → T (q i j) ↔ R i j) → T (withEarlier q i) ↔ Earlier R i
 with-earlier-iff q R i says = somewhere-iff (q i) (R i) i says
 
--- 1 and 2
+-- 1, 2 and 13
 pub bad-size-iff : (job : List ℕ) → T (badSize job) ↔ BadSize job
 bad-size-iff job =
     simp or-assoc
@@ -100,6 +103,9 @@ bad-size-iff job =
 
 pub bad-weight-iff : (lw bw : ℕ) → T (badWeight lw bw) ↔ BadWeight lw bw
 bad-weight-iff lw bw = or-iff (ltb 1000 lw) (ltb 1000 bw) (ltb-iff 1000 lw) (ltb-iff 1000 bw)
+
+pub bad-table-iff : (n figures : ℕ) → T (badTable n figures) ↔ (figures ≢ n * n)
+bad-table-iff n figures = not-iff (eqb figures (n * n)) (eqb-iff figures (n * n))
 
 -- 4
 outside-iff : (h : ℤ) → T (outside h) ↔ Outside h
@@ -164,7 +170,7 @@ pub data Test : Type 0 where
 abbrev pub atWhole : ℕ → Bool → Test
 atWhole r t = atEach r 1 (λ i. t)
 
--- The tests of each call, as Refusals.antt has its trials.
+-- The tests of each call, as Refusals.antt has its trials; that of the weights or of the table is given to First's and Measure's.
 unfoldable pub jobTests : List ℕ → List Test
 jobTests job =
     atEach 4 (count job) (badField job) ∷
@@ -176,11 +182,15 @@ jobTests job =
 unfoldable pub layoutTests : Board → List ℕ → List Test
 layoutTests b list = atEach 8 (b .pads) (badEntry (b .ports) list) ∷ atPairs 9 (b .pads) (meetAt b (held list)) ∷ []
 
-unfoldable pub firstTests : List ℕ → ℕ → ℕ → ℕ → List Test
-firstTests job lw bw room = atWhole 1 (badSize job) ∷ atWhole 2 (badWeight lw bw) ∷ atWhole 3 (ltb room (count job)) ∷ jobTests job
+abbrev pub badnessTest : List ℕ → Badness → Test
+badnessTest job (byWeights lw bw) = atWhole 2 (badWeight lw bw)
+badnessTest job (byTable figures) = atWhole 13 (badTable (count job) (length figures))
 
-unfoldable pub measureTests : List ℕ → ℕ → ℕ → List ℕ → List Test
-measureTests job lw bw list = firstTests job lw bw (length list) ++ layoutTests (boardOf job) list
+unfoldable pub firstTests : List ℕ → Test → ℕ → List Test
+firstTests job given room = atWhole 1 (badSize job) ∷ given ∷ atWhole 3 (ltb room (count job)) ∷ jobTests job
+
+unfoldable pub measureTests : List ℕ → Test → List ℕ → List Test
+measureTests job given list = firstTests job given (length list) ++ layoutTests (boardOf job) list
 
 unfoldable pub drawTests : List ℕ → ℕ → ℕ → ℕ → List Test
 drawTests job i q room = atWhole 1 (badSize job) ∷ atWhole 3 (ltb room 6) ∷ jobTests job ++ (atWhole 11 (badNumber (count job) i q) ∷ [])

@@ -13,11 +13,11 @@ use lib.Dec.{T, eqb, eqb→eq}
 use lib.IntN.{natAbs}
 use Rattle.numbers.specs.Whole.{whole, abs-num, apart-num}
 use Rattle.paper.specs.Leaders.{Leader, distance, lengthOf, bendsOf}
-use Rattle.paper.specs.Layouts.{Board, boardOf, held, leader, sum, weighted, total}
+use Rattle.paper.specs.Layouts.{Board, boardOf, held, leader, sum, weighted, Badness, costOf, total}
 
--- The total of the layout that a list holds, with 01's costs.
-abbrev pub totalOf : List ℕ → ℕ → ℕ → List ℕ → ℕ
-totalOf job lw bw list = total (boardOf job) (weighted (boardOf job) lw bw) (held list)
+-- The total of the layout that a list holds, by weights or by a table.
+abbrev pub totalOf : List ℕ → Badness → List ℕ → ℕ
+totalOf job bad list = total (boardOf job) (costOf (boardOf job) bad) (held list)
 
 -- ---- sums
 

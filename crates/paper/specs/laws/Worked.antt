@@ -1,4 +1,4 @@
--- THE WORKED SHEETS, P1 to P12 and those for 12 and 9, by one theorem over one list, and Page's by another: a test that the checker computes for each sheet,
+-- THE WORKED SHEETS, P1 to P12 and those for 12, 9 and tables, by one theorem over one list, and Page's by another: a test that the checker computes for each sheet,
 -- and a lemma that turns the test into the call's promise.
 --     worked, worked-pages
 use mathlib.Core.Path.{_≡_, refl, sym, ap, _∙_}
@@ -15,13 +15,13 @@ use Rattle.paper.specs.declared.Answer.the-variants.{Total, End, Refused
 use Rattle.paper.specs.declared.Paged.{Paged}
 use Rattle.paper.specs.declared.Paged.the-variants.{Wrote, Refused as NotPaged}
 use Rattle.paper.specs.Job.{count, twos, nameOf, reservedOf, xOf, yOf, portOf}
-use Rattle.paper.specs.Layouts.{Board, boardOf, held, weighted, sum, Differ}
+use Rattle.paper.specs.Layouts.{Board, boardOf, held, Badness, weighted, costOf, sum, Differ}
 use Rattle.paper.specs.Problem.{Problem, labelingOf}
 use Rattle.paper.specs.Refusals.{firstTrials, measureTrials, nextTrials}
 use Rattle.paper.specs.Promises.{Kept, inTurn, Following, FirstAnswers, NextAnswers, PageAnswers, MeasureAnswers}
 use Rattle.paper.specs.laws.Totals.{totalOf}
 use Rattle.paper.specs.Sheets.{sheets, Each, Call, First, Next, Measure, Sheet, AllowedBy, Allowed, pages, PageSheet, PageAllowed}
-use Rattle.paper.specs.laws.Tests.{somewhere, outside, between, leadersMeet, jobTests, layoutTests, firstTests, measureTests}
+use Rattle.paper.specs.laws.Tests.{somewhere, outside, between, leadersMeet, jobTests, layoutTests, badnessTest, firstTests, measureTests}
 use Rattle.paper.specs.Leaders.{lengthOf, bendsOf}
 use Rattle.paper.specs.laws.Order.{below-suc}
 use Rattle.paper.specs.laws.Decided.{passes, refuses, tests-pass, tests-refuse, first-tests, measure-tests}
@@ -43,25 +43,25 @@ sameList (x ∷ xs) (y ∷ ys) = eqb x y && sameList xs ys
 abbrev sameRest : ℕ → List ℕ → List ℕ → Bool
 sameRest n l m = eqb (length m) (length l) && sameList (drop n m) (drop n l)
 
-abbrev firstHolds : List ℕ → ℕ → ℕ → List ℕ → Answer → List ℕ → Bool
-firstHolds job lw bw l (Total t) m =
-    passes (firstTests job lw bw (length l))
-    && (firstTest (labelingOf job lw bw) (untouchingTest (boardOf job)) (held m) && (eqb t (totalOf job lw bw m) && sameRest (count job) l m))
-firstHolds job lw bw l End m = false
-firstHolds job lw bw l (Refused r) m = refuses (firstTests job lw bw (length l)) r && sameList m l
+abbrev firstHolds : List ℕ → Badness → List ℕ → Answer → List ℕ → Bool
+firstHolds job bad l (Total t) m =
+    passes (firstTests job (badnessTest job bad) (length l))
+    && (firstTest (labelingOf job bad) (untouchingTest (boardOf job)) (held m) && (eqb t (totalOf job bad m) && sameRest (count job) l m))
+firstHolds job bad l End m = false
+firstHolds job bad l (Refused r) m = refuses (firstTests job (badnessTest job bad) (length l)) r && sameList m l
 
-abbrev nextHolds : List ℕ → ℕ → ℕ → List ℕ → Answer → List ℕ → Bool
-nextHolds job lw bw l (Total t) m =
-    passes (nextTests job lw bw l)
-    && (nextTest (labelingOf job lw bw) (untouchingTest (boardOf job)) (held l) (held m) && (eqb t (totalOf job lw bw m) && sameRest (count job) l m))
-nextHolds job lw bw l End m =
-    passes (nextTests job lw bw l) && (lastTest (labelingOf job lw bw) (untouchingTest (boardOf job)) (held l) && sameList m l)
-nextHolds job lw bw l (Refused r) m = refuses (nextTests job lw bw l) r && sameList m l
+abbrev nextHolds : List ℕ → Badness → List ℕ → Answer → List ℕ → Bool
+nextHolds job bad l (Total t) m =
+    passes (nextTests job bad l)
+    && (nextTest (labelingOf job bad) (untouchingTest (boardOf job)) (held l) (held m) && (eqb t (totalOf job bad m) && sameRest (count job) l m))
+nextHolds job bad l End m =
+    passes (nextTests job bad l) && (lastTest (labelingOf job bad) (untouchingTest (boardOf job)) (held l) && sameList m l)
+nextHolds job bad l (Refused r) m = refuses (nextTests job bad l) r && sameList m l
 
-abbrev measureHolds : List ℕ → ℕ → ℕ → List ℕ → Answer → Bool
-measureHolds job lw bw l (Total t) = passes (measureTests job lw bw l) && eqb t (totalOf job lw bw l)
-measureHolds job lw bw l End = false
-measureHolds job lw bw l (Refused r) = refuses (measureTests job lw bw l) r
+abbrev measureHolds : List ℕ → Badness → List ℕ → Answer → Bool
+measureHolds job bad l (Total t) = passes (measureTests job (badnessTest job bad) l) && eqb t (totalOf job bad l)
+measureHolds job bad l End = false
+measureHolds job bad l (Refused r) = refuses (measureTests job (badnessTest job bad) l) r
 
 -- k layouts that follow f 0
 abbrev followTest : Problem → ((ℕ → ℕ) → Bool) → (ℕ → ℕ → ℕ) → ℕ → Bool
@@ -74,21 +74,21 @@ pageTest p counts given l k m =
     (leb (k * p .board .pads) (length l) && followTest p counts (inTurn (p .board .pads) given m) k)
     && ((ltb (length l) (suc k * p .board .pads) || lastTest p counts (inTurn (p .board .pads) given m k)) && sameRest (k * p .board .pads) l m)
 
-abbrev pageHolds : List ℕ → ℕ → ℕ → List ℕ → List ℕ → Paged → List ℕ → Bool
-pageHolds job lw bw given l (Wrote k) m =
-    passes (nextTests job lw bw given) && pageTest (labelingOf job lw bw) (untouchingTest (boardOf job)) given l k m
-pageHolds job lw bw given l (NotPaged r) m = refuses (nextTests job lw bw given) r && sameList m l
+abbrev pageHolds : List ℕ → Badness → List ℕ → List ℕ → Paged → List ℕ → Bool
+pageHolds job bad given l (Wrote k) m =
+    passes (nextTests job bad given) && pageTest (labelingOf job bad) (untouchingTest (boardOf job)) given l k m
+pageHolds job bad given l (NotPaged r) m = refuses (nextTests job bad given) r && sameList m l
 
 abbrev holdsFor : Call → Sheet → Bool
-holdsFor First s = firstHolds (s .job) (s .lw) (s .bw) (s .before) (s .answer) (s .after)
-holdsFor Next s = nextHolds (s .job) (s .lw) (s .bw) (s .before) (s .answer) (s .after)
-holdsFor Measure s = measureHolds (s .job) (s .lw) (s .bw) (s .before) (s .answer) && sameList (s .after) (s .before)
+holdsFor First s = firstHolds (s .job) (s .bad) (s .before) (s .answer) (s .after)
+holdsFor Next s = nextHolds (s .job) (s .bad) (s .before) (s .answer) (s .after)
+holdsFor Measure s = measureHolds (s .job) (s .bad) (s .before) (s .answer) && sameList (s .after) (s .before)
 
 abbrev holds : Sheet → Bool
 holds s = holdsFor (s .call) s
 
 abbrev pageSheetHolds : PageSheet → Bool
-pageSheetHolds s = pageHolds (s .job) (s .lw) (s .bw) (s .given) (s .before) (s .answer) (s .after)
+pageSheetHolds s = pageHolds (s .job) (s .bad) (s .given) (s .before) (s .answer) (s .after)
 
 abbrev allHold : {S : Type 0} → (S → Bool) → List S → Bool
 allHold test [] = true
@@ -111,55 +111,55 @@ same-rest n l m t =
     at : (o : List ℕ) (k : ℕ) → n ≤ k → getD (drop n o) (k - n) 0 ≡ getD o k 0
     at o k h = let d : n + (k - n) ≡ k = omega arith in rw d at (getD-drop n o (k - n) 0)
 
-module _ (job : List ℕ) (lw bw : ℕ) (l : List ℕ) where
+module _ (job : List ℕ) (bad : Badness) (l : List ℕ) where
   abbrev b : Board
   b = boardOf job
 
   abbrev p : Problem
-  p = labelingOf job lw bw
+  p = labelingOf job bad
 
   abbrev counts : (ℕ → ℕ) → Bool
   counts = untouchingTest b
 
   abbrev searchable : Differ b → Searchable p
-  searchable = labeling-searchable b (weighted b lw bw)
+  searchable = labeling-searchable b (costOf b bad)
 
-  first-holds : (a : Answer) (m : List ℕ) → T (firstHolds job lw bw l a m) → FirstAnswers job lw bw l a m
+  first-holds : (a : Answer) (m : List ℕ) → T (firstHolds job bad l a m) → FirstAnswers job bad l a m
   first-holds (Total t) m h =
-      let c = eqb t (totalOf job lw bw m) in
+      let c = eqb t (totalOf job bad m) in
       let d = sameRest (count job) l m in
       let e = firstTest p counts (held m) in
-      let u = both (passes (firstTests job lw bw (length l))) (e && (c && d)) .0 h in
+      let u = both (passes (firstTests job (badnessTest job bad) (length l))) (e && (c && d)) .0 h in
       let w = both e (c && d) .0 (u .1) in
       let x = both c d .0 (w .1) in
-      let q = tests-pass (firstTests job lw bw (length l)) (firstTrials job lw bw (length l)) (first-tests job lw bw (length l)) (u .0) in
-      let differ = first-accepted job lw bw (length l) q .0 .proper .differ in
-      (q, first-iff p (searchable differ) (held m) .0 (w .0), eqb→eq t (totalOf job lw bw m) (x .0), same-rest (count job) l m (x .1))
+      let q = tests-pass (firstTests job (badnessTest job bad) (length l)) (firstTrials job bad (length l)) (first-tests job bad (length l)) (u .0) in
+      let differ = first-accepted job bad (length l) q .0 .proper .differ in
+      (q, first-iff p (searchable differ) (held m) .0 (w .0), eqb→eq t (totalOf job bad m) (x .0), same-rest (count job) l m (x .1))
   first-holds End m h = absurd h
   first-holds (Refused r) m h =
-      let u = both (refuses (firstTests job lw bw (length l)) r) (sameList m l) .0 h in
-      let q = tests-refuse (firstTests job lw bw (length l)) (firstTrials job lw bw (length l)) r (first-tests job lw bw (length l)) (u .0) in
+      let u = both (refuses (firstTests job (badnessTest job bad) (length l)) r) (sameList m l) .0 h in
+      let q = tests-refuse (firstTests job (badnessTest job bad) (length l)) (firstTrials job bad (length l)) r (first-tests job bad (length l)) (u .0) in
       (q, same-list m l (u .1))
 
-  next-holds : (a : Answer) (m : List ℕ) → T (nextHolds job lw bw l a m) → NextAnswers job lw bw l a m
+  next-holds : (a : Answer) (m : List ℕ) → T (nextHolds job bad l a m) → NextAnswers job bad l a m
   next-holds (Total t) m h =
-      let c = eqb t (totalOf job lw bw m) in
+      let c = eqb t (totalOf job bad m) in
       let d = sameRest (count job) l m in
       let e = nextTest p counts (held l) (held m) in
-      let u = both (passes (nextTests job lw bw l)) (e && (c && d)) .0 h in
+      let u = both (passes (nextTests job bad l)) (e && (c && d)) .0 h in
       let w = both e (c && d) .0 (u .1) in
       let x = both c d .0 (w .1) in
-      let q = tests-pass (nextTests job lw bw l) (nextTrials job lw bw l) (next-tests job lw bw l) (u .0) in
-      (q, next-iff p (searchable (next-differ job lw bw l q)) (held l) (held m) .0 (w .0), eqb→eq t (totalOf job lw bw m) (x .0), same-rest (count job) l m (x .1))
+      let q = tests-pass (nextTests job bad l) (nextTrials job bad l) (next-tests job bad l) (u .0) in
+      (q, next-iff p (searchable (next-differ job bad l q)) (held l) (held m) .0 (w .0), eqb→eq t (totalOf job bad m) (x .0), same-rest (count job) l m (x .1))
   next-holds End m h =
       let e = lastTest p counts (held l) in
-      let u = both (passes (nextTests job lw bw l)) (e && sameList m l) .0 h in
+      let u = both (passes (nextTests job bad l)) (e && sameList m l) .0 h in
       let w = both e (sameList m l) .0 (u .1) in
-      let q = tests-pass (nextTests job lw bw l) (nextTrials job lw bw l) (next-tests job lw bw l) (u .0) in
-      (q, last-iff p (searchable (next-differ job lw bw l q)) (held l) .0 (w .0), same-list m l (w .1))
+      let q = tests-pass (nextTests job bad l) (nextTrials job bad l) (next-tests job bad l) (u .0) in
+      (q, last-iff p (searchable (next-differ job bad l q)) (held l) .0 (w .0), same-list m l (w .1))
   next-holds (Refused r) m h =
-      let u = both (refuses (nextTests job lw bw l) r) (sameList m l) .0 h in
-      (tests-refuse (nextTests job lw bw l) (nextTrials job lw bw l) r (next-tests job lw bw l) (u .0), same-list m l (u .1))
+      let u = both (refuses (nextTests job bad l) r) (sameList m l) .0 h in
+      (tests-refuse (nextTests job bad l) (nextTrials job bad l) r (next-tests job bad l) (u .0), same-list m l (u .1))
 
   module _ (differ : Differ b) where
     follow-told : (f : ℕ → ℕ → ℕ) (k : ℕ) → T (followTest p counts f k) → Follow p k f
@@ -184,32 +184,32 @@ module _ (job : List ℕ) (lw bw : ℕ) (l : List ℕ) where
           kept = same-rest (k * count job) before m (x .1);
         }
 
-  page-holds : (before : List ℕ) (a : Paged) (m : List ℕ) → T (pageHolds job lw bw l before a m) → PageAnswers job lw bw l before a m
+  page-holds : (before : List ℕ) (a : Paged) (m : List ℕ) → T (pageHolds job bad l before a m) → PageAnswers job bad l before a m
   page-holds before (Wrote k) m h =
-      let u = both (passes (nextTests job lw bw l)) (pageTest p counts l before k m) .0 h in
-      let q = tests-pass (nextTests job lw bw l) (nextTrials job lw bw l) (next-tests job lw bw l) (u .0) in
-      (q, page-told (next-differ job lw bw l q) before k m (u .1))
+      let u = both (passes (nextTests job bad l)) (pageTest p counts l before k m) .0 h in
+      let q = tests-pass (nextTests job bad l) (nextTrials job bad l) (next-tests job bad l) (u .0) in
+      (q, page-told (next-differ job bad l q) before k m (u .1))
   page-holds before (NotPaged r) m h =
-      let u = both (refuses (nextTests job lw bw l) r) (sameList m before) .0 h in
-      (tests-refuse (nextTests job lw bw l) (nextTrials job lw bw l) r (next-tests job lw bw l) (u .0), same-list m before (u .1))
+      let u = both (refuses (nextTests job bad l) r) (sameList m before) .0 h in
+      (tests-refuse (nextTests job bad l) (nextTrials job bad l) r (next-tests job bad l) (u .0), same-list m before (u .1))
 
-  measure-holds : (a : Answer) → T (measureHolds job lw bw l a) → MeasureAnswers job lw bw l a
+  measure-holds : (a : Answer) → T (measureHolds job bad l a) → MeasureAnswers job bad l a
   measure-holds (Total t) h =
-      let u = both (passes (measureTests job lw bw l)) (eqb t (totalOf job lw bw l)) .0 h in
-      (tests-pass (measureTests job lw bw l) (measureTrials job lw bw l) (measure-tests job lw bw l) (u .0), eqb→eq t (totalOf job lw bw l) (u .1))
+      let u = both (passes (measureTests job (badnessTest job bad) l)) (eqb t (totalOf job bad l)) .0 h in
+      (tests-pass (measureTests job (badnessTest job bad) l) (measureTrials job bad l) (measure-tests job bad l) (u .0), eqb→eq t (totalOf job bad l) (u .1))
   measure-holds End h = absurd h
-  measure-holds (Refused r) h = tests-refuse (measureTests job lw bw l) (measureTrials job lw bw l) r (measure-tests job lw bw l) h
+  measure-holds (Refused r) h = tests-refuse (measureTests job (badnessTest job bad) l) (measureTrials job bad l) r (measure-tests job bad l) h
 
 -- A sheet that passes its test is one that its call's promise allows.
 holds-allowed : (c : Call) (s : Sheet) → T (holdsFor c s) → AllowedBy c s
-holds-allowed First s h = (s .answer, first-holds (s .job) (s .lw) (s .bw) (s .before) (s .answer) (s .after) h, refl)
-holds-allowed Next s h = (s .answer, next-holds (s .job) (s .lw) (s .bw) (s .before) (s .answer) (s .after) h, refl)
+holds-allowed First s h = (s .answer, first-holds (s .job) (s .bad) (s .before) (s .answer) (s .after) h, refl)
+holds-allowed Next s h = (s .answer, next-holds (s .job) (s .bad) (s .before) (s .answer) (s .after) h, refl)
 holds-allowed Measure s h =
-    let u = both (measureHolds (s .job) (s .lw) (s .bw) (s .before) (s .answer)) (sameList (s .after) (s .before)) .0 h in
-    ((s .answer, measure-holds (s .job) (s .lw) (s .bw) (s .before) (s .answer) (u .0), refl), same-list (s .after) (s .before) (u .1))
+    let u = both (measureHolds (s .job) (s .bad) (s .before) (s .answer)) (sameList (s .after) (s .before)) .0 h in
+    ((s .answer, measure-holds (s .job) (s .bad) (s .before) (s .answer) (u .0), refl), same-list (s .after) (s .before) (u .1))
 
 page-allowed : (s : PageSheet) → T (pageSheetHolds s) → PageAllowed s
-page-allowed s h = (s .answer, page-holds (s .job) (s .lw) (s .bw) (s .given) (s .before) (s .answer) (s .after) h, refl)
+page-allowed s h = (s .answer, page-holds (s .job) (s .bad) (s .given) (s .before) (s .answer) (s .after) h, refl)
 
 all-allowed : {S : Type 0} (test : S → Bool) (P : S → Type 0) → ((s : S) → T (test s) → P s) → (ss : List S) → T (allHold test ss) → Each P ss
 all-allowed test P says [] h = tt

@@ -1,9 +1,15 @@
--- `print::laid_out` meets its contract. Assumes nothing.
+-- `printed::laid_out` meets its contract. Assumes nothing.
 use denote.Ref.{now}
 use borrow.Author.Needs.{needs}
 use Rattle.printed.specs.Lines.{bends-are, sheet-written}
 use Rattle.printed.proofs.laid_out.Statement.{statement}
 use Rattle.printed.proofs.laid_out.Tie as tie
+
+array-share-prefix-none : tie.Need-array-share-prefix-none
+array-share-prefix-none c = search needs
+
+slice-aggregate-total : tie.Need-slice-aggregate-total
+slice-aggregate-total c = search needs
 
 total-requires : tie.Need-total-requires
 total-requires c κs = search needs
@@ -33,10 +39,10 @@ returns c =
     let w = f0 .before .before .before .before in
     let l = w .before .before .before .before .before in
     let t = l .before .before in
-    let s = t .before .before .before .before in
+    let s = t .before .before .before .before .before in
     let job = now (s .args .job) in
     let list = now (s .args .list) in (
-      sheet-written job list (s .pre .1) (bends-are job list (t .total .result) (t .total .ensures .0))
+      sheet-written job list (s .pre .1) (bends-are job list (t .total .result) (t .total .ensures))
           (l .lines .ensures .0) (w .word .ensures) (f0 .field .ensures .0) (f1 .field2 .ensures .0),
       search needs,
     )
@@ -45,6 +51,8 @@ pub laid-out-spec : {M : Type 1} → statement M
 laid-out-spec =
     tie.close
     (tie.spec
+    array-share-prefix-none
+    slice-aggregate-total
     total-requires
     lines-requires
     slice-aggregate-word

@@ -1,4 +1,4 @@
--- `print::line` meets its contract. Assumes nothing.
+-- `printed::line` meets its contract. Assumes nothing.
 use denote.Ref.{now}
 use borrow.Author.Needs.{needs}
 use Rattle.printed.specs.Lines.{dummy-line, named-line}

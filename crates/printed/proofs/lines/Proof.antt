@@ -1,4 +1,4 @@
--- `print::lines` meets its contract: the lines so far are written. Assumes nothing.
+-- `printed::lines` meets its contract: the lines so far are written. Assumes nothing.
 use Prim.Native.Nat.{_*_, _-_, _≤_, _<_}
 use mathlib.Core.Path.{_≡_}
 use native.Mathlib.Omega.{arith}
@@ -8,6 +8,7 @@ use Rattle.paper.specs.Job.{count}
 use Rattle.text.specs.Text.{Writes}
 use Rattle.text.specs.Writing.{writes-length}
 use Rattle.printed.specs.Printed.{lines}
+use Rattle.paper.specs.Layouts.{byWeights}
 use Rattle.paper.specs.laws.Accepted.{measure-facts, measure-entries}
 use Rattle.printed.specs.Lines.{lines-none, lines-more}
 use Rattle.printed.proofs.lines.Statement.{statement}
@@ -20,7 +21,7 @@ abbrev μ-loop : tie.MeasureT-loop
 μ-loop job list out₀ n at₀ i₀ out at i = n - i
 
 records-requires : tie.Need-records-requires Inv-loop μ-loop
-records-requires c κs = let s = c .before .before .before in omega (arith, measure-facts (now (s .args .job)) 0 1 (now (s .args .list)) (s .pre .0) .0 .size)
+records-requires c κs = let s = c .before .before .before in omega (arith, measure-facts (now (s .args .job)) (byWeights 0 1) (now (s .args .list)) (s .pre .0) .0 .size)
 
 loop-holds : tie.Need-loop-holds Inv-loop μ-loop
 loop-holds c = (omega arith, omega arith, lines-none _ _ _)
@@ -34,7 +35,7 @@ mul-line c = search needs
 shared-slice-read-line : tie.Need-shared-slice-read-line Inv-loop μ-loop
 shared-slice-read-line c =
     let s = c .before .before .before .before .before .before .before in
-    omega (arith, measure-facts (now (s .args .job)) 0 1 (now (s .args .list)) (s .pre .0) .3)
+    omega (arith, measure-facts (now (s .args .job)) (byWeights 0 1) (now (s .args .list)) (s .pre .0) .2)
 
 line-requires : tie.Need-line-requires Inv-loop μ-loop
 line-requires c κs =
@@ -42,8 +43,8 @@ line-requires c κs =
     let s = at .before .before .before .before .before in
     let h : at .loop .i < count (now (s .args .job)) = omega arith in (
       h,
-      measure-entries (now (s .args .job)) 0 1 (now (s .args .list)) (s .pre .0) (at .loop .i) h,
-      omega (arith, measure-facts (now (s .args .job)) 0 1 (now (s .args .list)) (s .pre .0) .0 .few, writes-length (at .loop .inv .2)),
+      measure-entries (now (s .args .job)) (byWeights 0 1) (now (s .args .list)) (s .pre .0) (at .loop .i) h,
+      omega (arith, measure-facts (now (s .args .job)) (byWeights 0 1) (now (s .args .list)) (s .pre .0) .0 .few, writes-length (at .loop .inv .2)),
     )
 
 add-i : tie.Need-add-i Inv-loop μ-loop
@@ -65,7 +66,7 @@ returns : tie.Need-returns Inv-loop μ-loop
 returns c =
     let s = c .before .before .before .before .before .before in
     let done : c .before .loop .i ≡ count (now (s .args .job)) = omega arith in
-    (rw done at (c .before .loop .inv .2), omega (arith, measure-facts (now (s .args .job)) 0 1 (now (s .args .list)) (s .pre .0) .0 .few))
+    (rw done at (c .before .loop .inv .2), omega (arith, measure-facts (now (s .args .job)) (byWeights 0 1) (now (s .args .list)) (s .pre .0) .0 .few))
 
 pub lines-spec : {M : Type 1} → statement M
 lines-spec =

@@ -1,4 +1,4 @@
--- `print::refused` meets its contract. Assumes nothing.
+-- `printed::refused` meets its contract. Assumes nothing.
 use borrow.Author.Needs.{needs}
 use Rattle.text.specs.Writing.{writes-then}
 use Rattle.printed.proofs.refused.Statement.{statement}

@@ -1,4 +1,4 @@
--- `print::sheet` meets its contract. Assumes nothing.
+-- `printed::sheet` meets its contract. Assumes nothing.
 use mathlib.Core.Path.{_≡_, sym}
 use mathlib.Core.List.{List}
 use Prim.Native.Nat.{ℕ, _≤_}

@@ -66,23 +66,29 @@ array-read-run-on-2 c = search needs
 array-read-run-on-3 : tie.Need-array-read-run-on-3
 array-read-run-on-3 c = search needs
 
-array-share-prefix-words : tie.Need-array-share-prefix-words
-array-share-prefix-words c = search needs
+array-share-prefix-args : tie.Need-array-share-prefix-args
+array-share-prefix-args c = search needs
 
 slice-aggregate-run-on : tie.Need-slice-aggregate-run-on
 slice-aggregate-run-on c = search needs
 
-array-share-prefix-entries : tie.Need-array-share-prefix-entries
-array-share-prefix-entries c = search needs
+array-share-prefix-words : tie.Need-array-share-prefix-words
+array-share-prefix-words c = search needs
 
 slice-aggregate-run-on-2 : tie.Need-slice-aggregate-run-on-2
 slice-aggregate-run-on-2 c = search needs
+
+array-share-prefix-entries : tie.Need-array-share-prefix-entries
+array-share-prefix-entries c = search needs
+
+slice-aggregate-run-on-3 : tie.Need-slice-aggregate-run-on-3
+slice-aggregate-run-on-3 c = search needs
 
 run-on-requires : tie.Need-run-on-requires
 run-on-requires c κs = search needs
 
 returns : tie.Need-returns
-returns c = (on (c .before .before .before .before .before .before .before .before), search needs)
+returns c = (on (c .before .before .before .before .before .before .before .before .before), search needs)
 
 pub case-spec : {M : Type 1} → statement M
 case-spec =
@@ -105,9 +111,11 @@ case-spec =
     array-read-run-on
     array-read-run-on-2
     array-read-run-on-3
-    array-share-prefix-words
+    array-share-prefix-args
     slice-aggregate-run-on
-    array-share-prefix-entries
+    array-share-prefix-words
     slice-aggregate-run-on-2
+    array-share-prefix-entries
+    slice-aggregate-run-on-3
     run-on-requires
     returns)

@@ -14,9 +14,6 @@ bad-size-requires c κs = search needs
 try-whole-requires : tie.Need-try-whole-requires
 try-whole-requires c κs = search needs
 
-bad-weight-requires : tie.Need-bad-weight-requires
-bad-weight-requires c κs = search needs
-
 try-whole-requires-2 : tie.Need-try-whole-requires-2
 try-whole-requires-2 c κs = search needs
 
@@ -26,11 +23,11 @@ try-whole-requires-3 c κs = search needs
 of-job-requires : tie.Need-of-job-requires
 of-job-requires c κs =
     λ sound.
-    let bad = c .before .before .before .before .bad-size in
+    let bad = c .before .before .before .bad-size in
     let s2 = was-sound _ _ _ (c .try-whole3 .ensures) sound .0 in
     let s1 = was-sound _ _ _ (c .before .try-whole2 .ensures) s2 .0 in
-    let none = was-sound Sound _ (atWhole 1 (bad .result)) (c .before .before .before .try-whole .ensures) s1 .1 in
-    size-le (now (c .before .before .before .before .before .before .args .job)) (sym (bad .ensures) ∙ whole-false 1 (bad .result) none)
+    let none = was-sound Sound _ (atWhole 1 (bad .result)) (c .before .before .try-whole .ensures) s1 .1 in
+    size-le (now (c .before .before .before .before .before .args .job)) (sym (bad .ensures) ∙ whole-false 1 (bad .result) none)
 
 returns : tie.Need-returns
 unfolding firstTests
@@ -39,9 +36,8 @@ returns c =
       c .of-job .ensures,
       c .before .try-whole3 .ensures,
       c .before .before .try-whole2 .ensures,
-      c .before .before .before .bad-weight .ensures,
-      c .before .before .before .before .try-whole .ensures,
-      c .before .before .before .before .before .bad-size .ensures,
+      c .before .before .before .try-whole .ensures,
+      c .before .before .before .before .bad-size .ensures,
     )
 
 pub of-first-spec : {M : Type 1} → statement M
@@ -50,7 +46,6 @@ of-first-spec =
     (tie.spec
     bad-size-requires
     try-whole-requires
-    bad-weight-requires
     try-whole-requires-2
     try-whole-requires-3
     of-job-requires

@@ -1,9 +1,8 @@
 -- `checks::verdicts::of_measure` meets its contract. Assumes nothing.
 use mathlib.Core.Path.{sym, _∙_}
 use Rattle.paper.specs.laws.Tests.{measureTests}
-use Rattle.paper.specs.laws.Accepted.{first-accepted}
-use Rattle.checks.specs.Verdicts.{after-append}
-use Rattle.checks.specs.Judged.{first-judged, judged-sound}
+use Rattle.checks.specs.Verdicts.{givenTest, after-append}
+use Rattle.checks.specs.Sound.{first-sized}
 use denote.Ref.{now}
 use lib.ListN.{length}
 use borrow.Author.Needs.{needs}
@@ -17,9 +16,7 @@ of-layout-requires : tie.Need-of-layout-requires
 of-layout-requires c κs =
     λ sound.
     let a = c .before .before .before .args in
-    let j = first-judged (now (a .job)) (a .lw) (a .bw) (length (now (a .list))) in
-    let ok = first-accepted (now (a .job)) (a .lw) (a .bw) (length (now (a .list))) (judged-sound _ _ j (sym (c .of-first .ensures) ∙ sound)) in
-    (ok .0 .size, ok .3)
+    first-sized (now (a .job)) (givenTest (a .given)) (length (now (a .list))) (sym (c .of-first .ensures) ∙ sound)
 
 returns : tie.Need-returns
 unfolding measureTests

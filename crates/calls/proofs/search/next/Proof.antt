@@ -1,16 +1,17 @@
--- `calls::step` meets its contract. Assumes nothing.
+-- `calls::search::next` meets its contract. Assumes nothing.
 use denote.Ref.{now}
 use borrow.Author.Needs.{needs}
+use Rattle.paper.specs.Layouts.{byTable}
 use Rattle.paper.specs.laws.Accepted.{measure-accepted, measure-facts}
 use Rattle.calls.proofs.Facts.{total-answers, end-answers, not-best-answers}
-use Rattle.calls.proofs.step.Statement.{statement}
-use Rattle.calls.proofs.step.Tie as tie
+use Rattle.calls.proofs.search.next.Statement.{statement}
+use Rattle.calls.proofs.search.next.Tie as tie
 
 next-on-requires : tie.Need-next-on-requires
 next-on-requires c κs =
-    let s = c .before .before .before in
+    let s = c .before .before .before .before in
     let a = s .args in
-    (measure-facts (now (a .job)) (a .lw) (a .bw) (now (a .list)) (s .pre), measure-accepted (now (a .job)) (a .lw) (a .bw) (now (a .list)) (s .pre) .1)
+    (measure-facts (now (a .job)) (byTable (now (a .figures))) (now (a .list)) (s .pre), measure-accepted (now (a .job)) (byTable (now (a .figures))) (now (a .list)) (s .pre) .1)
 
 enum-known-s : tie.Need-enum-known-s
 enum-known-s c = search needs
@@ -30,9 +31,9 @@ same-length c = search needs
 returns : tie.Need-returns
 returns c =
     let d = c .before .before .before .before .before in
-    let s = d .before .before .before .before in
+    let s = d .before .before .before .before .before in
     let a = s .args in
-    total-answers (now (a .job)) (a .lw) (a .bw) (now (a .list)) (s .pre) (d .next-on .last .1 .1 .1 .0) (c .before .s .given .0 .0)
+    total-answers (now (a .job)) (byTable (now (a .figures))) (now (a .list)) (s .pre) (d .next-on .last .1 .1 .0) (c .before .s .given .0 .0)
     (rw (c .before .s .given .1) at (d .next-on .ensures))
 
 same-length-2 : tie.Need-same-length-2
@@ -41,9 +42,9 @@ same-length-2 c = search needs
 returns-2 : tie.Need-returns-2
 returns-2 c =
     let d = c .before .before .before .before in
-    let s = d .before .before .before .before in
+    let s = d .before .before .before .before .before in
     let a = s .args in
-    end-answers (now (a .job)) (a .lw) (a .bw) (now (a .list)) (s .pre) (d .next-on .last .1 .1 .1 .0) (rw (c .enum-told .given .1) at (d .next-on .ensures))
+    end-answers (now (a .job)) (byTable (now (a .figures))) (now (a .list)) (s .pre) (d .next-on .last .1 .1 .0) (rw (c .enum-told .given .1) at (d .next-on .ensures))
 
 same-length-3 : tie.Need-same-length-3
 same-length-3 c = search needs
@@ -51,13 +52,13 @@ same-length-3 c = search needs
 returns-3 : tie.Need-returns-3
 returns-3 c =
     let d = c .before .before .before .before .before in
-    let s = d .before .before .before .before in
+    let s = d .before .before .before .before .before in
     let a = s .args in
     let told = rw (c .before .enum-told2 .given .1) at (d .next-on .ensures) in
-    rw (c .not-best .ensures) (not-best-answers (now (a .job)) (a .lw) (a .bw) (now (a .list)) (s .pre) (d .next-on .last .1 .1 .1 .0) told)
+    rw (c .not-best .ensures) (not-best-answers (now (a .job)) (byTable (now (a .figures))) (now (a .list)) (s .pre) (d .next-on .last .1 .1 .0) told)
 
-pub step-spec : {M : Type 1} → statement M
-step-spec =
+pub next-spec : {M : Type 1} → statement M
+next-spec =
     tie.close
     (tie.spec
     next-on-requires

@@ -1,4 +1,4 @@
--- `board::weigh_row` meets its contract: the first q places of row j are written. Assumes nothing.
+-- `weights::fill_row` meets its contract: the first q places of row j are written. Assumes nothing.
 use Prim.Native.Nat.{_+_, _-_, _*_, _≤_, _<_}
 use mathlib.Core.Path.{_≡_, _∙_, sym, ap}
 use native.Mathlib.Nat.{mul-le-mul}
@@ -6,17 +6,17 @@ use native.Mathlib.Omega.{arith}
 use Rattle.numbers.specs.Filled.{filled-to, place-in}
 use Rattle.paper.specs.Job.{count}
 use Rattle.paper.specs.Layouts.{boardOf, weighted}
-use Rattle.board.specs.Lists.{Weighed}
-use Rattle.board.proofs.Costs.{weighed-more, row-end}
-use Rattle.board.proofs.weigh_row.Statement.{statement}
-use Rattle.board.proofs.weigh_row.Tie as tie
+use Rattle.weights.specs.Rows.{FilledTo}
+use Rattle.weights.proofs.Rows.{filled-place, row-end}
+use Rattle.weights.proofs.fill_row.Statement.{statement}
+use Rattle.weights.proofs.fill_row.Tie as tie
 
 abbrev Inv-loop : tie.InvT-loop
-Inv-loop job lw bw cost₀ j n row q₀ cost q =
-    (q ≤ count job) × (row ≡ j * count job) × Weighed (boardOf job) (weighted (boardOf job) lw bw) cost (j * count job + q)
+Inv-loop job lw bw figures₀ j n row q₀ figures q =
+    (q ≤ count job) × (row ≡ j * count job) × FilledTo (boardOf job) (weighted (boardOf job) lw bw) figures (j * count job + q)
 
 abbrev μ-loop : tie.MeasureT-loop
-μ-loop job lw bw cost₀ j n row q₀ cost q = n - q
+μ-loop job lw bw figures₀ j n row q₀ figures q = n - q
 
 records-requires : tie.Need-records-requires Inv-loop μ-loop
 records-requires c κs = omega (arith, c .before .before .pre .0 .0 .size)
@@ -45,20 +45,20 @@ inside : (c : tie.In-loop Inv-loop μ-loop) → c .before .loop .q < count (begi
 inside c = omega arith
 
 -- either weight is in range: which one is which is left to the cost
-cost-requires : tie.Need-cost-requires Inv-loop μ-loop
-cost-requires c κs = let s = begin (c .before .before) .pre .0 in (s .0, omega (arith, s .1, s .2), omega (arith, s .1, s .2), s .3, inside c)
+weighted-requires : tie.Need-weighted-requires Inv-loop μ-loop
+weighted-requires c κs = let s = begin (c .before .before) .pre .0 in (s .0, omega (arith, s .1, s .2), omega (arith, s .1, s .2), s .3, inside c)
 
-cast-cost : tie.Need-cast-cost Inv-loop μ-loop
-cast-cost c = omega arith
+cast-figures : tie.Need-cast-figures Inv-loop μ-loop
+cast-figures c = omega arith
 
-add-cost : tie.Need-add-cost Inv-loop μ-loop
-add-cost c = omega (arith, low (c .before .before .before))
+add-figures : tie.Need-add-figures Inv-loop μ-loop
+add-figures c = omega (arith, low (c .before .before .before))
 
-mul-cost : tie.Need-mul-cost Inv-loop μ-loop
-mul-cost c = omega (arith, low (c .before .before .before))
+mul-figures : tie.Need-mul-figures Inv-loop μ-loop
+mul-figures c = omega (arith, low (c .before .before .before))
 
-slice-write-cost : tie.Need-slice-write-cost Inv-loop μ-loop
-slice-write-cost c =
+slice-write-figures : tie.Need-slice-write-figures Inv-loop μ-loop
+slice-write-figures c =
     let l = c .before .before .loop in
     let s = begin (c .before .before .before) in
     let n = count (s .args .job .now) in
@@ -75,8 +75,8 @@ loop-again c =
     let l = c .before .before .loop in
     let s = begin (c .before .before .before) in
     let b = boardOf (s .args .job .now) in
-    let more = weighed-more b (weighted b (s .args .lw) (s .args .bw)) (l .cost) (s .args .j) (l .q) (c .cost .result)
-    (s .pre .0 .3) (inside (c .before)) (l .inv .2) (c .cost .ensures .0) in
+    let more = filled-place b (weighted b (s .args .lw) (s .args .bw)) (l .figures) (s .args .j) (l .q) (c .weighted .result)
+    (s .pre .0 .3) (inside (c .before)) (l .inv .2) (c .weighted .ensures) in
     (omega (arith, inside (c .before)), l .inv .1, rw (l .inv .1) more)
 
 same-length : tie.Need-same-length Inv-loop μ-loop
@@ -88,8 +88,8 @@ returns c =
     let s = begin (c .before .before) .args in
     filled-to (row-end (s .j) (count (s .job .now)) (l .q) (omega arith)) (l .inv .2)
 
-pub weigh-row-spec : {M : Type 1} → statement M
-weigh-row-spec =
+pub fill-row-spec : {M : Type 1} → statement M
+fill-row-spec =
     tie.close
     (tie.spec
     Inv-loop
@@ -98,11 +98,11 @@ weigh-row-spec =
     cast-row
     mul-row
     loop-holds
-    cost-requires
-    cast-cost
-    add-cost
-    mul-cost
-    slice-write-cost
+    weighted-requires
+    cast-figures
+    add-figures
+    mul-figures
+    slice-write-figures
     add-q
     loop-less
     loop-again

@@ -1,4 +1,4 @@
--- The laws of the costs of a board, as they are written row by row.
+-- The laws of a table as it is filled row by row.
 use mathlib.Core.Path.{_≡_, refl, ap}
 use mathlib.Core.List.{List}
 use Prim.Native.Nat.{ℕ, _+_, _*_, _<_}
@@ -8,8 +8,8 @@ use native.Mathlib.Decide.{decLt}
 use native.Mathlib.Omega.{arith}
 use lib.ListN.{set}
 use Rattle.numbers.specs.Filled.{filled-more, filled-to, place-in}
-use Rattle.paper.specs.Layouts.{Board}
-use Rattle.board.specs.Lists.{Weighed, CostsOf}
+use Rattle.paper.specs.Layouts.{Board, TableOf}
+use Rattle.weights.specs.Rows.{FilledTo}
 
 -- The end of row j is the start of the next.
 pub row-end : (j p q : ℕ) → q ≡ p → j * p + q ≡ (j + 1) * p
@@ -25,9 +25,9 @@ place-pad p i r j q h l e = go (decLt i j) (decLt j i)
     go (no d) (no f) = omega arith
 
 -- A store writes the cost of pad j with port q.
-pub weighed-more : (b : Board) (cost : ℕ → ℕ → ℕ) (cs : List ℕ) (j q v : ℕ) → j < b .pads → q < b .ports → Weighed b cost cs (j * b .ports + q)
-    → v ≡ cost j q → Weighed b cost (set cs (j * b .ports + q) v) (j * b .ports + (q + 1))
-weighed-more b cost cs j q v h l W e = filled-to (omega arith) (filled-more (place-in (b .pads) (b .ports) j q h l) W v here)
+pub filled-place : (b : Board) (cost : ℕ → ℕ → ℕ) (cs : List ℕ) (j q v : ℕ) → j < b .pads → q < b .ports → FilledTo b cost cs (j * b .ports + q)
+    → v ≡ cost j q → FilledTo b cost (set cs (j * b .ports + q) v) (j * b .ports + (q + 1))
+filled-place b cost cs j q v h l W e = filled-to (omega arith) (filled-more (place-in (b .pads) (b .ports) j q h l) W v here)
   where
     here : (i r : ℕ) → r < b .ports → j * b .ports + q ≡ i * b .ports + r → v ≡ cost i r
     here i r k d =
@@ -35,6 +35,6 @@ weighed-more b cost cs j q v h l W e = filled-to (omega arith) (filled-more (pla
         let u : q ≡ r = omega (arith, ap (λ (m : ℕ). m * b .ports) t) in
         rw (← t, ← u) e
 
--- When all are written, these are the costs.
-pub costs-of : {b : Board} {cost : ℕ → ℕ → ℕ} {cs : List ℕ} → Weighed b cost cs (b .pads * b .ports) → CostsOf b cost cs
-costs-of {b} W = record { square = W .long; at = λ j q h l. W .at (j * b .ports + q) (place-in (b .pads) (b .ports) j q h l) j q l refl }
+-- When all are written, that is the table.
+pub table-of : {b : Board} {cost : ℕ → ℕ → ℕ} {cs : List ℕ} → FilledTo b cost cs (b .pads * b .ports) → TableOf b cost cs
+table-of {b} W = record { long = W .long; at = λ j q h l. W .at (j * b .ports + q) (place-in (b .pads) (b .ports) j q h l) j q l refl }

@@ -1,20 +1,20 @@
--- `board::weigh` meets its contract: the first j rows are written. Assumes nothing.
+-- `weights::fill` meets its contract: the first j rows are written. Assumes nothing.
 use mathlib.Core.Path.{_≡_, _∙_, sym, ap}
 use Prim.Native.Nat.{ℕ, _-_, _*_, _≤_}
 use native.Mathlib.Omega.{arith}
 use Rattle.numbers.specs.Filled.{filled-none, filled-to}
 use Rattle.paper.specs.Job.{count}
 use Rattle.paper.specs.Layouts.{boardOf, weighted}
-use Rattle.board.specs.Lists.{Weighed}
-use Rattle.board.proofs.Costs.{costs-of}
-use Rattle.board.proofs.weigh.Statement.{statement}
-use Rattle.board.proofs.weigh.Tie as tie
+use Rattle.weights.specs.Rows.{FilledTo}
+use Rattle.weights.proofs.Rows.{table-of}
+use Rattle.weights.proofs.fill.Statement.{statement}
+use Rattle.weights.proofs.fill.Tie as tie
 
 abbrev Inv-loop : tie.InvT-loop
-Inv-loop job lw bw cost₀ n j₀ cost j = (j ≤ count job) × Weighed (boardOf job) (weighted (boardOf job) lw bw) cost (j * count job)
+Inv-loop job lw bw figures₀ n j₀ figures j = (j ≤ count job) × FilledTo (boardOf job) (weighted (boardOf job) lw bw) figures (j * count job)
 
 abbrev μ-loop : tie.MeasureT-loop
-μ-loop job lw bw cost₀ n j₀ cost j = n - j
+μ-loop job lw bw figures₀ n j₀ figures j = n - j
 
 abbrev begin : tie.At-loop Inv-loop μ-loop → tie.Start Inv-loop μ-loop
 begin c = c .before .before .before .before
@@ -25,8 +25,8 @@ records-requires c κs = omega (arith, c .before .before .pre .0 .size)
 loop-holds : tie.Need-loop-holds Inv-loop μ-loop
 loop-holds c = (omega arith, filled-to (omega arith) (filled-none (c .before .before .before .pre .3)))
 
-weigh-row-requires : tie.Need-weigh-row-requires Inv-loop μ-loop
-weigh-row-requires c κs =
+fill-row-requires : tie.Need-fill-row-requires Inv-loop μ-loop
+fill-row-requires c κs =
     let s = begin (c .before .before) .pre in
     ((s .0, s .1, s .2, omega arith), c .before .before .loop .inv .1)
 
@@ -37,7 +37,7 @@ loop-less : tie.Need-loop-less Inv-loop μ-loop
 loop-less c = omega arith
 
 loop-again : tie.Need-loop-again Inv-loop μ-loop
-loop-again c = (omega arith, c .before .before .weigh-row .ensures)
+loop-again c = (omega arith, c .before .before .fill-row .ensures)
 
 same-length : tie.Need-same-length Inv-loop μ-loop
 same-length c = c .before .loop .inv .1 .long ∙ sym (begin (c .before) .pre .3)
@@ -47,17 +47,17 @@ returns c =
     let l = c .before .loop in
     let n = count (begin (c .before) .args .job .now) in
     let e : l .j ≡ n = omega arith in
-    costs-of (filled-to (ap (λ (k : ℕ). k * n) e) (l .inv .1))
+    table-of (filled-to (ap (λ (k : ℕ). k * n) e) (l .inv .1))
 
-pub weigh-spec : {M : Type 1} → statement M
-weigh-spec =
+pub fill-spec : {M : Type 1} → statement M
+fill-spec =
     tie.close
     (tie.spec
     Inv-loop
     μ-loop
     records-requires
     loop-holds
-    weigh-row-requires
+    fill-row-requires
     add-j
     loop-less
     loop-again

@@ -1,0 +1,44 @@
+-- `calls::table::first` meets its contract. Assumes nothing.
+use mathlib.Core.Path.{refl}
+use denote.Ref.{now}
+use lib.ListN.{length}
+use borrow.Author.Needs.{needs}
+use Rattle.paper.specs.Layouts.{byTable}
+use Rattle.paper.specs.Refusals.{firstTrials}
+use Rattle.checks.specs.Judged.{Judged, judged-sound, judged-refused, first-judged}
+use Rattle.calls.proofs.table.first.Statement.{statement}
+use Rattle.calls.proofs.table.first.Tie as tie
+
+-- the verdict is the right one
+judged : (c : tie.After-of-first)
+    → let a = c .before .before .before .before .before .args in Judged (c .of-first .result) (firstTrials (now (a .job)) (byTable (now (a .figures))) (length (now (a .list))))
+judged c = let a = c .before .before .before .before .before .args in rw (c .of-first .ensures, c .before .of-table .ensures) (first-judged (now (a .job)) (byTable (now (a .figures))) (length (now (a .list))))
+
+of-table-requires : tie.Need-of-table-requires
+of-table-requires c κs = search needs
+
+of-first-requires : tie.Need-of-first-requires
+of-first-requires c κs = search needs
+
+enum-told : tie.Need-enum-told
+enum-told c = search needs
+
+first-requires : tie.Need-first-requires
+first-requires c κs = let told = c .before in judged-sound _ _ (judged (told .before .before)) (told .enum-told .given .1)
+
+enum-known-v : tie.Need-enum-known-v
+enum-known-v c = search needs
+
+same-length : tie.Need-same-length
+same-length c = search needs
+
+returns : tie.Need-returns
+returns c = search needs
+
+returns-2 : tie.Need-returns-2
+returns-2 c = (judged-refused _ _ _ (judged (c .before .before .before)) (c .before .v .given .1), refl)
+
+pub first-spec : {M : Type 1} → statement M
+first-spec =
+    tie.close
+    (tie.spec of-table-requires of-first-requires enum-told first-requires enum-known-v same-length returns returns-2)

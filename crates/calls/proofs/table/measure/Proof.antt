@@ -1,0 +1,39 @@
+-- `calls::table::measure` meets its contract. Assumes nothing.
+use denote.Ref.{now}
+use borrow.Author.Needs.{needs}
+use Rattle.paper.specs.Layouts.{byTable}
+use Rattle.paper.specs.Refusals.{measureTrials}
+use Rattle.checks.specs.Judged.{Judged, judged-sound, judged-refused, measure-judged}
+use Rattle.calls.proofs.table.measure.Statement.{statement}
+use Rattle.calls.proofs.table.measure.Tie as tie
+
+-- the verdict is the right one
+judged : (c : tie.After-of-measure)
+    → let a = c .before .before .before .before .before .args in Judged (c .of-measure .result) (measureTrials (now (a .job)) (byTable (now (a .figures))) (now (a .list)))
+judged c = let a = c .before .before .before .before .before .args in rw (c .of-measure .ensures, c .before .of-table .ensures) (measure-judged (now (a .job)) (byTable (now (a .figures))) (now (a .list)))
+
+of-table-requires : tie.Need-of-table-requires
+of-table-requires c κs = search needs
+
+of-measure-requires : tie.Need-of-measure-requires
+of-measure-requires c κs = search needs
+
+enum-told : tie.Need-enum-told
+enum-told c = search needs
+
+total-requires : tie.Need-total-requires
+total-requires c κs = let told = c in judged-sound _ _ (judged (told .before .before)) (told .enum-told .given .1)
+
+enum-known-v : tie.Need-enum-known-v
+enum-known-v c = search needs
+
+returns : tie.Need-returns
+returns c = let told = c .before in (judged-sound _ _ (judged (told .before .before)) (told .enum-told .given .1), c .total .ensures)
+
+returns-2 : tie.Need-returns-2
+returns-2 c = judged-refused _ _ _ (judged (c .before .before .before)) (c .before .v .given .1)
+
+pub measure-spec : {M : Type 1} → statement M
+measure-spec =
+    tie.close
+    (tie.spec of-table-requires of-measure-requires enum-told total-requires enum-known-v returns returns-2)

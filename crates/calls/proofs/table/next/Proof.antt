@@ -1,0 +1,50 @@
+-- `calls::table::next` meets its contract. Assumes nothing.
+use mathlib.Core.Path.{refl}
+use denote.Ref.{now}
+use borrow.Author.Needs.{needs}
+use Rattle.paper.specs.Layouts.{byTable}
+use Rattle.paper.specs.Refusals.{measureTrials}
+use Rattle.checks.specs.Judged.{Judged, judged-sound, judged-refused, measure-judged}
+use Rattle.paper.specs.laws.Accepted.{measure-refused}
+use Rattle.calls.proofs.table.next.Statement.{statement}
+use Rattle.calls.proofs.table.next.Tie as tie
+
+-- the verdict is the right one
+judged : (c : tie.After-of-measure)
+    → let a = c .before .before .before .before .before .before .args in Judged (c .of-measure .result) (measureTrials (now (a .job)) (byTable (now (a .figures))) (now (a .list)))
+judged c = let a = c .before .before .before .before .before .before .args in rw (c .of-measure .ensures, c .before .before .of-table .ensures) (measure-judged (now (a .job)) (byTable (now (a .figures))) (now (a .list)))
+
+of-table-requires : tie.Need-of-table-requires
+of-table-requires c κs = search needs
+
+of-measure-requires : tie.Need-of-measure-requires
+of-measure-requires c κs = search needs
+
+enum-told : tie.Need-enum-told
+enum-told c = search needs
+
+next-requires : tie.Need-next-requires
+next-requires c κs = let told = c .before in judged-sound _ _ (judged (told .before .before)) (told .enum-told .given .1)
+
+enum-known-v : tie.Need-enum-known-v
+enum-known-v c = search needs
+
+same-length : tie.Need-same-length
+same-length c = search needs
+
+returns : tie.Need-returns
+returns c = search needs
+
+same-length-2 : tie.Need-same-length-2
+same-length-2 c = search needs
+
+returns-2 : tie.Need-returns-2
+returns-2 c =
+    let v = c .before .before .before in
+    let a = v .before .before .before .before .before .before .args in
+    (measure-refused (now (a .job)) (byTable (now (a .figures))) (now (a .list)) _ (judged-refused _ _ _ (judged v) (c .before .v .given .1)), refl)
+
+pub next-spec : {M : Type 1} → statement M
+next-spec =
+    tie.close
+    (tie.spec of-table-requires of-measure-requires enum-told next-requires enum-known-v same-length returns same-length-2 returns-2)

@@ -1,0 +1,38 @@
+// The calls by a table of n × n figures, pad by pad, ports rising.
+use crate::search;
+use checks::Verdict;
+use checks::verdicts;
+use measure::Badness;
+use paper::Answer;
+ghost use Rattle.paper.specs.Layouts.{byTable};
+ghost use Rattle.paper.specs.Promises.{FirstAnswers, NextAnswers, MeasureAnswers};
+
+pub fn first(job: &[u8], figures: &[u32], list: &mut [u16]) -> Answer
+    ensures { λ r. ⌜ FirstAnswers (now (job .entry)) (byTable (now (figures .entry))) (now (list .entry)) r (now (list .exit)) ⌝ }
+{
+    let v = verdicts::of_first(job, verdicts::of_table(job, figures.len()), list.len());
+    match v {
+        Verdict::Sound => search::first(job, figures, list),
+        Verdict::Refused(r) => Answer::Refused(r),
+    }
+}
+
+pub fn next(job: &[u8], figures: &[u32], list: &mut [u16]) -> Answer
+    ensures { λ r. ⌜ NextAnswers (now (job .entry)) (byTable (now (figures .entry))) (now (list .entry)) r (now (list .exit)) ⌝ }
+{
+    let v = verdicts::of_measure(job, verdicts::of_table(job, figures.len()), list);
+    match v {
+        Verdict::Sound => search::next(job, figures, list),
+        Verdict::Refused(r) => Answer::Refused(r),
+    }
+}
+
+pub fn measure(job: &[u8], figures: &[u32], list: &[u16]) -> Answer
+    ensures { λ r. ⌜ MeasureAnswers (now (job .entry)) (byTable (now (figures .entry))) (now (list .entry)) r ⌝ }
+{
+    let v = verdicts::of_measure(job, verdicts::of_table(job, figures.len()), list);
+    match v {
+        Verdict::Sound => Answer::Total(measure::total(Badness::Table, job, figures, list)),
+        Verdict::Refused(r) => Answer::Refused(r),
+    }
+}

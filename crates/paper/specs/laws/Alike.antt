@@ -1,0 +1,206 @@
+-- CALLS THAT COST ALIKE ANSWER ALIKE. Weights and a table, or two tables, that give every pad with every port the same cost: the same replies, refusals and lists
+-- too. So the weighted calls are those on the table of weighted lengths and bends.
+--     first-by-table, next-by-table, page-by-table, measure-by-table;  table-of: there is such a table
+--     first-follows, measure-follows, first-on, next-on, page-on: from one to the other, for the code that searches by such a table
+use mathlib.Core.Path.{_≡_, sym, _∙_}
+use mathlib.Core.Logic.{inl, inr, ⊎-elim, _↔_}
+use mathlib.Core.List.{List, [], _∷_, _++_}
+use Prim.Native.Nat.{ℕ, _+_, _*_, _/_, _%_, _≤_, _<_}
+use native.Mathlib.Omega.{arith}
+use lib.Arith.{digits-div, digits-mod}
+use lib.ListN.{length}
+use lib.IntN.{ℤ}
+use Rattle.numbers.specs.Filled.{place-in}
+use Rattle.paper.specs.declared.Refusal.{Refusal}
+use Rattle.paper.specs.declared.Answer.{Answer}
+use Rattle.paper.specs.declared.Answer.the-variants.{Total, End, Refused}
+use Rattle.paper.specs.declared.Paged.{Paged}
+use Rattle.paper.specs.declared.Paged.the-variants.{Wrote, Refused as NotPaged}
+use Rattle.paper.specs.Job.{count}
+use Rattle.paper.specs.Layouts.{Board, boardOf, held, Layout, Untouching, Badness, byWeights, byTable, weighted, costOf, TableOf, total}
+use Rattle.paper.specs.Problem.{Problem, Best, FirstBest, NextBest, LastBest, labelingOf}
+use Rattle.paper.specs.Refusals.{Trial, Clean, Passed, RefusedBy, BadSize, jobTrials, layoutTrials, ofWhole, badnessTrial, bestTrial}
+use Rattle.paper.specs.Refusals.{firstTrials, measureTrials, nextTrials}
+use Rattle.paper.specs.Promises.{Following, FirstAnswers, NextAnswers, PageAnswers, MeasureAnswers, FirstPromise, NextPromise, PagePromise, MeasurePromise}
+use Rattle.paper.specs.laws.Totals.{sum-same}
+use Rattle.paper.specs.laws.Trying.{row, row-length, row-at}
+use Rattle.paper.specs.laws.Accepted.{Fair, fair-iff, measure-accepted}
+
+-- ---- problems
+
+-- On one board, with the same layouts that count, and the same values of those.
+module _ (b : Board) (Counts : (ℕ → ℕ) → Type 0) where
+  abbrev Valued : ((ℕ → ℕ) → ℕ) → Problem
+  Valued value = record { board = b; Counts = Counts; value = value }
+
+  abbrev SameValue : ((ℕ → ℕ) → ℕ) → ((ℕ → ℕ) → ℕ) → Type 0
+  SameValue v w = (f : ℕ → ℕ) → Counts f → v f ≡ w f
+
+  best-alike : (v w : (ℕ → ℕ) → ℕ) → SameValue v w → (f : ℕ → ℕ) → Best (Valued v) f → Best (Valued w) f
+  best-alike v w same f s = record { counts = s .counts; least = λ g u. omega (arith, s .least g u, same f (s .counts), same g u) }
+
+  module _ (v w : (ℕ → ℕ) → ℕ) (same : SameValue v w) where
+    back : (f : ℕ → ℕ) → Best (Valued w) f → Best (Valued v) f
+    back = best-alike w v (λ f c. sym (same f c))
+
+    first-best-alike : (f : ℕ → ℕ) → FirstBest (Valued v) f → FirstBest (Valued w) f
+    first-best-alike f s = record { best = best-alike v w same f (s .best); earliest = λ g t. s .earliest g (back g t) }
+
+    next-best-alike : (l f : ℕ → ℕ) → NextBest (Valued v) l f → NextBest (Valued w) l f
+    next-best-alike l f s = record { best = best-alike v w same f (s .best); later = s .later; earliest = λ g t. s .earliest g (back g t) }
+
+    last-best-alike : (l : ℕ → ℕ) → LastBest (Valued v) l → LastBest (Valued w) l
+    last-best-alike l s g t = s g (back g t)
+
+    following-alike : (given before : List ℕ) (k : ℕ) (after : List ℕ) → Following (Valued v) given before k after → Following (Valued w) given before k after
+    following-alike given before k after s = record {
+      fit = s .fit;
+      follow = λ j h. next-best-alike _ _ (s .follow j h);
+      all = ⊎-elim inl (λ l. inr (last-best-alike _ l)) (s .all);
+      kept = s .kept;
+    }
+
+-- Two costs of every pad with every port of a board, and the totals of a layout.
+abbrev pub SameCosts : Board → (ℕ → ℕ → ℕ) → (ℕ → ℕ → ℕ) → Type 0
+SameCosts b c d = (i q : ℕ) → i < b .pads → q < b .ports → c i q ≡ d i q
+
+total-alike : (b : Board) (c d : ℕ → ℕ → ℕ) → SameCosts b c d → (f : ℕ → ℕ) → Layout b f → total b c f ≡ total b d f
+total-alike b c d same f l = sum-same (b .pads) (λ i. c i (f i)) (λ i. d i (f i)) (λ i h. same i (f i) h (l .inside i h))
+
+-- ---- trials
+
+-- What passes the first trials passes the second, and what those refuse is refused so by these.
+abbrev Follows : List Trial → List Trial → Type 0
+Follows ts us = (Passed ts → Passed us) × ((r : Refusal) → RefusedBy ts r → RefusedBy us r)
+
+-- A trial before both; before both a trial that is clean; trials before both.
+after-same : (t : Trial) (ts us : List Trial) → Follows ts us → Follows (t ∷ ts) (t ∷ us)
+after-same t ts us f = ((λ p. (p .0, f .0 (p .1))), λ r. ⊎-elim inl (λ a. inr (a .0, f .1 r (a .1))))
+
+after-clean : (t u : Trial) (ts us : List Trial) → Clean t → Clean u → Follows ts us → Follows (t ∷ ts) (u ∷ us)
+after-clean t u ts us c d f =
+    ((λ p. (d, f .0 (p .1))), λ r. ⊎-elim (λ a. absurd (c (r .at) (a .1 .inside) (a .1 .first .here))) (λ a. inr (d, f .1 r (a .1))))
+
+after-all : (vs ts us : List Trial) → Follows ts us → Follows (vs ++ ts) (vs ++ us)
+after-all [] ts us f = f
+after-all (v ∷ vs) ts us f = after-same v (vs ++ ts) (vs ++ us) (after-all vs ts us f)
+
+-- One trial of the input as a whole, for the same fault.
+whole-follows : (r : ℕ) (P Q : Type 0) → P ↔ Q → Follows (ofWhole r P ∷ []) (ofWhole r Q ∷ [])
+whole-follows r P Q same = (
+  (λ p. ((λ i l y. p .0 i l (same .1 y)), tt)),
+  λ s. ⊎-elim
+      (λ a. inl (a .0, record { inside = a .1 .inside; first = record { here = same .0 (a .1 .first .here); none-below = λ k l y. a .1 .first .none-below k l (same .1 y) }; named = a .1 .named }))
+      (λ a. absurd (a .1)),
+)
+
+-- ---- calls
+
+module _ (job : List ℕ) where
+  abbrev b : Board
+  b = boardOf job
+
+  abbrev pub AlikeOn : Badness → Badness → Type 0
+  AlikeOn bad other = SameCosts b (costOf b bad) (costOf b other)
+
+  same-value : (bad other : Badness) → AlikeOn bad other → (f : ℕ → ℕ) → Untouching b f → total b (costOf b bad) f ≡ total b (costOf b other) f
+  same-value bad other same f u = total-alike b (costOf b bad) (costOf b other) same f (u .layout)
+
+  best-on : (bad other : Badness) → AlikeOn bad other → (f : ℕ → ℕ) → Best (labelingOf job bad) f → Best (labelingOf job other) f
+  best-on bad other same = best-alike b (Untouching b) (total b (costOf b bad)) (total b (costOf b other)) (same-value bad other same)
+
+  module _ (bad other : Badness) (fair : Fair job bad) (fair-other : Fair job other) (same : AlikeOn bad other) where
+    abbrev v : (ℕ → ℕ) → ℕ
+    v = total b (costOf b bad)
+
+    abbrev w : (ℕ → ℕ) → ℕ
+    w = total b (costOf b other)
+
+    -- The trials but for 2 and 13, which both pass, and 10, which names the same layouts.
+    given : (ts us : List Trial) → Follows ts us → Follows (ofWhole 1 (BadSize job) ∷ badnessTrial job bad ∷ ts) (ofWhole 1 (BadSize job) ∷ badnessTrial job other ∷ us)
+    given ts us f =
+        after-same (ofWhole 1 (BadSize job)) (badnessTrial job bad ∷ ts) (badnessTrial job other ∷ us)
+        (after-clean (badnessTrial job bad) (badnessTrial job other) ts us (fair-iff job bad .1 fair) (fair-iff job other .1 fair-other) f)
+
+    pub first-follows : (room : ℕ) → Follows (firstTrials job bad room) (firstTrials job other room)
+    first-follows room = given (ofWhole 3 (room < count job) ∷ jobTrials job) (ofWhole 3 (room < count job) ∷ jobTrials job) ((λ p. p), λ r a. a)
+
+    abbrev sized : List ℕ → List Trial
+    sized list = ofWhole 3 (length list < count job) ∷ jobTrials job ++ layoutTrials b list
+
+    pub measure-follows : (list : List ℕ) → Follows (measureTrials job bad list) (measureTrials job other list)
+    measure-follows list = given (sized list) (sized list) ((λ p. p), λ r a. a)
+
+    next-follows : (list : List ℕ) → Follows (nextTrials job bad list) (nextTrials job other list)
+    next-follows list =
+        given (sized list ++ (bestTrial (labelingOf job bad) list ∷ [])) (sized list ++ (bestTrial (labelingOf job other) list ∷ []))
+        (after-all (sized list) (bestTrial (labelingOf job bad) list ∷ []) (bestTrial (labelingOf job other) list ∷ [])
+        (whole-follows 10 (Untouching b (held list) × ¬ Best (labelingOf job bad) (held list)) (Untouching b (held list) × ¬ Best (labelingOf job other) (held list)) (
+          (λ (u, n). (u, λ s. n (best-on other bad (λ i q h k. sym (same i q h k)) (held list) s))),
+          (λ (u, n). (u, λ s. n (best-on bad other same (held list) s))),
+        )))
+
+    pub first-on : (before : List ℕ) (a : Answer) (after : List ℕ) → FirstAnswers job bad before a after → FirstAnswers job other before a after
+    first-on before (Total t) after (p, f, e, k) =
+        (first-follows (length before) .0 p, first-best-alike b (Untouching b) v w (same-value bad other same) (held after) f, e ∙ same-value bad other same (held after) (f .best .counts), k)
+    first-on before End after p = absurd p
+    first-on before (Refused r) after (a, e) = (first-follows (length before) .1 r a, e)
+
+    pub next-on : (before : List ℕ) (a : Answer) (after : List ℕ) → NextAnswers job bad before a after → NextAnswers job other before a after
+    next-on before (Total t) after (p, f, e, k) = (
+      next-follows before .0 p,
+      next-best-alike b (Untouching b) v w (same-value bad other same) (held before) (held after) f,
+      e ∙ same-value bad other same (held after) (f .best .counts),
+      k,
+    )
+    next-on before End after (p, l, e) = (next-follows before .0 p, last-best-alike b (Untouching b) v w (same-value bad other same) (held before) l, e)
+    next-on before (Refused r) after (a, e) = (next-follows before .1 r a, e)
+
+    pub page-on : (list before : List ℕ) (a : Paged) (after : List ℕ) → PageAnswers job bad list before a after → PageAnswers job other list before a after
+    page-on list before (Wrote k) after (p, f) = (next-follows list .0 p, following-alike b (Untouching b) v w (same-value bad other same) list before k after f)
+    page-on list before (NotPaged r) after (a, e) = (next-follows list .1 r a, e)
+
+    measure-on : (list : List ℕ) (a : Answer) → MeasureAnswers job bad list a → MeasureAnswers job other list a
+    measure-on list (Total t) (p, e) = (measure-follows list .0 p, e ∙ same-value bad other same (held list) (measure-accepted job bad list p .1))
+    measure-on list End p = absurd p
+    measure-on list (Refused r) a = measure-follows list .1 r a
+
+  -- THEOREMS. By weights as by their table.
+  module _ (lw bw : ℕ) (figures : List ℕ) (lengths : lw ≤ 1000) (bends : bw ≤ 1000) (t : TableOf b (weighted b lw bw) figures) where
+    pub first-by-table : (before : List ℕ) (m : ℤ) (after : List ℕ) → FirstPromise job (byWeights lw bw) before m after ↔ FirstPromise job (byTable figures) before m after
+    first-by-table before m after = (
+      (λ (a, p, e). (a, first-on (byWeights lw bw) (byTable figures) (lengths, bends) (t .long) (λ i q h k. sym (t .at i q h k)) before a after p, e)),
+      (λ (a, p, e). (a, first-on (byTable figures) (byWeights lw bw) (t .long) (lengths, bends) (t .at) before a after p, e)),
+    )
+
+    pub next-by-table : (before : List ℕ) (m : ℤ) (after : List ℕ) → NextPromise job (byWeights lw bw) before m after ↔ NextPromise job (byTable figures) before m after
+    next-by-table before m after = (
+      (λ (a, p, e). (a, next-on (byWeights lw bw) (byTable figures) (lengths, bends) (t .long) (λ i q h k. sym (t .at i q h k)) before a after p, e)),
+      (λ (a, p, e). (a, next-on (byTable figures) (byWeights lw bw) (t .long) (lengths, bends) (t .at) before a after p, e)),
+    )
+
+    pub page-by-table : (list before : List ℕ) (m : ℤ) (after : List ℕ)
+        → PagePromise job (byWeights lw bw) list before m after ↔ PagePromise job (byTable figures) list before m after
+    page-by-table list before m after = (
+      (λ (a, p, e). (a, page-on (byWeights lw bw) (byTable figures) (lengths, bends) (t .long) (λ i q h k. sym (t .at i q h k)) list before a after p, e)),
+      (λ (a, p, e). (a, page-on (byTable figures) (byWeights lw bw) (t .long) (lengths, bends) (t .at) list before a after p, e)),
+    )
+
+    pub measure-by-table : (list : List ℕ) (m : ℤ) → MeasurePromise job (byWeights lw bw) list m ↔ MeasurePromise job (byTable figures) list m
+    measure-by-table list m = (
+      (λ (a, p, e). (a, measure-on (byWeights lw bw) (byTable figures) (lengths, bends) (t .long) (λ i q h k. sym (t .at i q h k)) list a p, e)),
+      (λ (a, p, e). (a, measure-on (byTable figures) (byWeights lw bw) (t .long) (lengths, bends) (t .at) list a p, e)),
+    )
+
+-- THEOREM. Every cost has a table.
+pub table-of : (b : Board) (cost : ℕ → ℕ → ℕ) → (figures : List ℕ) × TableOf b cost figures
+table-of b cost = (
+  row (b .pads * b .ports) at,
+  record {
+    long = row-length (b .pads * b .ports) at;
+    at = λ i q h k. row-at (b .pads * b .ports) at (i * b .ports + q) (place-in (b .pads) (b .ports) i q h k) ∙ (λ j. cost (digits-div i k j) (digits-mod i k j));
+  },
+)
+  where
+    at : ℕ → ℕ
+    at k = cost (k / b .ports) (k % b .ports)
