@@ -17,13 +17,20 @@ typedef int64_t read_only(const uint8_t *, size_t, uint32_t, uint32_t, const uin
 typedef int64_t fill_page(const uint8_t *, size_t, uint32_t, uint32_t, const uint16_t *, size_t,
                           uint16_t *, size_t);
 typedef int64_t draw(const uint8_t *, size_t, uint32_t, uint32_t, float *, size_t);
+typedef int64_t fill_by_table(const uint8_t *, size_t, const uint32_t *, size_t, uint16_t *,
+                              size_t);
+typedef int64_t read_by_table(const uint8_t *, size_t, const uint32_t *, size_t, const uint16_t *,
+                              size_t);
 
 static read_only *const measure_call = cheremysl_measure;
 static draw *const draw_call = cheremysl_draw;
+static read_by_table *const table_measure_call = cheremysl_table_measure;
 #ifndef NO_SEARCH
 static fill *const first_call = cheremysl_first;
 static fill *const next_call = cheremysl_next;
 static fill_page *const page_call = cheremysl_page;
+static fill_by_table *const table_first_call = cheremysl_table_first;
+static fill_by_table *const table_next_call = cheremysl_table_next;
 #endif
 
 static int passed, failed;
@@ -49,8 +56,9 @@ static void answers(void) {
     is_no_refusal(2, 0);
     is_no_refusal(5, 0);
     is_no_refusal(CHEREMYSL_MAX_TOTAL, 0);
+    is_no_refusal(CHEREMYSL_MAX_TABLE_TOTAL, 0);
     is_no_refusal(CHEREMYSL_END, 1);
-    for (int number = CHEREMYSL_BAD_SIZE; number <= CHEREMYSL_PORT_TOO_CLOSE; number++)
+    for (int number = CHEREMYSL_BAD_SIZE; number <= CHEREMYSL_BAD_TABLE; number++)
         for (int record = 0; record < CHEREMYSL_MAX_RECORDS; record++)
             is_refusal(-(65536 * (int64_t)number + record), number, record, 0);
 }
@@ -77,7 +85,7 @@ static void is_sentence(int number) {
 
 /* The one after the last known stands for all that are unknown: none of the known shares it. */
 static void texts(void) {
-    int unknown = CHEREMYSL_PORT_TOO_CLOSE + 1;
+    int unknown = CHEREMYSL_BAD_TABLE + 1;
     for (int number = CHEREMYSL_BAD_SIZE; number <= unknown; number++) is_sentence(number);
     check(strcmp(text(16), text(unknown)) == 0 && strcmp(text(65535), text(unknown)) == 0);
     check(strcmp(cheremysl_refusal_text(-2), text(unknown)) == 0);
@@ -87,10 +95,13 @@ static void texts(void) {
 static void calls(void) {
     is_refusal(measure_call(NULL, 0, 0, 0, NULL, 0), CHEREMYSL_BAD_SIZE, 0, 0);
     is_refusal(draw_call(NULL, 0, 0, 0, NULL, 0), CHEREMYSL_BAD_SIZE, 0, 0);
+    is_refusal(table_measure_call(NULL, 0, NULL, 0, NULL, 0), CHEREMYSL_BAD_SIZE, 0, 0);
 #ifndef NO_SEARCH
     is_refusal(first_call(NULL, 0, 0, 0, NULL, 0), CHEREMYSL_BAD_SIZE, 0, 0);
     is_refusal(next_call(NULL, 0, 0, 0, NULL, 0), CHEREMYSL_BAD_SIZE, 0, 0);
     is_refusal(page_call(NULL, 0, 0, 0, NULL, 0, NULL, 0), CHEREMYSL_BAD_SIZE, 0, 0);
+    is_refusal(table_first_call(NULL, 0, NULL, 0, NULL, 0), CHEREMYSL_BAD_SIZE, 0, 0);
+    is_refusal(table_next_call(NULL, 0, NULL, 0, NULL, 0), CHEREMYSL_BAD_SIZE, 0, 0);
 #endif
 }
 
@@ -99,7 +110,9 @@ static void limits(void) {
     check(CHEREMYSL_MAX_TOTAL ==
           (int64_t)CHEREMYSL_MAX_RECORDS * CHEREMYSL_MAX_WEIGHT *
               (CHEREMYSL_MAX_X + 2 * CHEREMYSL_MAX_HEIGHT + 1));
-    check(CHEREMYSL_TOUCHING == 9 && CHEREMYSL_DRAW_FLOATS == 6);
+    check(CHEREMYSL_MAX_FIGURES == CHEREMYSL_MAX_RECORDS * CHEREMYSL_MAX_RECORDS);
+    check(CHEREMYSL_MAX_TABLE_TOTAL == (int64_t)CHEREMYSL_MAX_RECORDS * UINT32_MAX);
+    check(CHEREMYSL_TOUCHING == 9 && CHEREMYSL_DRAW_FLOATS == 6 && CHEREMYSL_BAD_TABLE == 13);
     check(CHEREMYSL_PORT_TOO_CLOSE == 12 && CHEREMYSL_MIN_RISE == 8);
 }
 
@@ -122,19 +135,42 @@ enum { LENT = 8 };
 
 static const uint8_t one_pad[CHEREMYSL_RECORD_BYTES] = {1, 0, 0, 0, 5}; /* straight, total 5 */
 static const float own_floats[LENT] = {-1, -2, -3, -4, -5, -6, -7, -8};
+static const uint32_t one_figure[1] = {UINT32_MAX};
 
-/* On a job that is accepted: NULL with 0 is a list without room, and a page without room is filled. */
+/* On a job that is accepted NULL with 0 is a table without figures, which is refused first .. */
+static void no_table(void) {
+    size_t bytes = sizeof one_pad;
+    is_refusal(table_measure_call(one_pad, bytes, NULL, 0, NULL, 0), CHEREMYSL_BAD_TABLE, 0, 0);
+#ifndef NO_SEARCH
+    is_refusal(table_first_call(one_pad, bytes, NULL, 0, NULL, 0), CHEREMYSL_BAD_TABLE, 0, 0);
+    is_refusal(table_next_call(one_pad, bytes, NULL, 0, NULL, 0), CHEREMYSL_BAD_TABLE, 0, 0);
+#endif
+}
+
+/* .. or a list without room; and a page without room is filled. */
 static void no_room(void) {
     size_t bytes = sizeof one_pad;
     is_refusal(measure_call(one_pad, bytes, 1, 0, NULL, 0), CHEREMYSL_NO_ROOM, 0, 0);
     is_refusal(draw_call(one_pad, bytes, 0, 0, NULL, 0), CHEREMYSL_NO_ROOM, 0, 0);
+    is_refusal(table_measure_call(one_pad, bytes, one_figure, 1, NULL, 0), CHEREMYSL_NO_ROOM, 0, 0);
 #ifndef NO_SEARCH
     static const uint16_t layout[1] = {0};
     is_refusal(first_call(one_pad, bytes, 1, 0, NULL, 0), CHEREMYSL_NO_ROOM, 0, 0);
     is_refusal(next_call(one_pad, bytes, 1, 0, NULL, 0), CHEREMYSL_NO_ROOM, 0, 0);
     is_refusal(page_call(one_pad, bytes, 1, 0, NULL, 0, NULL, 0), CHEREMYSL_NO_ROOM, 0, 0);
     check(page_call(one_pad, bytes, 1, 0, layout, 1, NULL, 0) == 0);
+    is_refusal(table_first_call(one_pad, bytes, one_figure, 1, NULL, 0), CHEREMYSL_NO_ROOM, 0, 0);
+    is_refusal(table_next_call(one_pad, bytes, one_figure, 1, NULL, 0), CHEREMYSL_NO_ROOM, 0, 0);
 #endif
+}
+
+/* A layout that was filled in part: entries from n on are not looked at. */
+static void measures(void) {
+    uint16_t layout[LENT];
+    layout[0] = 0;
+    check(cheremysl_measure(one_pad, sizeof one_pad, 1, 0, layout, LENT) == 5);
+    check(cheremysl_table_measure(one_pad, sizeof one_pad, one_figure, 1, layout, LENT) ==
+          UINT32_MAX);
 }
 
 static void draw_keeps(size_t job_bytes, int64_t wanted, int from) {
@@ -158,12 +194,23 @@ static void first_keeps(size_t job_bytes, int64_t wanted, int from) {
     check_own(layout, from);
 }
 
+static void table_first_keeps(size_t job_bytes, size_t figures, int64_t wanted, int from) {
+    uint16_t layout[LENT];
+    memcpy(layout, own, sizeof own);
+    check(cheremysl_table_first(one_pad, job_bytes, one_figure, figures, layout, LENT) == wanted);
+    check_own(layout, from);
+}
+
+/* Over weights and over a table. */
 static void next_keeps(uint16_t port, int64_t wanted) {
     uint16_t layout[LENT];
     memcpy(layout, own, sizeof own);
     layout[0] = port;
     check(cheremysl_next(one_pad, sizeof one_pad, 1, 0, layout, LENT) == wanted);
     check(layout[0] == port);
+    check_own(layout, 1);
+    check(cheremysl_table_next(one_pad, sizeof one_pad, one_figure, 1, layout, LENT) == wanted);
+    check(layout[0] == port && one_figure[0] == UINT32_MAX);
     check_own(layout, 1);
 }
 
@@ -183,6 +230,9 @@ static void lists(void) {
     int64_t bad_entry = -65536 * CHEREMYSL_BAD_ENTRY;
     first_keeps(sizeof one_pad, 5, 1);
     first_keeps(0, bad_size, 0);
+    table_first_keeps(sizeof one_pad, 1, UINT32_MAX, 1);
+    table_first_keeps(0, 1, bad_size, 0);
+    table_first_keeps(sizeof one_pad, 0, -65536 * CHEREMYSL_BAD_TABLE, 0);
     next_keeps(0, CHEREMYSL_END);
     next_keeps(1, bad_entry);
     page_keeps(0, 0);
@@ -195,9 +245,11 @@ int main(void) {
     pairs();
     texts();
     calls();
+    no_table();
     no_room();
     limits();
     version();
+    measures();
     lists();
     printf("%d passed, %d failed\n", passed, failed);
     return failed != 0;

@@ -1,4 +1,4 @@
-/* boards.h: random numbers, jobs of many kinds, and layouts without a touching pair. */
+/* boards.h: random numbers, jobs and tables of many kinds, and layouts without a touching pair. */
 #ifndef BOARDS_H
 #define BOARDS_H
 
@@ -9,6 +9,9 @@ void seed_random(uint64_t seed);
 
 /* A random number from 0 to k - 1. */
 uint32_t below(uint32_t k);
+
+/* Any number of 32 bits. */
+uint32_t any_bits(void);
 
 /* A length weight and a bend weight, often those that make many sheets best. */
 void any_weights(uint32_t *length_weight, uint32_t *bend_weight);
@@ -50,6 +53,33 @@ void make_tied(uint8_t *job, size_t n, size_t pairs);
 
 /* Pads joined to ports in order of height: no assignment has less length, touching or not. */
 int64_t least_length(const uint8_t *job, size_t n);
+
+/* ---- tables: the figure of pad i with port q is number n * i + q ---- */
+
+enum figures {
+    WEIGHED,     /* weighted lengths and bends, for some weights */
+    ANY_FIGURES, /* anything */
+    FEW,         /* mostly 0, else 1 or 2: ties everywhere */
+    EQUAL,       /* one number */
+    ZEROS,       /* the smallest .. */
+    HIGHEST,     /* .. and the largest number of 32 bits */
+    POWERS,      /* powers of two */
+    STRIP,       /* little, but most for an area: some ports, from the pads on its right */
+    PLANTED,     /* anything, but one untouching layout has the smallest figure of each pad */
+    FIGURES
+};
+
+/* Fills the table of an accepted job of n records. */
+void make_table(uint32_t *table, const uint8_t *job, size_t n, enum figures kind);
+
+/* The table of weighted lengths and bends. */
+void weigh(uint32_t *table, const uint8_t *job, size_t n, uint32_t length_weight,
+           uint32_t bend_weight);
+
+/* Gives each pad's smallest figure to its port in the layout: no assignment has a smaller total. */
+void plant(uint32_t *table, size_t n, const uint16_t *layout);
+
+/* ---- layouts ---- */
 
 /* The record numbers of the pads from left to right. */
 void left_to_right(const uint8_t *job, size_t n, size_t *order);

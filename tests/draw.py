@@ -1,7 +1,7 @@
 #!/usr/bin/env python3
 """tests/draw.py PROGRAM..: draws the sample jobs and boards of every kind, and looks at the pictures as a reader does: each is well-formed, its
 leaders are those of 01 worked out here, those touch that do by 01 and no others come close, no dot or name meets a foreign leader, and no text meets
-another. The last line has the counts."""
+another; a shaded area meets the leaders that it meets on the board. The last line has the counts."""
 import glob, itertools, math, os, random, struct, subprocess, sys, tempfile
 import xml.etree.ElementTree as xml
 
@@ -172,6 +172,34 @@ def try_board(path, layout=None, sound=True):
         check_sound(what, picture, rs, boxes)
         check(what + ': drawn again', draw(path, *words) == text)
 
+def meets(area, record, port):
+    """Whether a leader shares a point with the area, on the board: left, low, right, high."""
+    _, _, x, y, _ = record
+    hand, arm = (x, min(y, port), x, max(y, port)), (0, port, x, port)
+    return any(a[0] <= area[2] and area[0] <= a[2] and a[1] <= area[3] and area[1] <= a[3] for a in (hand, arm))
+
+def try_area(r, path):
+    """In the picture a shaded area meets the leaders that it meets on the board, but for what is lost in rounding; all else is drawn as without it."""
+    rs, what, plain = records(open(path, 'rb').read()), os.path.basename(path) + ', area', draw(path)
+    near = lambda places: r.choice(places) + r.choice((-30, -1, 0, 1, 30))
+    for _ in range(3):
+        x, u = (near([0] + [s[2] for s in rs]) for _ in 'xu')
+        y, v = (near([s[3] for s in rs] + [s[4] for s in rs]) for _ in 'yv')
+        text = draw(path, '--area', '%d,%d,%d,%d' % (x, y, u, v))
+        shaded = [line for line in text.splitlines() if b'id="area"' in line]
+        check(what + ': the rest', [line for line in text.splitlines() if line not in shaded] == plain.splitlines() and len(shaded) < 2)
+        area, picture = (min(x, u), min(y, v), max(x, u), max(y, v)), look(what, plain)
+        layout = [int(g.find(SVG + 'title').text.split(' to port ')[1].split(':')[0]) for g in picture.leaders]
+        met = [meets(area, s, rs[q][4]) for s, q in zip(rs, layout)]
+        if not shaded:
+            check(what + ': not shaded', not any(met), area)
+            continue
+        left, top, width, height = (float(xml.fromstring(shaded[0]).get(k)) for k in ('x', 'y', 'width', 'height'))
+        for grow, wrong in (-0.02, lambda m: not m), (0.02, lambda m: m):
+            box = left - grow, top - grow, left + width + grow, top + height + grow
+            seen = [any(s[0] <= box[2] and box[0] <= s[2] and s[1] <= box[3] and box[1] <= s[3] for s in line) for line in picture.segments]
+            check(what + ': leaders', not any(wrong(m) and (s if grow < 0 else not s) for m, s in zip(met, seen)), area, met, seen)
+
 # ---- boards
 
 END = 1000000
@@ -222,11 +250,14 @@ def main():
     try_board('examples/level.job', [0, 1], False)
     try_board('examples/J5.job', [1, 1, 1], False)
     try_board('examples/matrix.job', [63] * 64, False)
+    with open('examples/antenna.layout') as file:
+        try_board('examples/antenna.job', [int(q) for q in file.read().split()])
     with tempfile.TemporaryDirectory() as room:
         for name, xs, ys, ports in boards(r):
             path = os.path.join(room, name)
             open(path, 'wb').write(pack(r, xs, ys, ports))
             try_board(path)
+            try_area(r, path)
             if len(xs) > 1:
                 try_board(path, r.sample(range(len(xs)), len(xs)), False)
         for name, shown in odd_names(room):

@@ -67,6 +67,10 @@ says 2 "cheremysl-draw: there is no option --no-such*$usage" --no-such $J5
 says 2 "cheremysl-draw: there is no option -1*$usage" $J5 -1 2 0
 says 2 "cheremysl-draw: 'x' is not a port number" $J5 1 x 0
 says 2 "cheremysl-draw: '' is not a port number" $J5 1 '' 0
+for area in '' 1,2,3 1,2,3,4,5 1,2,3,4x 1.5,2,3,4 1,2,3,999999999; do
+    says 2 "cheremysl-draw: --area takes X1,Y1,X2,Y2*$usage" --area "$area" $J5
+done
+says 2 "cheremysl-draw: --area takes X1,Y1,X2,Y2*$usage" $J5 --area
 says 2 "cheremysl-draw: '1x' is not a port number" $J5 1x 2 0
 check "--help" matches "$(draw --help)" "$usage"
 check "--version" matches "$(draw --version)" 'cheremysl-draw [0-9]*.[0-9]*'

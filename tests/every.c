@@ -1,8 +1,10 @@
 /*
- * every [COUNT [SEED]]: First, Next, .., end on jobs of up to seven pads, and a page from each
- * sheet, against the list of every best layout among all assignments. Random and degenerate boards;
- * now and then with a port too close to the one before, for which every call refuses the job. For
- * bend weight 0, First's total on each board against the least of all assignments, touching or not.
+ * every [COUNT [SEED]]: First, Next, .., end on jobs of up to seven pads, over weights, with a page
+ * from each sheet, or over a table, against the list of every best layout among all assignments.
+ * Random and degenerate boards, tables of every kind; now and then with a port too close to the one
+ * before, for which every call refuses the job. For bend weight 0, First's total on each board
+ * against the least of all assignments, touching or not. Over the table of weighted lengths and
+ * bends every reply is that over the weights.
  */
 #include <stdio.h>
 #include <stdlib.h>
@@ -11,31 +13,52 @@
 #include "questions.h"
 #include "trial.h"
 
-static long sheets_listed, most_sheets, crossed, dearer;
+static long sheets_listed, most_sheets, crossed, dearer, tables_dearer, tables_tied, weighed;
 
 /* ---- a complete run ---- */
 
+/* A page from sheet k of the list, which the question holds. */
+static bool page_from(struct question *q, const struct sheets *all, size_t k) {
+    q->call = PAGE;
+    lend_page(q, any_room(records_of(q)));
+    return expect(q, fills(q, all->sheet[k].port + PLAIN_PADS, PLAIN_PADS, all->found - k - 1));
+}
+
+/* Over a table there are no pages. */
 static bool run(struct question *q, const struct sheets *all) {
-    q->call = FIRST;
+    turn_to(q, FIRST);
     for (size_t k = 0; k < all->found; k++) {
         struct reply expected = gives(q, all->total, all->sheet[k].port);
         if (!expect(q, expected)) return false;
         q->list = expected.list;
-        q->call = PAGE;
-        lend_page(q, any_room(records_of(q)));
-        expected = fills(q, all->sheet[k].port + PLAIN_PADS, PLAIN_PADS, all->found - k - 1);
-        if (!expect(q, expected)) return false;
-        q->call = NEXT;
+        if (!takes_table(q->call) && !page_from(q, all, k)) return false;
+        turn_to(q, NEXT);
     }
     return expect(q, keeps(q, -1)) && expect(q, keeps(q, -1));
 }
 
-/* From every assignment: a later sheet, a page, the end, the total, or the refusal it deserves. */
+/* The run again, over the table of the weights; and Measure of a layout, best or not. */
+static bool run_alike(struct question q, const struct sheets *all) {
+    static uint32_t table[TABLE_ROOM];
+    q.call = FIRST;
+    struct question tabled = by_table(&q, table);
+    weighed++;
+    q.call = MEASURE;
+    any_untouching(q.job, records_of(&q), q.list.layout);
+    return run(&tabled, all) && alike(&q);
+}
+
+/*
+ * From every assignment: a later sheet, a page, the end, the total, or the refusal it deserves,
+ * over weights and over the table; and over the table of the weights as over these.
+ */
 static void from_each(struct question *q, size_t i) {
     size_t n = records_of(q);
     if (i == n) {
-        for (q->call = 0; q->call < CALLS; q->call++)
+        for (q->call = 0; q->call < CALLS; q->call++) {
             if (takes_layout(q->call)) expect(q, plain_reply(q));
+            if (q->call == MEASURE || q->call == NEXT) alike(q);
+        }
         return;
     }
     for (uint16_t port = 0; port < n; port++) {
@@ -75,27 +98,40 @@ static void least_of_all(struct question q) {
     crossed += q.a > 0 && all.crossed;
 }
 
+static void any_job(struct question *q, size_t n) {
+    static uint32_t table[TABLE_ROOM];
+    make_board(q->job, n, below(BOARDS));
+    q->job_bytes = 16 * n;
+    q->count = n + below(3);
+    any_weights(&q->a, &q->b);
+    lend_table(q, table, below(FIGURES));
+    uint32_t noise = below(2) ? 65536 : 8;
+    for (size_t k = 0; k < LIST_ROOM; k++) q->list.layout[k] = (uint16_t)below(noise);
+    lend_page(q, any_room(n));
+    q->call = below(3) ? FIRST : TABLE_FIRST;
+}
+
+static void count_sheets(const struct question *q, const struct sheets *all) {
+    bool tabled = takes_table(q->call);
+    check(all->found > 0, q, "no best layout");
+    check(tabled || q->b != 0 || all->total == all->least, q, "not the least of all assignments");
+    *(tabled ? &tables_dearer : &dearer) += all->total > all->least;
+    tables_tied += tabled && all->found > 1;
+    sheets_listed += (long)all->found;
+    if ((long)all->found > most_sheets) most_sheets = (long)all->found;
+}
+
 static void one_job(void) {
     static struct question q;
     static struct sheets all;
-    size_t n = any_size();
-    make_board(q.job, n, below(BOARDS));
-    q.job_bytes = 16 * n;
-    q.count = n + below(3);
-    any_weights(&q.a, &q.b);
-    uint32_t noise = below(2) ? 65536 : 8;
-    for (size_t k = 0; k < LIST_ROOM; k++) q.list.layout[k] = (uint16_t)below(noise);
-    lend_page(&q, any_room(n));
-    if (n > 1 && below(8) == 0) too_close(q);
+    any_job(&q, any_size());
+    if (records_of(&q) > 1 && below(8) == 0) too_close(q);
     least_of_all(q);
     struct given g = given_of(&q);
     plain_sheets(&g, &all);
-    check(all.found > 0, &q, "no best layout");
-    check(q.b != 0 || all.total == all.least, &q, "not the least of all assignments");
-    dearer += all.total > all.least;
-    sheets_listed += (long)all.found;
-    if ((long)all.found > most_sheets) most_sheets = (long)all.found;
-    if (run(&q, &all) && n <= 4 && below(4) == 0) from_each(&q, 0);
+    count_sheets(&q, &all);
+    if (!takes_table(q.call) && below(4) == 0 && !run_alike(q, &all)) return;
+    if (run(&q, &all) && records_of(&q) <= 4 && below(4) == 0) from_each(&q, 0);
 }
 
 int main(int argc, char **argv) {
@@ -108,6 +144,10 @@ int main(int argc, char **argv) {
     printf("bend weight 0: the least of all; in %ld jobs with a length weight touching leaders "
            "have it too\n", crossed);
     printf("with a bend weight: in %ld jobs touching leaders have a smaller total\n", dearer);
+    printf("over tables: in %ld jobs they have; %ld jobs with several sheets; %ld runs as over "
+           "weights\n", tables_dearer, tables_tied, weighed);
     check(count < 1000 || (crossed > 0 && dearer > 0), NULL, "no touching leaders were weighed");
+    check(count < 1000 || (tables_dearer > 0 && tables_tied > 0 && weighed > 0), NULL,
+          "no such tables");
     return done();
 }

@@ -31,7 +31,7 @@ typedef void (*function)(void);
 /* ---- the way in, in assembly: these are its names ---- */
 
 function entrance;                  /* the call to make .. */
-uint64_t arguments[8];              /* .. and what it is given, the last two on the stack */
+uint64_t arguments[ARGUMENTS];      /* .. and what it is given, the last two on the stack */
 uint64_t filled[REGISTERS][WORDS];  /* what the vector registers hold */
 uint64_t seen[REGISTERS][WORDS];    /* what see_registers finds there */
 uint8_t wide;                       /* all their words are there */
@@ -218,10 +218,13 @@ static void probe(void) {
 static const function entrances[CALLS] = {
     [MEASURE] = (function)cheremysl_measure,
     [DRAW] = (function)cheremysl_draw,
+    [TABLE_MEASURE] = (function)cheremysl_table_measure,
 #ifndef NO_SEARCH
     [FIRST] = (function)cheremysl_first,
     [NEXT] = (function)cheremysl_next,
     [PAGE] = (function)cheremysl_page,
+    [TABLE_FIRST] = (function)cheremysl_table_first,
+    [TABLE_NEXT] = (function)cheremysl_table_next,
 #endif
 };
 
@@ -230,19 +233,6 @@ static int64_t plain_answer;
 
 static long came[CALLS][OUTCOMES]; /* how often each outcome came */
 static long drawn[2];              /* straight leaders, bent leaders */
-
-static void put_arguments(void) {
-    struct question *q = &question;
-    entrance = entrances[q->call];
-    arguments[0] = (uintptr_t)q->job;
-    arguments[1] = q->job_bytes;
-    arguments[2] = q->a;
-    arguments[3] = q->b;
-    arguments[4] = (uintptr_t)&q->list;
-    arguments[5] = q->count;
-    arguments[6] = (uintptr_t)q->page;
-    arguments[7] = q->page_entries;
-}
 
 /* What is wrong with the call; NULL if nothing is. */
 static const char *fault(void) {
@@ -267,7 +257,8 @@ static void report(const char *wrong, int mode, size_t filling) {
 
 static void ask_in(int mode, size_t filling) {
     memcpy(&question, &given, sizeof question);
-    put_arguments();
+    entrance = entrances[question.call];
+    put_arguments(&question, arguments);
     fill(filling);
     given_mxcsr = mxcsr_of(mode);
     const char *wrong = fault();
@@ -291,7 +282,7 @@ static void ask_in_turn(void) {
 static void one_question(enum call call) {
     sound_question(&given, call);
     if (takes_best(call) && below(2)) {
-        given.call = FIRST;
+        turn_to(&given, FIRST);
         call_library(&given);
         given.call = call;
     }
@@ -312,7 +303,7 @@ int main(int argc, char **argv) {
         for (long k = 0; k < count; k++) one_question(call);
         report_refusals(call_names[call], call, came[call]);
         check(came[call][0] > 0, NULL, "none was accepted");
-        check(call != NEXT || came[call][ENDS] > 0, NULL, "the end never came");
+        check(!can_end(call) || came[call][ENDS] > 0, NULL, "the end never came");
     }
     check(drawn[0] > 0 && drawn[1] > 0, NULL, "no straight leader was drawn, or no bent one");
     return done();

@@ -49,13 +49,23 @@ static uint32_t take_weight(struct bytes *b) {
     return weights[take(b, 8)];
 }
 
+/* A few bytes a figure on small boards; on others they choose the kind of table. */
+static void take_table(struct bytes *b, struct question *q) {
+    static const uint32_t likely[] = {0, 1, 2, 3, 1000, 1u << 31, UINT32_MAX - 1, UINT32_MAX};
+    static uint32_t table[TABLE_ROOM];
+    size_t n = records_of(q), kind = take(b, FIGURES + 3);
+    lend_table(q, table, kind < FIGURES ? (enum figures)kind : ANY_FIGURES);
+    for (size_t k = 0; k < n * n && n <= 6 && kind >= FIGURES; k++)
+        table[k] = kind == FIGURES ? take_bits(b) : likely[take(b, 8)];
+}
+
 /* First's layout, or one that some calls of Next lead to. */
 static void best_layout(struct question *q, uint32_t steps) {
 #ifndef NO_SEARCH
     struct question search = *q;
-    search.call = FIRST;
+    turn_to(&search, FIRST);
     call_library(&search);
-    for (search.call = NEXT; steps > 0; steps--) call_library(&search);
+    for (turn_to(&search, NEXT); steps > 0; steps--) call_library(&search);
     q->list = search.list;
 #else
     (void)steps;
@@ -85,6 +95,25 @@ static void take_page(struct bytes *b, struct question *q) {
     lend_page(q, kind < 248 ? n * (kind % 8) + rest : take(b, PAGE_ROOM + 1));
 }
 
+/* Another figure, or another length: any, one that is close, or the right one in its last bits. */
+static void damage_table(struct bytes *b, struct question *q) {
+    size_t right = q->figures;
+    switch (take(b, 4)) {
+    case 0: q->figures = take(b, TABLE_ROOM + 1); break;
+    case 1: q->figures = right + 1 - 2 * (right > 0 && take(b, 2)); break;
+    case 2: q->figures = right + ((size_t)1 << take(b, 64)); break;
+    default: q->table[take(b, right % TABLE_ROOM + 1)] = take_bits(b);
+    }
+}
+
+/* The numbers, or the table that a call has in their place. */
+static void damage_numbers(struct bytes *b, struct question *q, uint32_t *number) {
+    if (takes_table(q->call))
+        damage_table(b, q);
+    else
+        *number = take_bits(b);
+}
+
 static void damage(struct bytes *b, struct question *q) {
     static const int64_t limits[] = {0,        1,        1000000,   1000001,
                                      -1000000, -1000001, INT32_MAX, INT32_MIN};
@@ -95,8 +124,8 @@ static void damage(struct bytes *b, struct question *q) {
     case 0: q->job[take(b, JOB_ROOM)] = (uint8_t)take(b, 256); break;
     case 1: q->job_bytes = take(b, JOB_ROOM + 1); break;
     case 2: q->count = take(b, take(b, 2) ? n + 1 : LIST_ROOM + 1); break;
-    case 3: q->a = take_bits(b); break;
-    case 4: q->b = take_bits(b); break;
+    case 3: damage_numbers(b, q, &q->a); break;
+    case 4: damage_numbers(b, q, &q->b); break;
     case 5: list[i] = (uint16_t)take_bits(b); break;
     case 6: q->a = q->call == DRAW ? (uint32_t)j : 1001; break;
     case 7: put_number(q->job + 16 * i + field, 4, limits[take(b, 8)]); break;
@@ -127,6 +156,7 @@ static void question_of(const uint8_t *data, size_t size, struct question *q) {
     q->count = (q->call == DRAW ? 6 : records_of(q)) + take(&b, 3);
     q->a = q->call == DRAW ? take(&b, records_of(q)) : take_weight(&b);
     q->b = q->call == DRAW ? take(&b, records_of(q)) : take_weight(&b);
+    if (takes_table(q->call)) take_table(&b, q);
     if (takes_layout(q->call)) take_layout(&b, q);
     if (q->call == PAGE) take_page(&b, q);
     uint32_t times = take(&b, 8);
@@ -137,7 +167,7 @@ static void question_of(const uint8_t *data, size_t size, struct question *q) {
 
 static int64_t measured(const struct question *q, const union list *list) {
     struct question m = *q;
-    m.call = MEASURE;
+    turn_to(&m, MEASURE);
     m.list = *list;
     return plain_reply(&m).answer;
 }
@@ -172,13 +202,13 @@ static bool passed_over(const struct reply *first, const struct question *next,
 static bool large_sheet(const struct question *q) {
     size_t n = records_of(q);
     struct question first = *q, next = *q;
-    first.call = FIRST;
-    next.call = NEXT;
-    if (q->call == FIRST) any_untouching(q->job, n, next.list.layout);
+    turn_to(&first, FIRST);
+    turn_to(&next, NEXT);
+    if (q->call == first.call) any_untouching(q->job, n, next.list.layout);
     struct reply f = ask(&first, AT_END), r = ask(&next, AT_START);
     int64_t given = measured(&next, &next.list);
     bool ok = is_sheet(&first, &f, f.answer);
-    if (q->b == 0) ok &= f.answer == q->a * least_length(q->job, n);
+    if (!takes_table(q->call) && q->b == 0) ok &= f.answer == q->a * least_length(q->job, n);
     if (given != f.answer)
         r = keeps(&next, refused(10, 0));
     else if (r.answer == -1)
@@ -278,7 +308,7 @@ static void report(long count) {
     for (int call = 0; call < CALLS; call++) {
         const long *of = came[call];
         bool another = of[OTHER_PAIR] > 0 || !takes_layout(call);
-        printf("%-8s %ld accepted, %ld ends, 9 with record 0: %ld, with another: %ld\n",
+        printf("%-12s %ld accepted, %ld ends, 9 with record 0: %ld, with another: %ld\n",
                call_names[call], of[0], of[ENDS], of[9], of[OTHER_PAIR]);
         check(count < ENOUGH || another, NULL, "9 never named another earlier record than 0");
         for (const int *number = refusals_of[call]; *number != 0; number++)

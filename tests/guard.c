@@ -23,6 +23,7 @@ struct guarded guard_memory(bool writable, size_t element, size_t most) {
     int rights = writable ? PROT_READ | PROT_WRITE : PROT_READ;
     size_t unit = (size_t)sysconf(_SC_PAGESIZE);
     g.element = element;
+    g.writable = writable;
     g.size = (2 * (most + element) + unit - 1) / unit * unit; /* a list amid has half of it */
     need(file != NULL && ftruncate(fileno(file), (off_t)g.size) == 0, "tmpfile");
     g.ours = mmap(NULL, g.size, PROT_READ | PROT_WRITE, MAP_SHARED, fileno(file), 0);
@@ -41,8 +42,8 @@ static size_t start_of(const struct guarded *g, enum side side, size_t bytes) {
 
 void *guard_put(const struct guarded *g, enum side side, const void *list, size_t bytes) {
     size_t start = start_of(g, side, bytes);
-    memset(g->ours, PATTERN, g->size);
-    memcpy(g->ours + start, list, bytes);
+    if (g->writable) memset(g->ours, PATTERN, g->size);
+    if (bytes > 0) memcpy(g->ours + start, list, bytes); /* NULL if there is none */
     return bytes == 0 && side == AT_START ? NULL : g->theirs + start;
 }
 
@@ -54,5 +55,6 @@ static bool holds_pattern(const unsigned char *at, size_t bytes) {
 bool guard_get(const struct guarded *g, enum side side, void *list, size_t bytes) {
     size_t start = start_of(g, side, bytes), end = start + bytes;
     memcpy(list, g->ours + start, bytes);
-    return holds_pattern(g->ours, start) && holds_pattern(g->ours + end, g->size - end);
+    return !g->writable || (holds_pattern(g->ours, start) &&
+                            holds_pattern(g->ours + end, g->size - end));
 }

@@ -17,14 +17,16 @@ struct guarded {
     unsigned char *theirs; /* the memory as the library sees it, unreadable around it */
     size_t size;
     size_t element; /* the size of a list's elements */
+    bool writable;  /* by the library */
 };
 
 /* Memory for lists of up to so many bytes, writable by the library or not. */
 struct guarded guard_memory(bool writable, size_t element, size_t most);
 
 /*
- * Copies a list into the memory, fills the rest of it with a pattern, and returns the list's
- * address for the library. An empty list at the start is NULL, one at the end is the memory's end.
+ * Copies a list into the memory, fills the rest of it with a pattern if the library can write
+ * there, and returns the list's address for the library. An empty list at the start is NULL, one at
+ * the end is the memory's end.
  */
 void *guard_put(const struct guarded *g, enum side side, const void *list, size_t bytes);
 

@@ -41,13 +41,14 @@ refuses() {
 cat >"$room/user.c" <<'C'
 #include <cheremysl.h>
 
-#if CHEREMYSL_VERSION_NUMBER < 1001000
+#if CHEREMYSL_VERSION_NUMBER < 1002000
 #error "too old"
 #endif
 
 int main(void) {
     uint8_t job[CHEREMYSL_MAX_JOB_BYTES] = {0};
     uint16_t layout[CHEREMYSL_MAX_RECORDS], page[2 * CHEREMYSL_MAX_RECORDS];
+    uint32_t table[CHEREMYSL_MAX_FIGURES] = {0};
     float points[CHEREMYSL_DRAW_FLOATS];
     const char *text = CHEREMYSL_VERSION_TEXT;
     int64_t answer = cheremysl_first(job, CHEREMYSL_RECORD_BYTES, 1, 0, layout, CHEREMYSL_MAX_RECORDS);
@@ -59,6 +60,13 @@ int main(void) {
     if (answer == CHEREMYSL_END) return cheremysl_refusal_earlier(answer);
     answer = cheremysl_measure(job, sizeof job, 1, 0, page, CHEREMYSL_MAX_RECORDS);
     if (cheremysl_refusal_number(answer) == CHEREMYSL_TOUCHING) return *text;
+    if (cheremysl_refusal_number(answer) == CHEREMYSL_BAD_TABLE) return *text;
+    answer = cheremysl_table_first(job, sizeof job, table, CHEREMYSL_MAX_FIGURES, layout, CHEREMYSL_MAX_RECORDS);
+    if (answer > CHEREMYSL_MAX_TABLE_TOTAL) return cheremysl_refusal_number(answer);
+    answer = cheremysl_table_next(job, sizeof job, table, CHEREMYSL_MAX_FIGURES, layout, CHEREMYSL_MAX_RECORDS);
+    if (cheremysl_is_end(answer)) return cheremysl_refusal_record(answer);
+    answer = cheremysl_table_measure(job, sizeof job, table, CHEREMYSL_MAX_FIGURES, layout, CHEREMYSL_MAX_RECORDS);
+    if (cheremysl_is_refusal(answer)) return cheremysl_refusal_record(answer);
     answer = cheremysl_draw(job, sizeof job, 0, 0, points, CHEREMYSL_DRAW_FLOATS);
     return answer == 2 && points[0] > points[1];
 }
@@ -81,13 +89,13 @@ done
 
 # ---- lists: one call in a function, in C and C++, unoptimised and optimised
 
-# call BODY: a program with the body of a function that is given a job and a layout
+# call BODY: a program with the body of a function that is given a job, a layout and a table
 call() {
     cat >"$room/call.c" <<C
 #include <cheremysl.h>
-int64_t f(const uint8_t *job, size_t bytes, const uint16_t *given);
-int64_t f(const uint8_t *job, size_t bytes, const uint16_t *given) {
-    (void)job, (void)bytes, (void)given;
+int64_t f(const uint8_t *job, size_t bytes, const uint16_t *given, const uint32_t *table);
+int64_t f(const uint8_t *job, size_t bytes, const uint16_t *given, const uint32_t *table) {
+    (void)job, (void)bytes, (void)given, (void)table;
     $1
 }
 C
@@ -117,28 +125,48 @@ warned stringop-overread 'uint16_t page[4], list[4] = {0}; return cheremysl_page
 warned stringop-overflow 'uint16_t page[4]; return cheremysl_page(job, bytes, 1, 0, given, 4, page, 5);'
 warned stringop-overread 'uint16_t list[4] = {0}; return cheremysl_measure(job, bytes, 1, 0, list, 64);'
 warned stringop-overflow 'float points[5]; return cheremysl_draw(job, bytes, 0, 0, points, 6);'
+warned stringop-overflow 'uint16_t list[4]; return cheremysl_table_first(job, bytes, table, 16, list, 64);'
+warned stringop-overflow 'uint16_t list[4] = {0}; return cheremysl_table_next(job, bytes, table, 16, list, 64);'
+warned stringop-overread 'uint16_t list[4] = {0}; return cheremysl_table_measure(job, bytes, table, 16, list, 64);'
 
 warned stringop-overread 'uint8_t a[15] = {0}; uint16_t list[1]; return cheremysl_first(a, 16, 1, 0, list, 1);'
 warned stringop-overread 'uint8_t a[15] = {0}; uint16_t list[1] = {0}; return cheremysl_next(a, 16, 1, 0, list, 1);'
 warned stringop-overread 'uint8_t a[15] = {0}; return cheremysl_page(a, 16, 1, 0, given, 1, 0, 0);'
 warned stringop-overread 'uint8_t a[15] = {0}; return cheremysl_measure(a, 16, 1, 0, given, 1);'
 warned stringop-overread 'uint8_t a[15] = {0}; float points[6]; return cheremysl_draw(a, 16, 0, 0, points, 6);'
+warned stringop-overread 'uint8_t a[15] = {0}; uint16_t list[1]; return cheremysl_table_first(a, 16, table, 1, list, 1);'
+warned stringop-overread 'uint8_t a[15] = {0}; uint16_t list[1] = {0}; return cheremysl_table_next(a, 16, table, 1, list, 1);'
+warned stringop-overread 'uint8_t a[15] = {0}; return cheremysl_table_measure(a, 16, table, 1, given, 1);'
+
+warned stringop-overread 'uint32_t t[3] = {0}; uint16_t list[2]; return cheremysl_table_first(job, 32, t, 4, list, 2);'
+warned stringop-overread 'uint32_t t[3] = {0}; uint16_t list[2] = {0}; return cheremysl_table_next(job, 32, t, 4, list, 2);'
+warned stringop-overread 'uint32_t t[3] = {0}; return cheremysl_table_measure(job, 32, t, 4, given, 2);'
 
 warned nonnull 'return cheremysl_first(job, bytes, 1, 0, 0, 1);'
 warned nonnull 'return cheremysl_measure(0, 16, 1, 0, given, 1);'
 warned nonnull 'return cheremysl_page(job, bytes, 1, 0, given, 1, 0, 1);'
+warned nonnull 'uint16_t list[1]; return cheremysl_table_first(job, bytes, 0, 1, list, 1);'
+warned nonnull 'return cheremysl_table_measure(job, bytes, 0, 1, given, 1);'
 quiet 'return cheremysl_first(0, 0, 1, 0, 0, 0) + cheremysl_next(0, 0, 1, 0, 0, 0) + cheremysl_measure(0, 0, 1, 0, 0, 0);'
 quiet 'return cheremysl_draw(0, 0, 0, 0, 0, 0) + cheremysl_page(job, bytes, 1, 0, given, 1, 0, 0);'
+quiet 'return cheremysl_table_first(0, 0, 0, 0, 0, 0) + cheremysl_table_next(0, 0, 0, 0, 0, 0);'
+quiet 'return cheremysl_table_measure(job, bytes, 0, 0, given, 1);'
 
 # What a call only writes need not be filled; what it reads must, if only in part.
 quiet 'uint16_t list[64]; return cheremysl_first(job, bytes, 1, 0, list, 64);'
 quiet 'uint16_t page[64]; return cheremysl_page(job, bytes, 1, 0, given, 4, page, 64);'
+quiet 'uint16_t list[64]; return cheremysl_table_first(job, bytes, table, 16, list, 64);'
 quiet 'float points[6]; return cheremysl_draw(job, bytes, 0, 0, points, 6);'
 quiet 'uint16_t list[64]; list[0] = 1; list[1] = 0; return cheremysl_measure(job, 32, 1, 0, list, 64);'
 quiet 'uint16_t list[64]; list[0] = 1; list[1] = 0; return cheremysl_next(job, 32, 1, 0, list, 64);'
+quiet 'uint16_t list[64]; list[0] = 1; list[1] = 0; return cheremysl_table_measure(job, 32, table, 4, list, 64);'
+quiet 'uint16_t list[64]; list[0] = 1; list[1] = 0; return cheremysl_table_next(job, 32, table, 4, list, 64);'
 warned '\(maybe-\)*uninitialized' 'uint16_t list[64]; return cheremysl_next(job, bytes, 1, 0, list, 64);'
 warned '\(maybe-\)*uninitialized' 'uint16_t list[64]; return cheremysl_measure(job, bytes, 1, 0, list, 64);'
 warned '\(maybe-\)*uninitialized' 'uint16_t list[64]; return cheremysl_page(job, bytes, 1, 0, list, 64, 0, 0);'
+warned '\(maybe-\)*uninitialized' 'uint16_t list[64]; return cheremysl_table_next(job, bytes, table, 16, list, 64);'
+warned '\(maybe-\)*uninitialized' 'uint16_t list[64]; return cheremysl_table_measure(job, bytes, table, 16, list, 64);'
+warned '\(maybe-\)*uninitialized' 'uint32_t t[16]; return cheremysl_table_measure(job, bytes, t, 16, given, 4);'
 
 # ---- an answer that nobody looks at
 
@@ -146,7 +174,10 @@ for ignored in 'uint16_t list[64]; cheremysl_first(job, bytes, 1, 0, list, 64)' 
     'uint16_t list[64] = {0}; cheremysl_next(job, bytes, 1, 0, list, 64)' \
     'uint16_t page[64]; cheremysl_page(job, bytes, 1, 0, given, 1, page, 64)' \
     'cheremysl_measure(job, bytes, 1, 0, given, 1)' \
-    'float points[6]; cheremysl_draw(job, bytes, 0, 0, points, 6)'; do
+    'float points[6]; cheremysl_draw(job, bytes, 0, 0, points, 6)' \
+    'uint16_t list[64]; cheremysl_table_first(job, bytes, table, 16, list, 64)' \
+    'uint16_t list[64] = {0}; cheremysl_table_next(job, bytes, table, 16, list, 64)' \
+    'cheremysl_table_measure(job, bytes, table, 16, given, 4)'; do
     call "$ignored; return 0;"
     for compiler in "$gcc" "$gxx" "$clang" "$clangxx"; do
         check "$compiler does not say unused-result: $ignored" says '\[-Wunused-result' "$room/call.c" $compiler
@@ -162,6 +193,9 @@ static_assert(noexcept(cheremysl_next(nullptr, 0, 0, 0, nullptr, 0)), "Next");
 static_assert(noexcept(cheremysl_page(nullptr, 0, 0, 0, nullptr, 0, nullptr, 0)), "Page");
 static_assert(noexcept(cheremysl_measure(nullptr, 0, 0, 0, nullptr, 0)), "Measure");
 static_assert(noexcept(cheremysl_draw(nullptr, 0, 0, 0, nullptr, 0)), "Draw");
+static_assert(noexcept(cheremysl_table_first(nullptr, 0, nullptr, 0, nullptr, 0)), "First over a table");
+static_assert(noexcept(cheremysl_table_next(nullptr, 0, nullptr, 0, nullptr, 0)), "Next over a table");
+static_assert(noexcept(cheremysl_table_measure(nullptr, 0, nullptr, 0, nullptr, 0)), "Measure over a table");
 C
 check "$cxx: no call throws" silent "$room/throw.c" $gxx -std=c++11
 check "clang: no call throws" silent "$room/throw.c" $clangxx -std=c++11
@@ -203,7 +237,7 @@ text=$(printf '#include <cheremysl.h>\nCHEREMYSL_VERSION_TEXT\n' | $gcc -E -P $i
 check "version $lines, text $text" [ "${lines:-none}" = "$text" ]
 
 # A refusal without a sentence is a warning.
-sed 's/CHEREMYSL_PORT_TOO_CLOSE = 12/&, CHEREMYSL_NEW = 13/' include/cheremysl.h >"$room/cheremysl.h"
+sed 's/CHEREMYSL_BAD_TABLE = 13/&, CHEREMYSL_NEW = 14/' include/cheremysl.h >"$room/cheremysl.h"
 include=-I$room
 for compiler in "$gcc" "$gxx" "$clang" "$clangxx"; do
     check "$compiler: a refusal without a sentence" says 'CHEREMYSL_NEW.*\[-Wswitch' "$room/header.c" $compiler -Wall

@@ -83,7 +83,7 @@ strict="-std=c99 -Wall -Wextra -Werror -pedantic"
 compile() { $cc $strict -o "$room/$1" "$2" $flags $libs -Wl,-rpath,"$lib"; }
 compile_archive() { $cc $strict $static -o "$room/sheets-archive" "$share/sheets.c" $flags "$lib/libcheremysl.a"; }
 uses_shared() { $readelf -d "$room/$1" | grep -qF "[$soname]"; }
-for program in sheets audit; do
+for program in sheets audit antenna; do
     check "$program.c" compile $program "$share/$program.c"
     check "$program uses the shared library" uses_shared $program
 done
@@ -153,10 +153,30 @@ moved '101 10 20 0' '102 11 10 10' 'sound: length 41, bends 2' '1 0' '0 1' 'refu
 printf '101 10 0 10\n102 20 30 17\n' | "$share/mkjob" >"$room/close.job"
 prints 1 "refused 12 record 1 (pad 102)" audit "$room/close.job" 0 1
 
+# The antenna: the sheet that keeps off its area is the one that lies beside it and that the README shows; the shortest one crosses the area, and so does every
+# sheet if the area is the whole board. A refusal is said in words.
+antenna() { $run "$room/antenna" "$@"; }
+antenna_errors() { antenna "$@" 2>&1 >/dev/null | sed "s|$room/||"; }
+area=450,215,725,385
+prints 0 "$(cat "$share/antenna.layout")" antenna "$share/antenna.job" $area
+prints 0 "$(cat "$share/antenna.layout")" antenna - 725,215,450,385 <"$share/antenna.job"
+check "the README's antenna" grep -qxF "    $(cat "$share/antenna.layout")" README.md
+prints 0 'sound: length 7625, bends 10' $run "$room/audit" "$share/antenna.job" $(cat "$share/antenna.layout")
+shortest='8 3 9 1 2 10 0 11 5 6 12 4 7'
+prints 0 "$shortest" antenna "$share/antenna.job" 2000,0,3000,9
+prints 1 "$shortest" sh -c '"$@" 2>/dev/null' sh $run "$room/antenna" "$share/antenna.job" 0,0,2000,2000
+prints 0 'antenna: leaders that meet the area: 13; no sheet has fewer' antenna_errors "$share/antenna.job" 0,0,2000,2000
+prints 1 'refused 1 record 0: The job is not 1 to 64 records of 16 bytes.' antenna "$share/antenna.c" $area
+prints 1 'refused 12 record 1: The port of this record is less than 8 above the port of the record before.' antenna "$room/close.job" $area
+for words in '' "$share/antenna.job" "$share/antenna.job 1,2,3" "$share/antenna.job 1,2,3,4 5"; do
+    prints 0 'usage: antenna JOB X1,Y1,X2,Y2: a job file, and two corners of an area' antenna_errors $words
+done
+
 # A file that is not there is named.
 unopened() { $run "$@" 2>&1 | sed "s|.*cannot open $room/none: No such|No such|"; }
 prints 0 'No such file or directory' unopened "$room/sheets" "$room/none"
 prints 0 'No such file or directory' unopened "$room/audit" "$room/none" 0
+prints 0 'No such file or directory' unopened "$room/antenna" "$room/none" $area
 
 # The README's example is the one that was compiled.
 readme_example() { sed -n '/^```c$/,/^```$/{/^```/!p}' README.md | cmp - examples/sheets.c; }
@@ -205,7 +225,7 @@ for page in "$installed"/share/man/man?/*; do
 done
 for program in "$installed"/bin/*; do check "manual" [ -f "$installed/share/man/man1/${program##*/}.1" ]; done
 functions=$(sed -nE 's/^(static inline |int64_t ).*(cheremysl_[a-z_]+)\(.*/\2/p' include/cheremysl.h)
-check "functions of the header: $functions" [ "$(echo $functions | wc -w)" -ge 10 ]
+check "functions of the header: $functions" [ "$(echo $functions | wc -w)" -ge 14 ]
 for function in $functions; do
     check "manual of each function" grep -q "$function(" "$installed/share/man/man3/$function.3"
 done

@@ -1,5 +1,5 @@
 /*
- * large [COUNT [SEED]]: First, Next and Page on jobs of 8 to 64 pads.
+ * large [COUNT [SEED]]: First, Next and Page on jobs of 8 to 64 pads, over weights and over tables.
  *
  * Up to 12 pads the whole run is compared with a list of all layouts without a touching pair, made
  * from left to right: the leftmost pad has every other arm to its right, so it can only take the
@@ -9,12 +9,18 @@
  * Beyond, each sheet is measured, the run rises and keeps its total, no sheet found at random has a
  * smaller one, and with bend weight 0 the total is that of pads and ports joined in order of
  * height, than which no assignment is shorter. A page has what as many calls of Next give.
+ *
+ * Over the table of weighted lengths and bends the run is that over the weights; over one figure
+ * everywhere it is that over weights 0, 0; and it stays the same where all figures are multiplied,
+ * or those of one pad or of one port grow alike. A layout in which each pad has less than with any
+ * other port is the only sheet.
  */
 #include <stdio.h>
 #include <stdlib.h>
 #include <string.h>
 
 #include "boards.h"
+#include "cheremysl.h"
 #include "questions.h"
 #include "trial.h"
 
@@ -22,14 +28,17 @@
 #define MOST_SHEETS 2048
 #define STEPS 60
 
-static long runs_ended, steps_taken;
+static long runs_ended, steps_taken, pairs_ended;
 
 static void any_job(struct question *q, size_t n) {
+    static uint32_t table[TABLE_ROOM];
     make_board(q->job, n, below(BOARDS));
     q->job_bytes = 16 * n;
     q->count = n + below(3);
     any_weights(&q->a, &q->b);
+    lend_table(q, table, below(FIGURES));
     for (size_t i = 0; i < LIST_ROOM; i++) q->list.layout[i] = (uint16_t)below(65536);
+    q->call = below(3) ? FIRST : TABLE_FIRST;
 }
 
 static int64_t total_of(const struct question *q, const uint16_t *layout) {
@@ -93,13 +102,13 @@ static void whole_list(size_t n) {
     static struct listing l;
     any_job(&q, n);
     list_all(&q, &l);
-    q.call = FIRST;
     for (size_t k = 0; k < l.found; k++) {
+        bool paged = !takes_table(q.call) && (below(4) == 0 || k + 1 == l.found);
         struct reply expected = gives(&q, l.least, l.sheet[k]);
         if (!expect(&q, expected)) return;
         q.list = expected.list;
-        q.call = NEXT;
-        if ((below(4) == 0 || k + 1 == l.found) && !page_of_list(q, &l, k)) return;
+        turn_to(&q, NEXT);
+        if (paged && !page_of_list(q, &l, k)) return;
     }
     expect(&q, keeps(&q, -1));
     expect(&q, keeps(&q, -1));
@@ -125,7 +134,7 @@ static void list_agrees(size_t n) {
 
 static void measured(const struct question *q, int64_t total) {
     struct question m = *q;
-    m.call = MEASURE;
+    turn_to(&m, MEASURE);
     check(plain_reply(&m).answer == total, q, "the total is another, or leaders touch");
     expect(&m, keeps(&m, total));
 }
@@ -133,29 +142,32 @@ static void measured(const struct question *q, int64_t total) {
 /* A layout found at random: it is not better; Next and Page say so if it is worse. */
 static void no_better(const struct question *q, int64_t total) {
     struct question other = *q;
-    other.call = NEXT;
+    turn_to(&other, NEXT);
     any_untouching(q->job, records_of(q), other.list.layout);
     lend_page(&other, any_room(records_of(q)));
     int64_t found = total_of(&other, other.list.layout);
     check(found >= total, &other, "a smaller total than First's");
-    for (; other.call <= PAGE && found > total; other.call++)
-        expect(&other, keeps(&other, refused(10, 0)));
+    if (found == total) return;
+    expect(&other, keeps(&other, refused(10, 0)));
+    if (takes_table(other.call)) return;
+    other.call = PAGE;
+    expect(&other, keeps(&other, refused(10, 0)));
 }
 
 /* First, then Next for some steps; true if the end came. */
 static bool follow(struct question *q, long steps, long *sheets) {
-    q->call = FIRST;
+    turn_to(q, FIRST);
     struct reply r = ask(q, AT_END);
     int64_t total = r.answer;
     if (!check(total >= 0, q, "First refused")) return false;
     int64_t shortest = q->a * least_length(q->job, records_of(q));
-    if (q->b == 0) check(total == shortest, q, "not the least length");
+    if (!takes_table(q->call) && q->b == 0) check(total == shortest, q, "not the least length");
     for (*sheets = 1;; ++*sheets) {
         if (!expect(q, r)) return false; /* the same wherever the lists stand */
         check(memcmp(q->list.layout + records_of(q), r.list.layout + records_of(q),
                      (LIST_ROOM - records_of(q)) * sizeof(uint16_t)) == 0, q, "entries from n on");
         q->list = r.list;
-        q->call = NEXT;
+        turn_to(q, NEXT);
         measured(q, total);
         if (*sheets > steps) return false;
         r = ask(q, *sheets % 2 ? AT_START : AT_END);
@@ -175,24 +187,119 @@ static void large_job(size_t n) {
     long sheets;
     any_job(&q, n);
     follow(&q, STEPS, &sheets);
+    turn_to(&q, MEASURE);
+    int64_t total = ask(&q, AT_END).answer;
+    for (int k = 0; k < 10; k++) no_better(&q, total);
+    if (takes_table(q.call)) return;
     q.call = PAGE;
     lend_page(&q, any_room(n));
     expect(&q, stepped(&q));
-    q.call = MEASURE;
-    int64_t total = ask(&q, AT_END).answer;
-    for (int k = 0; k < 10; k++) no_better(&q, total);
 }
 
-static void counted_run(size_t n, size_t pairs) {
+/* Over weights 1, 0; or over their table. */
+static void counted_run(size_t n, size_t pairs, bool tabled) {
     static struct question q;
+    static uint32_t table[TABLE_ROOM];
     long sheets = 0, expected = 1L << pairs;
     any_job(&q, n);
     make_tied(q.job, n, pairs);
     q.a = 1;
     q.b = 0;
+    q.call = FIRST;
+    if (tabled) q = by_table(&q, table);
     check(follow(&q, expected, &sheets), &q, "the run should end");
     check(sheets == expected, &q, "the run has another number of sheets");
 }
+
+/* ---- two runs with the same sheets ---- */
+
+/* Each total of the other run is so many times the one's, and so much more. */
+static void same_runs(struct question one, struct question other, int64_t times, int64_t more) {
+    turn_to(&one, FIRST);
+    turn_to(&other, FIRST);
+    for (int steps = 0; steps <= STEPS; steps++) {
+        int64_t answer = call_library(&one), wanted = answer < 0 ? answer : times * answer + more;
+        bool same = call_library(&other) == wanted;
+        same &= memcmp(&one.list, &other.list, sizeof one.list) == 0;
+        pairs_ended += answer == -1;
+        if (!check(same, &other, "another run") || answer < 0) return;
+        turn_to(&one, NEXT);
+        turn_to(&other, NEXT);
+    }
+}
+
+/* Over weights and over their table: the run, and Measure of any layout, touching or not. */
+static void weighed_runs(size_t n) {
+    static struct question q;
+    static uint32_t table[TABLE_ROOM];
+    any_job(&q, n);
+    q.call = FIRST;
+    same_runs(q, by_table(&q, table), 1, 0);
+    q.call = MEASURE;
+    any_untouching(q.job, n, q.list.layout);
+    alike(&q);
+    uint16_t *at = q.list.layout + below((uint32_t)n), kept = *at;
+    *at = q.list.layout[0];
+    q.list.layout[0] = kept;
+    alike(&q);
+}
+
+/* One figure everywhere: every untouching layout is best, as with weights 0, 0. */
+static void equal_runs(size_t n, enum figures kind) {
+    static struct question q;
+    any_job(&q, n);
+    lend_table(&q, q.table, kind);
+    int64_t total = (int64_t)n * q.table[0];
+    struct question one = q;
+    one.call = FIRST;
+    one.a = one.b = 0;
+    q.call = TABLE_FIRST;
+    same_runs(one, q, 1, total);
+    any_untouching(q.job, n, q.list.layout);
+    measured(&q, total);
+    if (n == 64 && kind == HIGHEST)
+        check(total == CHEREMYSL_MAX_TABLE_TOTAL, &q, "not the largest total");
+}
+
+/* All figures times a number, and so much more for each pad and for each port. */
+static void shifted_runs(size_t n) {
+    static struct question q, shifted;
+    static uint32_t table[TABLE_ROOM];
+    uint32_t times = 1 + below(1000000), pad_more = 0, port_more[64];
+    int64_t more = 0;
+    any_job(&q, n);
+    q.call = TABLE_FIRST;
+    for (size_t k = 0; k < n * n; k++) q.table[k] %= 1000;
+    shifted = q;
+    shifted.table = table;
+    for (size_t port = 0; port < n; port++) more += port_more[port] = below(1000000000);
+    for (size_t k = 0; k < n * n; k++) {
+        if (k % n == 0) more += pad_more = below(1000000000);
+        table[k] = times * q.table[k] + pad_more + port_more[k % n];
+    }
+    same_runs(q, shifted, times, more);
+}
+
+/* A layout in which each pad has less than with any other port: the only sheet. */
+static void planted_run(size_t n) {
+    static struct question q;
+    uint16_t layout[64];
+    int64_t total = 0;
+    any_job(&q, n);
+    q.call = TABLE_FIRST;
+    for (size_t k = 0; k < n * n; k++) q.table[k] += q.table[k] == 0;
+    any_untouching(q.job, n, layout);
+    plant(q.table, n, layout);
+    for (size_t i = 0; i < n; i++) total += q.table[n * i + layout[i]] /= 2;
+    struct reply expected = gives(&q, total, layout);
+    if (!expect(&q, expected)) return;
+    q.list = expected.list;
+    turn_to(&q, NEXT);
+    expect(&q, keeps(&q, -1));
+    no_better(&q, total);
+}
+
+static size_t any_size(long k) { return k % 4 == 0 ? 64 : 8 + below(57); }
 
 int main(int argc, char **argv) {
     long count = argc > 1 ? atol(argv[1]) : 100;
@@ -200,9 +307,18 @@ int main(int argc, char **argv) {
     begin();
     for (long k = 0; k < 10 * count; k++) list_agrees(1 + below(6));
     for (long k = 0; k < 10 * count; k++) whole_list(8 + below(5));
-    for (long k = 0; k < count; k++) large_job(k % 4 == 0 ? 64 : 8 + below(57));
-    for (size_t pairs = 0; pairs <= 7; pairs++) counted_run(64, pairs);
-    check(runs_ended > 0, NULL, "no run ended");
-    printf("%ld jobs, %ld steps, %ld runs to the end\n", 21 * count + 8, steps_taken, runs_ended);
+    for (long k = 0; k < count; k++) large_job(any_size(k));
+    for (size_t pairs = 0; pairs <= 7; pairs++) counted_run(64, pairs, false);
+    for (size_t pairs = 1; pairs <= 7; pairs += 2) counted_run(64, pairs, true);
+    for (long k = 0; k < count; k++) {
+        weighed_runs(any_size(k));
+        equal_runs(any_size(k), EQUAL + (enum figures)(k % 3));
+        shifted_runs(any_size(k));
+        planted_run(any_size(k));
+    }
+    equal_runs(64, HIGHEST);
+    check(runs_ended > 0 && pairs_ended > 0, NULL, "no run ended");
+    printf("%ld jobs, %ld steps, %ld runs to the end, and %ld with another run beside\n",
+           25 * count + 13, steps_taken, runs_ended, pairs_ended);
     return done();
 }

@@ -14,35 +14,33 @@
 #define PLAIN_UNKNOWN INT64_MIN /* .. and answer this for an accepted job with more */
 #define PLAIN_SHEETS 5040       /* assignments of seven pads */
 
-/* The calls, with the library's prototypes. */
-int64_t plain_first(const uint8_t *job, size_t job_bytes, uint32_t length_weight,
-                    uint32_t bend_weight, uint16_t *layout, size_t entries);
-int64_t plain_next(const uint8_t *job, size_t job_bytes, uint32_t length_weight,
-                   uint32_t bend_weight, uint16_t *layout, size_t entries);
-int64_t plain_page(const uint8_t *job, size_t job_bytes, uint32_t length_weight,
-                   uint32_t bend_weight, const uint16_t *layout, size_t entries, uint16_t *page,
-                   size_t page_entries);
-int64_t plain_measure(const uint8_t *job, size_t job_bytes, uint32_t length_weight,
-                      uint32_t bend_weight, const uint16_t *layout, size_t entries);
-int64_t plain_draw(const uint8_t *job, size_t job_bytes, uint32_t record, uint32_t port,
-                   float *points, size_t floats);
-
-#define PLAIN_REFUSALS 13 /* one more than the largest refusal number */
+#define PLAIN_REFUSALS 14 /* one more than the largest refusal number */
 
 /* The refusal numbers a call can give, in the order of its checks; 0 ends it. Page has Next's. */
 extern const int first_checks[], next_checks[], measure_checks[], draw_checks[];
+extern const int table_first_checks[], table_next_checks[], table_measure_checks[];
 
 /* What a call is given. First's and Draw's lists have a size only; Draw has no weights. */
 struct given {
     const uint8_t *job;
     size_t job_bytes;
     uint32_t length_weight, bend_weight;
+    const uint32_t *table;
+    size_t figures;
+    bool by_table; /* the total is of the table's figures: the weights do not count */
     const uint16_t *layout;
     size_t entries;
     uint32_t record, port;
     size_t floats;
     bool draw; /* refusal 3 is about the floats */
 };
+
+/* The calls, over weights or a table. What they write may be the list that they are given. */
+int64_t plain_first(const struct given *g, uint16_t *layout);
+int64_t plain_next(const struct given *g, uint16_t *layout);
+int64_t plain_page(const struct given *g, uint16_t *page, size_t page_entries);
+int64_t plain_measure(const struct given *g);
+int64_t plain_draw(const struct given *g, float *points);
 
 /* The first record at fault for one refusal number, whatever the others say; -1 if none is. */
 int plain_fault(const struct given *g, int number);

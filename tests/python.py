@@ -43,17 +43,20 @@ def reply(call, *words):
 class Board:
     """A job as 01 reads it."""
     def __init__(self, job):
-        self.bad, self.n = plain.refusal(job), len(job) // 16
+        self.bad, self.n, self.apart = plain.refusal(job), len(job) // 16, []
         if self.bad:
             return
         self.records = list(struct.iter_unpack('<HHIii', job))
         self.right = sorted(range(self.n), key=lambda i: -self.records[i][2])
         self.on = {(i, q): plain.points(*self.records[i][2:4], self.records[q][4]) for i in range(self.n) for q in range(self.n)}
 
-    def cost(self, i, q, lengths, bends):
-        _, _, x, y, _ = self.records[i]
-        rise = abs(y - self.records[q][4])
-        return lengths * (x + rise) + bends * (rise > 0)
+    def weighted(self, lengths, bends):
+        """The table of weighted lengths and bends."""
+        rise = lambda i, q: abs(self.records[i][3] - self.records[q][4])
+        return [lengths * (self.records[i][2] + rise(i, q)) + bends * (rise(i, q) > 0) for i in range(self.n) for q in range(self.n)]
+
+    def total(self, table, f):
+        return sum(table[i * self.n + f[i]] for i in range(self.n))
 
     def touching(self, f):
         for i in range(self.n):
@@ -61,19 +64,20 @@ class Board:
                 if self.on[i, f[i]] & self.on[j, f[j]]:
                     return i, j
 
-    def best(self, lengths, bends):
+    def best(self, table):
         """The least total, and the layouts that have it, in order."""
-        total = lambda f: sum(self.cost(i, f[i], lengths, bends) for i in range(self.n))
-        apart = [(total(f), [f[i] for i in self.right], list(f)) for f in itertools.permutations(range(self.n)) if not self.touching(f)]
+        if not self.apart:
+            self.apart = [f for f in itertools.permutations(range(self.n)) if not self.touching(f)]
+        apart = [(self.total(table, f), [f[i] for i in self.right], list(f)) for f in self.apart]
         least = min(apart)[0]
         return least, [f for t, _, f in sorted(apart) if t == least]
 
-    def refusal(self, layout, lengths, bends):
-        """Measure's; without a layout, First's."""
+    def refusal(self, layout, second):
+        """Measure's; without a layout, First's. second: 2 or 13, if the weights or the table deserve it, else 0."""
         if self.bad and self.bad[0] == 1:
             return 1, 0, None
-        if max(lengths, bends) > 1000:
-            return 2, 0, None
+        if second:
+            return second, 0, None
         if layout is not None and len(layout) < self.n:
             return 3, 0, None
         if self.bad:
@@ -90,7 +94,7 @@ class Board:
         return [(a / 4, -b / 4) for a, b in ([(x, y)] if y == port else [(x, y), (x, port)]) + [(0, port)]]
 
 def try_best(library, job, board, weights):
-    total, best = board.best(*weights)
+    total, best = board.best(board.weighted(*weights))
     every = [(total, f) for f in best]
     binding.PAGE_SHEETS = len(best) % 4 + 1
     check('first', library.first(job, *weights), every[0])
@@ -104,14 +108,46 @@ def try_best(library, job, board, weights):
 
 def try_given(library, job, board, weights, layout, total, best):
     """A layout from anywhere: measured, and refused or not as one to go on from."""
-    bad = board.refusal(layout, *weights)
+    bad = board.refusal(layout, 2 if max(weights) > 1000 else 0)
     f = layout[:board.n]
-    measured = bad or sum(board.cost(i, f[i], *weights) for i in range(board.n))
+    measured = bad or board.total(board.weighted(*weights), f)
     check('measure', reply(library.measure, job, layout, *weights), measured)
     if bad or f not in best:
         bad = bad or (10, 0, None)
         check('next', reply(library.next_, job, layout, *weights), bad)
         check('page', reply(library.page, job, layout, 2, *weights), bad)
+
+def try_table_best(library, job, board, table):
+    """Every best sheet by a table, one after the other."""
+    total, best = board.best(table)
+    every = [(total, f) for f in best] + [None]
+    check('table_first', library.table_first(job, table), every[0])
+    for at, f in enumerate(best[:30]):
+        check('table_next', library.table_next(job, tuple(table), tuple(f) + (0, 65535)), every[at + 1])
+    return best
+
+def try_table(library, job, board, table, given):
+    """The table calls, on these layouts too."""
+    second, best = 13 if len(table) != board.n ** 2 else 0, []
+    bad = board.refusal(None, second)
+    if bad:
+        check('table_first', reply(library.table_first, job, table), bad)
+    else:
+        best = try_table_best(library, job, board, table)
+    for layout in given:
+        bad, f = board.refusal(layout, second), layout[:board.n]
+        check('table_measure', reply(library.table_measure, job, table, layout), bad or board.total(table, f))
+        if bad or f not in best:
+            check('table_next', reply(library.table_next, job, table, layout), bad or (10, 0, None))
+
+def tables(r, board):
+    """Tables of every kind: random, with ties, with the largest figure, of weighted leaders; and of another length."""
+    n = min(board.n, 65) ** 2  # a larger job is refused before its table is looked at
+    for most in 1, 9, 4294967295:
+        yield [r.choice([0, most, r.randint(0, most)]) for _ in range(n)]
+    if not board.bad:
+        yield board.weighted(r.randint(0, 1000), r.randint(0, 1000))
+    yield r.choice([[0] * (n + 1), [0] * max(n - 1, 0), [0] * (2 * n), [], [1] * board.n])
 
 def try_draw(library, job, board):
     for i, q in itertools.product(range(board.n + 1), repeat=2):
@@ -131,14 +167,17 @@ def layouts(r, n):
 def try_job(library, job, r):
     weights = r.choice([(1, 0), (0, 0), (0, 1), (1, 1), (2, 3), (1000, 1000), (r.randint(0, 9), r.randint(0, 9)), (1001, 0), (0, 4294967295)])
     board, total, best = Board(job), None, []
-    bad = board.refusal(None, *weights)
+    bad = board.refusal(None, 2 if max(weights) > 1000 else 0)
     if bad:
         check('first', reply(library.first, job, *weights), bad)
         check('sheets', reply(list, library.sheets(job, *weights)), bad)
     else:
         total, best = try_best(library, job, board, weights)
-    for layout in layouts(r, min(board.n, 64)) if board.n else [[], [0]]:
+    given = list(layouts(r, min(board.n, 64))) if board.n else [[], [0]]
+    for layout in given:
         try_given(library, job, board, weights, layout, total, best)
+    for table in tables(r, board):
+        try_table(library, job, board, table, given)
     if not board.bad:
         try_draw(library, job, board)
     else:
@@ -165,8 +204,14 @@ def try_numbers(library):
         check('weight', reply(library.first, job, bad, 0), OverflowError)
         check('weight', reply(library.measure, job, [0], 0, bad), OverflowError)
         check('record', reply(library.draw, job, bad, 0), OverflowError)
+        check('figure', reply(library.table_first, job, [bad]), OverflowError)
+        check('figure', reply(library.table_next, job, [bad], [0]), OverflowError)
+        check('figure', reply(library.table_measure, job, [bad], [0]), OverflowError)
     for bad in -1, 65536, 2 ** 32:
         check('entry', reply(library.measure, job, [bad]), OverflowError)
+        check('entry', reply(library.table_measure, job, [0], [bad]), OverflowError)
+    for bad in 0.5, None, 'x':
+        check('figure', reply(library.table_first, job, [bad]), TypeError)
     for bad in 16, 'x' * 16, [0] * 16, None:
         check('job', reply(library.measure, bad, [0]), TypeError)
     check('job', library.first(bytearray(job)), (5, [0]))
@@ -175,6 +220,12 @@ def try_numbers(library):
     most = binding.job_of((i, 100 + i, 8 * i, 8 * i) for i in range(64))
     check('64 records', library.first(most), (sum(range(100, 164)), list(range(64))))
     check('a long list of ports', library.measure(most, list(range(1000))), sum(range(100, 164)))
+    check('largest figures', library.table_first(most, iter([4294967295] * 4096))[0], 274877906880)
+    check('largest figures', library.table_measure(most, [4294967295] * 4096, range(64)), 274877906880)
+    level = binding.job_of([(101, 10, 20, 0), (102, 20, 10, 10)])  # by this table the leaders that touch cost nothing
+    check('crossing pays', library.table_first(level, [0, 1, 1, 0]), (2, [1, 0]))
+    check('crossing pays', library.table_next(level, [0, 1, 1, 0], [1, 0]), None)
+    check('crossing pays', reply(library.table_measure, level, [0, 1, 1, 0], [0, 1]), (9, 1, 0))
 
 def try_texts(texts):
     check('texts', [binding.TEXTS.get(number) for number in range(1, len(texts) + 1)], texts)
@@ -182,11 +233,12 @@ def try_texts(texts):
     check('text', str(binding.Refusal(12, 1)), 'refused 12 record 1: ' + texts[11])
     check('text', str(binding.Refusal(9, 2, 0)), 'refused 9 record 2 and record 0: ' + texts[8])
     check('text', str(binding.Refusal(99, 0))[:20], 'refused 99 record 0:')
-    for number, record, earlier in itertools.product(range(1, 13), [0, 1, 63], [0, 1, 63]):
+    for number, record, earlier in itertools.product(range(1, 14), [0, 1, 63], [0, 1, 63]):
         if number == 9 or not earlier:
             answer = -(4294967296 * earlier + 65536 * number + record)
             check('answer', reply(binding.taken_apart, answer), (number, record, earlier if number == 9 else None))
-    check('answers', [binding.taken_apart(answer) for answer in (-1, 0, 192000064000)], [-1, 0, 192000064000])
+    for answer in -1, 0, 192000064000, 274877906880:
+        check('answers', binding.taken_apart(answer), answer)
 
 def try_jobs():
     """The jobs that lie beside the binding, made again by it."""
@@ -238,6 +290,6 @@ if len(sys.argv) > 2:
     try_numbers(library)
     try_program(sys.argv[2], texts)
     try_reader(sys.argv[2])
-    check('refusals seen', seen, set(range(1, 13)))
+    check('refusals seen', seen, set(range(1, 14)))
 print('%d passed, %d failed' % (passed, failed))
 sys.exit(failed > 0 or passed == 0)

@@ -14,7 +14,7 @@ cat >"$room/texts.c" <<'END'
 #include <cheremysl.h>
 #include <stdio.h>
 int main(void) {
-    for (int64_t number = CHEREMYSL_BAD_SIZE; number <= CHEREMYSL_PORT_TOO_CLOSE; number++) puts(cheremysl_refusal_text(-65536 * number));
+    for (int64_t number = CHEREMYSL_BAD_SIZE; number <= CHEREMYSL_BAD_TABLE; number++) puts(cheremysl_refusal_text(-65536 * number));
     return 0;
 }
 END

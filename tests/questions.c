@@ -5,8 +5,6 @@
 
 #include "boards.h"
 
-static uint32_t any_bits(void) { return below(65536) << 16 | below(65536); }
-
 /* A random record number; any record's place in the buffer is there even if the job is shorter. */
 static size_t any_record(const struct question *q) {
     return below((uint32_t)records_of(q) + (records_of(q) == 0));
@@ -28,9 +26,10 @@ static void any_layout(const uint8_t *job, size_t n, uint16_t *layout) {
 
 /* A best layout: the first, or one some steps on. */
 static void best_layout(const struct question *q, uint16_t *layout) {
-    plain_first(q->job, q->job_bytes, q->a, q->b, layout, q->count);
-    for (uint32_t steps = below(4); steps > 0; steps--)
-        plain_next(q->job, q->job_bytes, q->a, q->b, layout, q->count);
+    struct given g = given_of(q);
+    g.layout = layout;
+    plain_first(&g, layout);
+    for (uint32_t steps = below(4); steps > 0; steps--) plain_next(&g, layout);
 }
 
 size_t any_room(size_t n) {
@@ -38,6 +37,7 @@ size_t any_room(size_t n) {
 }
 
 void sound_question(struct question *q, enum call call) {
+    static uint32_t table[TABLE_ROOM];
     size_t n = 1 + below(below(3) ? 5 : 64);
     memset(q, 0, sizeof *q);
     q->call = call;
@@ -54,6 +54,7 @@ void sound_question(struct question *q, enum call call) {
         q->a = below((uint32_t)n);
         q->b = below((uint32_t)n);
     }
+    if (takes_table(call)) lend_table(q, table, below(FIGURES));
     if (takes_best(call) && n <= 5 && below(2))
         best_layout(q, q->list.layout);
     else if (takes_layout(call))
@@ -115,7 +116,25 @@ static void damage_entries(struct question *q) {
     }
 }
 
+/* Another figure, or another length; far too long a table has the right one in its last bits. */
+static void damage_table(struct question *q) {
+    size_t n = records_of(q), right = n * n;
+    switch (below(7)) {
+    case 0: q->figures = right - (right > 0); break;
+    case 1: q->figures = right + 1; break;
+    case 2: q->figures = below(2) ? n : (n + 1) * (n + 1); break;
+    case 3: q->figures = below(TABLE_ROOM + 1); break;
+    case 4: q->figures = right + ((size_t)1 << (16 + below(48))); break;
+    default: q->table[below((uint32_t)right + (right == 0))] = below(2) ? any_bits() : below(3);
+    }
+}
+
+/* The numbers, or the table that a call has in their place. */
 static void damage_numbers(struct question *q) {
+    if (takes_table(q->call)) {
+        damage_table(q);
+        return;
+    }
     uint32_t *number = below(2) ? &q->a : &q->b;
     uint32_t least = q->call == DRAW ? (uint32_t)records_of(q) : 1001;
     *number = below(2) ? least : below(2) ? UINT32_MAX : any_bits();
@@ -139,7 +158,7 @@ void damage(struct question *q) {
 /* ---- the report ---- */
 
 void report_refusals(const char *title, enum call call, const long *came) {
-    printf("%-8s %ld accepted, refused", title, came[0] + came[ENDS]);
+    printf("%-12s %ld accepted, refused", title, came[0] + came[ENDS]);
     for (const int *number = refusals_of[call]; *number != 0; number++) {
         printf(" %d: %ld", *number, came[*number]);
         check(came[*number] > 0, NULL, "a refusal that never came");

@@ -4,7 +4,10 @@
 
 #include "trial.h"
 
-/* A random question of one call that is accepted, or whose layout touches or is not best. */
+/*
+ * A random question of one call that is accepted, or whose layout touches or is not best. Its table
+ * stands until the next question.
+ */
 void sound_question(struct question *q, enum call call);
 
 /* Changes one thing; the question may then deserve a refusal, or another. */

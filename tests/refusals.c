@@ -1,7 +1,8 @@
 /*
  * Every refusal of every call, at every record and in every way; every pair of refusals that one
  * input can deserve, wherever both stand; and all of them at once, mended one by one. Each time
- * nothing is written, and Page refuses alike with room for some and with room for none.
+ * nothing is written, and Page refuses alike with room for some and with room for none. Tables of
+ * other lengths than the right one, for 1 to 64 pads, and of lengths that no memory has.
  */
 #include <stdio.h>
 #include <string.h>
@@ -14,10 +15,11 @@
 
 /*
  * Records 0 to 3 are straight; 4 and 5 are a pair that can be led both ways without touching, one
- * way longer than the other. The layout is best: pad i to port i.
+ * way longer than the other. The layout is best: pad i to port i. The table has the lengths.
  */
 static struct question good(enum call call) {
     static const int64_t x[N] = {30, 10, 40, 20, 50, 60}, y[N] = {0, 10, 20, 30, 45, 90};
+    static uint32_t table[TABLE_ROOM];
     struct question q;
     memset(&q, 0, sizeof q);
     q.call = call;
@@ -33,6 +35,7 @@ static struct question good(enum call call) {
         return q;
     }
     q.a = 1;
+    if (takes_table(call)) lend_weights(&q, table, 1, 0);
     for (size_t i = 0; i < LIST_ROOM; i++) q.list.layout[i] = (uint16_t)i;
     return q;
 }
@@ -65,7 +68,8 @@ static void bad_field(struct question *q, size_t i, int way) {
 static bool spoil(struct question *q, int number, size_t i, int way) {
     static const size_t sizes[WAYS] = {16 * N + 1, 16 * N + 15, 0, 1040, 1025, 16 * N - 1};
     static const int64_t weights[2] = {1001, UINT32_MAX};
-    bool whole = number <= 3 || number == 10 || number == 11;
+    static const size_t tables[WAYS] = {N * N - 1, N * N + 1, 0, N, (N + 1) * (N + 1), 64 * 64};
+    bool whole = number <= 3 || number == 10 || number == 11 || number == 13;
     bool needs_earlier = number >= 5 && number != 8 && !whole;
     if ((whole && i > 0) || (needs_earlier && i == 0)) return false;
     switch (number) {
@@ -84,6 +88,7 @@ static bool spoil(struct question *q, int number, size_t i, int way) {
     case 10: swap_entries(q, 4, 5); return way == 0;
     case 11: *(way % 2 ? &q->a : &q->b) = way < 2 ? N : UINT32_MAX; return way < 4;
     case 12: put_port(q->job, i, get_port(q->job, i - 1) + (way ? 1 : 7)); return way < 2;
+    case 13: q->figures = tables[way]; return true;
     default: return false;
     }
 }
@@ -126,9 +131,9 @@ static long both(enum call call, int one, int other) {
     return deserved;
 }
 
-/* 10 is about a layout with no touching pair: not about a list that deserves 3, 8 or 9. */
+/* 10 is about the total of a layout with no touching pair: not where 3, 8, 9 or 13 is deserved. */
 static bool exclude_each_other(int one, int other) {
-    return other == 10 && (one == 3 || one == 8 || one == 9);
+    return other == 10 && (one == 3 || one == 8 || one == 9 || one == 13);
 }
 
 static void pairs(enum call call) {
@@ -152,7 +157,7 @@ static void longer_and_wrong(enum call call) {
 
 /* Earlier checks at later records, as far as can be: a 12 at record 3 would mend the 5 at 4. */
 static size_t record_for(int number) {
-    static const size_t records[PLAIN_REFUSALS] = {0, 0, 0, 0, 5, 4, 3, 2, 1, 3, 0, 0, 5};
+    static const size_t records[PLAIN_REFUSALS] = {0, 0, 0, 0, 5, 4, 3, 2, 1, 3, 0, 0, 5, 0};
     return records[number];
 }
 
@@ -163,6 +168,50 @@ static void mended_one_by_one(enum call call) {
         for (const int *number = unmended; *number != 0; number++)
             spoil(&q, *number, record_for(*number), 0);
         is_refused(q, *unmended, (int)record_for(*unmended));
+    }
+}
+
+/* ---- tables of another length ---- */
+
+/* Of a straight board of n pads: all is right but the length, which must be n times n. */
+static void table_of(enum call call, size_t n, size_t figures) {
+    struct question q = good(call);
+    q.job_bytes = 16 * n;
+    q.count = n;
+    for (size_t i = 0; i < n; i++) {
+        int64_t height = 10 * (int64_t)i;
+        put_record(q.job, i, 0, 1 + (int64_t)i, height, height);
+    }
+    lend_table(&q, q.table, ZEROS);
+    q.figures = figures;
+    if (figures != n * n)
+        is_refused(q, 13, 0);
+    else
+        check(ask(&q, AT_END).answer == (call == TABLE_NEXT ? -1 : 0), &q, "this should pass");
+}
+
+/* Those beside the right one, other squares, and all that are the right one in fewer bits. */
+static void table_lengths(enum call call, size_t n) {
+    size_t right = n * n, others[] = {right, right - 1, right + 1, 0, 1, n, 2 * n, right - n,
+                                      right + n, (n - 1) * (n - 1), (n + 1) * (n + 1), 64 * 64,
+                                      65 * 65, 2 * right, 4 * right};
+    for (size_t k = 0; k < sizeof others / sizeof *others; k++) table_of(call, n, others[k]);
+    for (int bit = 7; bit < 64; bit++) table_of(call, n, right + ((size_t)1 << bit));
+}
+
+/*
+ * Lengths that no memory has. The header wants every figure that is lent to be there; these are
+ * not, with NULL as with a pointer. What the archive does: the length alone decides, and nothing is
+ * read, so 13 is the answer.
+ */
+static void endless_tables(enum call call) {
+    static const size_t counts[] = {SIZE_MAX, SIZE_MAX / 2, SIZE_MAX / 4, SIZE_MAX - N * N + 1,
+                                    (size_t)1 << 32, (size_t)1 << 62, (size_t)1 << 63};
+    for (size_t k = 0; k < sizeof counts / sizeof *counts; k++) {
+        table_of(call, N, counts[k]);
+        table_of(call, N, counts[k] + N * N);
+        table_of(call, 1, counts[k]);
+        table_of(call, 64, counts[k]);
     }
 }
 
@@ -182,6 +231,9 @@ int main(void) {
         pairs(call);
         if (takes_layout(call)) longer_and_wrong(call);
         mended_one_by_one(call);
+        if (!takes_table(call)) continue;
+        for (size_t n = 1; n <= 64; n++) table_lengths(call, n);
+        endless_tables(call);
     }
     return done();
 }

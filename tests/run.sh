@@ -1,9 +1,9 @@
 #!/bin/sh
-# tests/run.sh [--no-search] [--fuzz | --no-fuzz] [ARCHIVE]: builds the library's archive, or takes the one given, then
+# tests/run.sh [--no-search] [--random | --no-random] [ARCHIVE]: builds the library's archive, or takes the one given, then
 # compiles and runs the C tests, once as they are and once more under the sanitizers. Fails on any failure; the last line
 # has the counts.
-#   --no-search  only what needs Measure and Draw alone
-#   --fuzz, --no-fuzz  the fuzz trial alone; all but that. Two such runs may go on side by side
+#   --no-search  only what needs Measure, over weights or a table, and Draw alone
+#   --random, --no-random  the trials on random inputs alone, random and fuzz; all but those. Two such runs may go on side by side
 #   SEED, TIMES  in the environment: another seed; so many times the usual number of random trials
 # What is missing is installed by apt-get (tools/machine.sh).
 set -u
@@ -12,9 +12,9 @@ flags= archive= search=yes part=all seed=${SEED:-1} times=${TIMES:-1} passed=0 f
 for word; do
     case $word in
     --no-search) search= flags=-DNO_SEARCH ;;
-    --fuzz) part=fuzz ;;
-    --no-fuzz) part=rest ;;
-    -*) echo "usage: tests/run.sh [--no-search] [--fuzz | --no-fuzz] [ARCHIVE]" >&2; exit 2 ;;
+    --random) part=random ;;
+    --no-random) part=rest ;;
+    -*) echo "usage: tests/run.sh [--no-search] [--random | --no-random] [ARCHIVE]" >&2; exit 2 ;;
     *) archive=$word ;;
     esac
 done
@@ -47,9 +47,11 @@ try() {
     name=$1
     shift
     echo "$name: $*"
+    began=$(date +%s)
     $run "$@" >$out/log 2>&1
     status=$?
     sed 's/^/    /' $out/log
+    echo "    $(($(date +%s) - began)) s"
     counts=$(sed -n '$s/^\([0-9]*\) passed, \([0-9]*\) failed$/\1 \2/p' $out/log)
     case $counts in
     "" | "0 0") fail "$name: status $status, nothing counted" ;;
@@ -87,18 +89,20 @@ finish() {
     exit
 }
 
-[ $part = rest ] || both fuzz 250000 25000
-[ $part != fuzz ] || finish
+[ $part = rest ] || { both fuzz 400000 40000; both random 400000 40000; }
+[ $part != random ] || finish
 
 # The archive exports nothing but the calls, has no variables, and needs nothing but memcpy and its kin.
-exports=$($nm -g --defined-only "$archive" | sed -En '/ cheremysl_(first|next|page|measure|draw)$/!s/.* . //p')
+calls='first|next|page|measure|draw|table_(first|next|measure)'
+exports=$($nm -g --defined-only "$archive" | sed -En "/ cheremysl_($calls)\$/!s/.* . //p")
 others=$($nm "$archive" | sed -En '/ [BbCDdGgSs] | U /{/ U (mem(cpy|set|move|cmp)|_GLOBAL_OFFSET_TABLE_)$/!s/.* //p}')
 [ -z "$exports" ] && passed=$((passed + 1)) || fail "the archive exports" $exports
 [ -z "$others" ] && passed=$((passed + 1)) || fail "the archive has or needs" $others
 
 for form in c99 c11 c++11 c++17; do
-    case $form in c++*) compiler="$cxx -x c++" linker=$cxx ;; *) compiler=$cc linker=$cc ;; esac
-    if $compiler -std=$form $strict -c -o $out/abi.o tests/abi.c && $linker $static -o $out/abi $out/abi.o "$archive"
+    # A cross compiler's static libm names files of another machine: C++, which needs it, is linked to the shared one.
+    case $form in c++*) compiler="$cxx -x c++" linker=$cxx ;; *) compiler=$cc linker="$cc $static" ;; esac
+    if $compiler -std=$form $strict -c -o $out/abi.o tests/abi.c && $linker -o $out/abi $out/abi.o "$archive"
     then try "header as $form" $out/abi
     else fail "the header does not compile as $form"
     fi
@@ -107,10 +111,9 @@ done
 both sheets
 both refusals
 both touching 100 10
-both random 250000 25000
 if [ $search ]; then
-    both every 20000 2000
-    both large 100 10
+    both every 30000 3000
+    both large 150 15
     both pages 200 20
 fi
 # Traps and registers as they happen to be are not for the sanitizers.
@@ -119,7 +122,7 @@ build floats floats "" $plain && try floats $out/floats $((600 * times)) $seed
 build stack stack "" $plain -Wl,-z,now && try stack $out/stack
 
 # The header and the README state the figures that the test holds the calls to.
-figures=$(sed -En 's/^([A-Z][a-z]+) .* stack, ([0-9]+) stated$/\1:\2/p' $out/log | sed -E 's/[0-9]{3}$/,&/; s/:,/:/')
+figures=$(sed -En 's/^([A-Za-z]+) .* stack, ([0-9]+) stated$/\1:\2/p' $out/log | sed -E 's/[0-9]{3}$/,&/; s/:,/:/')
 [ "$figures" ] || fail "the stack test states no figures"
 for figure in $figures; do
     call=${figure%:*} bytes=${figure#*:}

@@ -12,6 +12,7 @@ struct record {
 };
 
 static struct question about(enum call call, size_t n, const struct record *records) {
+    static uint32_t table[TABLE_ROOM];
     struct question q;
     memset(&q, 0, sizeof q);
     q.call = call;
@@ -21,6 +22,7 @@ static struct question about(enum call call, size_t n, const struct record *reco
     for (size_t k = 0; k < LIST_ROOM; k++) q.list.layout[k] = (uint16_t)(KEPT + k);
     q.count = n + 2;
     lend_page(&q, 2 * n + 1);
+    if (takes_table(call)) lend_weights(&q, table, 1, 0);
     return q;
 }
 
@@ -29,6 +31,7 @@ static const struct record J2[] = {{10, 0, 10}, {20, 30, 20}};
 static const struct record J2_8[] = {{10, 0, 10}, {20, 30, 18}};
 static const struct record J2_7[] = {{10, 0, 10}, {20, 30, 17}};
 static const struct record J3[] = {{10, 15, 10}, {20, 15, 20}};
+static const struct record J3_plus[] = {{10, 15, 10}, {20, 15, 20}, {30, 15, 30}};
 static const struct record J4[] = {{10, 15, 10}, {20, 60, 20}};
 static const struct record J5[] = {{10, 10, 0}, {20, 20, 10}, {30, 30, 20}};
 /* Record 1 is as high as port 1, which it reaches without a bend only across record 0's hand. */
@@ -108,9 +111,72 @@ static const struct {
     {"level pad", level_pad, 2, MEASURE, 1, 1, {0, 1}, TOUCHING(1, 0), NONE},
 };
 
+/* The same over a table: so many figures, pad by pad, ports rising. */
+static const struct {
+    const char *mark;
+    const struct record *job;
+    size_t n;
+    enum call call;
+    size_t lent;
+    uint32_t figures[9];
+    int given[3];
+    int64_t answer;
+    int written[3];
+} table_sheets[] = {
+    {"largest figure", J1, 1, TABLE_FIRST, 1, {4294967295}, NONE, 4294967295, {0}},
+    {"1 + 1 + 1", J3_plus, 3, TABLE_FIRST, 9, {5, 1, 5, 5, 5, 1, 1, 5, 5}, NONE, 3, {1, 2, 0}},
+    {"2 + 32 + 64", J3_plus, 3, TABLE_MEASURE, 9, {1, 2, 4, 8, 16, 32, 64, 128, 256}, {1, 2, 0},
+     98, NONE},
+    {"all 7", J3, 2, TABLE_FIRST, 4, {7, 7, 7, 7}, NONE, 14, {1, 0}},
+    {"all 7", J3, 2, TABLE_NEXT, 4, {7, 7, 7, 7}, {1, 0}, 14, {0, 1}},
+    {"all 7", J3, 2, TABLE_NEXT, 4, {7, 7, 7, 7}, {0, 1}, END, NONE},
+    {"5 and not 2", J3, 2, TABLE_FIRST, 4, {1, 2, 3, 1}, NONE, 2, {0, 1}},
+    {"5 and not 2", J3, 2, TABLE_NEXT, 4, {1, 2, 3, 1}, {1, 0}, REFUSED(10, 0), NONE},
+    {"5 and not 2", J3, 2, TABLE_MEASURE, 4, {1, 2, 3, 1}, {1, 0}, 5, NONE},
+    /* Leaders that touch may have a smaller total, here 0: they do not count. */
+    {"crossing pays", level_pad, 2, TABLE_FIRST, 4, {0, 1, 1, 0}, NONE, 2, {1, 0}},
+    {"crossing pays", level_pad, 2, TABLE_NEXT, 4, {0, 1, 1, 0}, {1, 0}, END, NONE},
+    {"crossing pays", level_pad, 2, TABLE_NEXT, 4, {0, 1, 1, 0}, {0, 1}, TOUCHING(1, 0), NONE},
+    {"crossing pays", level_pad, 2, TABLE_MEASURE, 4, {0, 1, 1, 0}, {0, 1}, TOUCHING(1, 0), NONE},
+    /* 13 is for a table that is longer, too, and comes after 1. */
+    {"no job, no table", J1, 0, TABLE_FIRST, 0, {0}, NONE, REFUSED(1, 0), NONE},
+    {"no job", J1, 0, TABLE_FIRST, 1, {1}, NONE, REFUSED(1, 0), NONE},
+    {"shorter", J3, 2, TABLE_FIRST, 3, {1, 1, 1}, NONE, REFUSED(13, 0), NONE},
+    {"longer", J3, 2, TABLE_FIRST, 5, {1, 1, 1, 1, 1}, NONE, REFUSED(13, 0), NONE},
+    {"longer", J3, 2, TABLE_NEXT, 5, {1, 1, 1, 1, 1}, {1, 0}, REFUSED(13, 0), NONE},
+    {"longer", J3, 2, TABLE_MEASURE, 5, {1, 1, 1, 1, 1}, {1, 0}, REFUSED(13, 0), NONE},
+    {"ports 7 apart", J2_7, 2, TABLE_FIRST, 4, {1, 1, 1, 1}, NONE, REFUSED(12, 1), NONE},
+    /* P1 to P12 with their lengths and bends as tables. */
+    {"P1", J1, 1, TABLE_FIRST, 1, {5}, NONE, 5, {0}},
+    {"P2", J1, 1, TABLE_FIRST, 1, {0}, NONE, 0, {0}},
+    {"P3", J2, 2, TABLE_FIRST, 4, {20, 30, 40, 30}, NONE, 50, {0, 1}},
+    {"P4", J2, 2, TABLE_NEXT, 4, {20, 30, 40, 30}, {1, 0}, TOUCHING(1, 0), NONE},
+    {"P5", J3, 2, TABLE_FIRST, 4, {15, 15, 25, 25}, NONE, 40, {1, 0}},
+    {"P6", J3, 2, TABLE_NEXT, 4, {15, 15, 25, 25}, {1, 0}, 40, {0, 1}},
+    {"P7", J3, 2, TABLE_NEXT, 4, {15, 15, 25, 25}, {0, 1}, END, NONE},
+    {"P8", J3, 2, TABLE_NEXT, 4, {15, 15, 25, 25}, {0, 0}, REFUSED(8, 1), NONE},
+    {"P9", J4, 2, TABLE_FIRST, 4, {15, 15, 70, 60}, NONE, 75, {0, 1}},
+    {"P10", J4, 2, TABLE_NEXT, 4, {15, 15, 70, 60}, {1, 0}, REFUSED(10, 0), NONE},
+    {"P10", J4, 2, TABLE_MEASURE, 4, {15, 15, 70, 60}, {1, 0}, 85, NONE},
+    {"P11", J5, 3, TABLE_FIRST, 9, {43, 20, 43, 83, 63, 40, 123, 103, 83}, NONE, 183, {1, 2, 0}},
+    {"P12", J5, 3, TABLE_MEASURE, 9, {20, 10, 20, 40, 30, 20, 60, 50, 40}, {0, 1, 2},
+     TOUCHING(1, 0), NONE},
+};
+
 static void put_layout(uint16_t *list, const int *layout, size_t n) {
     if (layout[0] < 0) return;
     for (size_t i = 0; i < n; i++) list[i] = (uint16_t)layout[i];
+}
+
+/* The question with a layout given: its answer, and the layout that was written. */
+static void worked(struct question q, const char *mark, const int *given, int64_t answer,
+                   const int *written) {
+    size_t n = records_of(&q);
+    put_layout(q.list.layout, given, n);
+    struct reply r = keeps(&q, answer);
+    put_layout(q.call == PAGE ? r.page : r.list.layout, written, n);
+    if (!expect(&q, r)) printf("  this was %s\n", mark);
+    if (plain_reply(&q).answer != answer) check(false, &q, "the plain account differs");
 }
 
 static void worked_sheets(void) {
@@ -119,12 +185,30 @@ static void worked_sheets(void) {
         struct question q = about(sheets[k].call, sheets[k].n, sheets[k].job);
         q.a = sheets[k].length_weight;
         q.b = sheets[k].bend_weight;
-        put_layout(q.list.layout, sheets[k].given, sheets[k].n);
-        struct reply r = keeps(&q, sheets[k].answer);
-        put_layout(q.call == PAGE ? r.page : r.list.layout, sheets[k].written, sheets[k].n);
-        if (!expect(&q, r)) printf("  this was %s\n", sheets[k].mark);
-        if (plain_reply(&q).answer != r.answer) check(false, &q, "the plain account differs");
+        worked(q, sheets[k].mark, sheets[k].given, sheets[k].answer, sheets[k].written);
     }
+}
+
+static void worked_tables(void) {
+    for (size_t k = 0; k < sizeof table_sheets / sizeof *table_sheets; k++) {
+        if (table_sheets[k].call >= CALLS) continue;
+        struct question q = about(table_sheets[k].call, table_sheets[k].n, table_sheets[k].job);
+        q.figures = table_sheets[k].lent;
+        memcpy(q.table, table_sheets[k].figures, sizeof table_sheets[k].figures);
+        worked(q, table_sheets[k].mark, table_sheets[k].given, table_sheets[k].answer,
+               table_sheets[k].written);
+    }
+}
+
+/* J3 with a list of one entry: 13 before 3. */
+static void worked_short_list(void) {
+    struct question q = about(TABLE_FIRST, 2, J3);
+    if (TABLE_FIRST >= CALLS) return;
+    q.count = 1;
+    q.figures = 3;
+    expect(&q, keeps(&q, REFUSED(13, 0)));
+    q.figures = 4;
+    expect(&q, keeps(&q, REFUSED(3, 0)));
 }
 
 /* The level pad with other weights: its touching leaders have a bend less and the same lengths. */
@@ -203,7 +287,7 @@ static void drawn_range(void) {
 
 /*
  * n straight leaders, pad i at port i, the ports so far apart: the only best layout, weights 1, 0,
- * total 10 + 20 + ..
+ * or their table, total 10 + 20 + ..
  */
 static struct question spaced(enum call call, size_t n, int apart) {
     struct record job[66];
@@ -236,7 +320,8 @@ static void is_straight(const struct question *q) {
     int64_t n = (int64_t)records_of(q);
     int64_t none_follows = q->call == PAGE ? 0 : END;
     struct reply r = keeps(q, takes_best(q->call) ? none_follows : 5 * n * (n + 1));
-    for (int64_t i = 0; i < n && q->call == FIRST; i++) r.list.layout[i] = (uint16_t)i;
+    bool first = q->call == FIRST || q->call == TABLE_FIRST;
+    for (int64_t i = 0; i < n && first; i++) r.list.layout[i] = (uint16_t)i;
     if (q->call == DRAW)
         drawn(q, 2, (const uint32_t[]){0x40200000, 0, 0, 0});
     else
@@ -270,7 +355,7 @@ static void sizes(enum call call) {
 
 static void weights(enum call call) {
     struct question q = good(call, 3);
-    if (call == DRAW) return;
+    if (call == DRAW || takes_table(call)) return;
     q.a = q.b = 1000;
     passes(&q);
     q.a = 1001;
@@ -285,6 +370,35 @@ static void weights(enum call call) {
     is_refused(&q, 2, 0);
 }
 
+/* A best layout for those calls that are given one. */
+static void give_best(struct question *q) {
+    struct question first = *q;
+    turn_to(&first, FIRST);
+    if (takes_layout(q->call)) q->list = plain_reply(&first).list;
+}
+
+/* Nine figures of any size for three pads, and no other number of them; 13 before 3 and 4. */
+static void tables(enum call call) {
+    static const uint32_t sizes[] = {0, 1, 1001, 2147483647, 2147483648, 4294967295};
+    struct question q = good(call, 3);
+    if (!takes_table(call)) return;
+    for (size_t k = 0; k < 9 * sizeof sizes / sizeof *sizes; k++) {
+        q.table[k % 9] = sizes[k / 9];
+        give_best(&q);
+        passes(&q);
+    }
+    for (q.figures = 0; q.figures <= 64; q.figures++)
+        if (q.figures != 9) is_refused(&q, 13, 0);
+    put_x(q.job, 0, 0);
+    is_refused(&q, 13, 0);
+    q.count = 2;
+    is_refused(&q, 13, 0);
+    q.figures = 9;
+    is_refused(&q, 3, 0);
+    q.count = 3;
+    is_refused(&q, 4, 0);
+}
+
 static void room(enum call call) {
     struct question q = good(call, 3);
     size_t enough = call == DRAW ? 6 : 3;
@@ -293,13 +407,6 @@ static void room(enum call call) {
     q.count = enough + 20;
     passes(&q);
     for (q.count = 0; q.count < enough; q.count++) is_refused(&q, 3, 0);
-}
-
-/* A best layout for those calls that are given one. */
-static void give_best(struct question *q) {
-    struct question first = *q;
-    first.call = FIRST;
-    if (takes_layout(q->call)) q->list = plain_reply(&first).list;
 }
 
 typedef void put_field(uint8_t *job, size_t i, int64_t value);
@@ -430,7 +537,7 @@ static void spacing_in_its_place(enum call call) {
 
 static void given_numbers(enum call call) {
     struct question q = good(call, 3);
-    if (call == FIRST) return;
+    if (call != DRAW && !takes_layout(call)) return;
     if (call == DRAW) {
         q.a = q.b = 2;
         passes(&q);
@@ -454,12 +561,15 @@ static void given_numbers(enum call call) {
 int main(void) {
     begin();
     worked_sheets();
+    worked_tables();
+    worked_short_list();
     bends_can_cost();
     drawn_sheets();
     drawn_range();
     for (enum call call = 0; call < CALLS; call++) {
         sizes(call);
         weights(call);
+        tables(call);
         room(call);
         fields(call);
         job_rules(call);

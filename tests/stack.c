@@ -38,10 +38,13 @@ static const struct {
 } calls[CALLS] = {
     [MEASURE] = {(function)cheremysl_measure, 224},
     [DRAW] = {(function)cheremysl_draw, 40},
+    [TABLE_MEASURE] = {(function)cheremysl_table_measure, 208},
 #ifndef NO_SEARCH
-    [FIRST] = {(function)cheremysl_first, 37376},
-    [NEXT] = {(function)cheremysl_next, 37504},
-    [PAGE] = {(function)cheremysl_page, 37520},
+    [FIRST] = {(function)cheremysl_first, 37440},
+    [NEXT] = {(function)cheremysl_next, 37584},
+    [PAGE] = {(function)cheremysl_page, 37584},
+    [TABLE_FIRST] = {(function)cheremysl_table_first, 20992},
+    [TABLE_NEXT] = {(function)cheremysl_table_next, 21136},
 #endif
 };
 
@@ -87,13 +90,13 @@ static void prepare(void) {
  * bits of each.
  */
 static const unsigned char *run(function enter) {
-    struct question *q = &question;
+    uint64_t a[ARGUMENTS];
+    put_arguments(&question, a);
     getcontext(&away);
     away.uc_stack.ss_sp = stack;
     away.uc_stack.ss_size = STACK;
     away.uc_link = &home;
-    makecontext(&away, enter, 8, q->job, q->job_bytes, (size_t)q->a, (size_t)q->b, &q->list,
-                q->count, q->page, q->page_entries);
+    makecontext(&away, enter, ARGUMENTS, a[0], a[1], a[2], a[3], a[4], a[5], a[6], a[7]);
     swapcontext(&home, &away);
     return (unsigned char *)away.uc_mcontext.gregs[REG_RSP];
 }
@@ -133,12 +136,14 @@ static void ask_on_small_stack(void) {
 
 /* 64 pads and a layout that does not touch; Draw gets a leader that is straight. */
 static void make_question(enum call call, enum board board) {
+    static uint32_t table[TABLE_ROOM];
     memset(&question, 0, sizeof question);
     question.call = call;
     question.job_bytes = CHEREMYSL_MAX_JOB_BYTES;
     question.count = call == DRAW ? CHEREMYSL_DRAW_FLOATS : PADS;
     make_board(question.job, PADS, board);
     any_weights(&question.a, &question.b);
+    lend_table(&question, table, below(FIGURES));
     any_untouching(question.job, PADS, question.list.layout);
     lend_page(&question, PAGE_ROOM);
     if (call != DRAW) return;
@@ -150,9 +155,11 @@ static void make_question(enum call call, enum board board) {
 /* A best layout for the calls that want one; Draw's leader gets a bend. */
 static void make_accepted(void) {
     enum call call = question.call;
-    question.call = FIRST;
-    if (takes_best(call)) call_library(&question);
-    question.call = call;
+    if (takes_best(call)) {
+        turn_to(&question, FIRST);
+        call_library(&question);
+        question.call = call;
+    }
     if (call == DRAW) put_y(question.job, PADS - 1, get_port(question.job, 1));
 }
 
@@ -163,7 +170,7 @@ static void on_board(enum call call, enum board board) {
     ask_on_small_stack();
     check(answer >= -1 || answer == refused(10, 0), &question, "another refusal");
     make_accepted();
-    for (int steps = call == NEXT ? 4 : 1; steps > 0; steps--) {
+    for (int steps = can_end(call) ? 4 : 1; steps > 0; steps--) {
         ask_on_small_stack();
         check(answer >= -1, &question, "refused");
     }
@@ -179,7 +186,7 @@ static void on_board(enum call call, enum board board) {
 static void hold_to_figure(enum call call) {
     size_t used = deepest[call], stated = calls[call].stated;
     char what[80];
-    printf("%-8s %zu bytes of stack, %zu stated\n", call_names[call], used, stated);
+    printf("%-12s %zu bytes of stack, %zu stated\n", call_names[call], used, stated);
     snprintf(what, sizeof what, "%s takes %zu bytes of stack, not %zu", call_names[call], used,
              stated);
     check(used < stated + SLACK, NULL, what);
@@ -190,7 +197,7 @@ int main(void) {
     for (enum call call = 0; call < CALLS; call++) {
         for (enum board board = 0; board < BOARDS; board++) on_board(call, board);
         report_refusals(call_names[call], call, came[call]);
-        check(call != NEXT || came[call][ENDS] > 0, NULL, "the end never came");
+        check(!can_end(call) || came[call][ENDS] > 0, NULL, "the end never came");
     }
     for (enum call call = 0; call < CALLS; call++) hold_to_figure(call);
     return done();

@@ -1,8 +1,9 @@
 /*
- * touching [COUNT [SEED]]: which pair refusal 9 names, in Measure, Next and Page: the smallest
- * record that touches an earlier one, with the smallest that it touches. Boards whose touching
- * pairs are known; every pair of 64 records; every board of up to three pads, and every layout of
- * some larger ones, with leaders tried point by point; random boards against the plain account.
+ * touching [COUNT [SEED]]: which pair refusal 9 names, in Measure, Next and Page, over weights and
+ * over tables: the smallest record that touches an earlier one, with the smallest that it touches.
+ * Boards whose touching pairs are known; every pair of 64 records; every board of up to three pads,
+ * and every layout of some larger ones, with leaders tried point by point; random boards against
+ * the plain account.
  */
 #include <stdio.h>
 #include <stdlib.h>
@@ -74,7 +75,9 @@ static struct pair first_pair(const struct question *q) {
 
 /* Every call that is given a layout names the pair; Page also with room for none. */
 static bool names(struct question *q, struct pair pair) {
+    static uint32_t table[TABLE_ROOM];
     int64_t answer = refused_pair(pair.record, pair.earlier);
+    lend_table(q, table, EQUAL);
     q->call = MEASURE;
     bool ok = check(plain_reply(q).answer == answer, q, "the plain account names another pair");
     for (; q->call < CALLS; q->call++) {
@@ -206,11 +209,13 @@ static void two_pairs(void) {
 
 /* ---- small boards, by points ---- */
 
-/* By points: the pair is named, or Measure has the total. */
+/* By points: the pair is named, or Measure has the total, of weights or figures. */
 static bool judged(struct question *q) {
+    static uint32_t table[TABLE_ROOM];
     struct pair pair = first_pair(q);
     if (pair.record > 0) return names(q, pair);
-    q->call = MEASURE;
+    lend_table(q, table, ANY_FIGURES);
+    q->call = below(2) ? MEASURE : TABLE_MEASURE;
     struct given g = given_of(q);
     return expect(q, keeps(q, plain_total(&g, q->list.layout)));
 }

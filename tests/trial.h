@@ -9,19 +9,21 @@
 #include <stddef.h>
 #include <stdint.h>
 
+#include "boards.h"
 #include "guard.h"
 #include "plain.h"
 
-/* With NO_SEARCH the tests keep to the calls that search for nothing: the first two. */
-enum call { MEASURE, DRAW, FIRST, NEXT, PAGE };
+/* With NO_SEARCH the tests keep to the calls that search for nothing: the first three. */
+enum call { MEASURE, DRAW, TABLE_MEASURE, FIRST, NEXT, PAGE, TABLE_FIRST, TABLE_NEXT };
 #ifdef NO_SEARCH
-#define CALLS 2
+#define CALLS 3
 #else
-#define CALLS 5
+#define CALLS 8
 #endif
 
 #define JOB_ROOM 1056 /* two records more than the largest job */
 #define LIST_ROOM 80
+#define TABLE_ROOM 4356 /* figures for as many records */
 #define PAGE_ROOM 1343 /* 20 layouts of the largest job, and an entry too few for one more */
 
 union list {
@@ -38,6 +40,8 @@ struct question {
     size_t count; /* of the list's entries or floats */
     uint16_t page[PAGE_ROOM]; /* Page alone has it; its list is the given layout */
     size_t page_entries;
+    uint32_t *table; /* the table calls have it in place of the numbers; copies share it */
+    size_t figures; /* more than TABLE_ROOM stand nowhere, and must not be read */
 };
 
 struct reply {
@@ -50,9 +54,24 @@ struct reply {
 extern const char *const call_names[];
 extern const int *const refusals_of[];
 
-/* Is the call given a layout? And does it refuse one that is not best? */
+/* Is the call given a layout? And does it refuse one that is not best? Is it given a table? */
 bool takes_layout(enum call call);
 bool takes_best(enum call call);
+bool takes_table(enum call call);
+
+/* Can it answer the end? */
+bool can_end(enum call call);
+
+/* Makes it a question of First, Next or Measure: over its table if it was over that before. */
+void turn_to(struct question *q, enum call call);
+
+/* Lends a table with a figure for each pad and port of the job, which is accepted. */
+void lend_table(struct question *q, uint32_t *table, enum figures kind);
+void lend_weights(struct question *q, uint32_t *table, uint32_t length_weight,
+                  uint32_t bend_weight);
+
+/* A question of First, Next or Measure over weights, over the table of these: the same reply. */
+struct question by_table(const struct question *q, uint32_t *table);
 
 /* Lends a page of so many entries, which hold other numbers each time, all different. */
 void lend_page(struct question *q, size_t entries);
@@ -90,6 +109,10 @@ int earlier_of(const struct question *q, int record);
 /* The library's answer, over the question's own job and lists. */
 int64_t call_library(struct question *q);
 
+/* The call's arguments as the machine passes them; only Page has the last two. */
+#define ARGUMENTS 8
+void put_arguments(struct question *q, uint64_t *arguments);
+
 /*
  * The library's reply. It fails if anything but the list that it may write was changed, or if the
  * answer is none that the call can give.
@@ -98,6 +121,9 @@ struct reply ask(const struct question *q, enum side side);
 
 /* Asks the library, the lists at every side, and compares with the expected reply, to the bit. */
 bool expect(const struct question *q, struct reply expected);
+
+/* Is what the library replies to a question of weights also its reply over their table? */
+bool alike(const struct question *q);
 
 /* Counts a success or a failure; the question, if any, is printed with a failure. */
 bool check(bool ok, const struct question *q, const char *what);
