@@ -3,6 +3,7 @@
 #include "../tests/boards.h"
 
 #include <stdbool.h>
+#include <stdlib.h>
 
 const char *const measured_names[KINDS] = {"random", "even", "middle", "ties", "right", "above"};
 
@@ -32,10 +33,14 @@ static void place(enum measured kind, int n, int *x) {
 }
 
 struct given make_measured(enum measured kind, int n) {
-    struct given g = {{0}, 16 * (size_t)n, kind != MIDDLE};
+    struct given g = {{0}, 16 * (size_t)n, kind != MIDDLE, {0}, (size_t)(n * n)};
     int x[64];
     seed_random((uint64_t)(100 * (int)kind + n));
     place(kind, n, x);
-    for (int i = 0; i < n; i++) put_record(g.job, (size_t)i, 101 + i, x[i], height(kind, n, i), 10 * i);
+    for (int i = 0; i < n; i++) {
+        int y = (int)height(kind, n, i);
+        put_record(g.job, (size_t)i, 101 + i, x[i], y, 10 * i);
+        for (int q = 0; q < n; q++) g.table[n * i + q] = g.length_weight * (uint32_t)(x[i] + abs(y - 10 * q));
+    }
     return g;
 }

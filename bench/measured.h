@@ -17,11 +17,13 @@ enum measured {
 
 extern const char *const measured_names[KINDS];
 
-/* What First and the others are given; the bend weight is 0. */
+/* What First and the others are given; the bend weight is 0. The table has the figures that these weights give. */
 struct given {
     uint8_t job[1024];
     size_t bytes;
     uint32_t length_weight;
+    uint32_t table[64 * 64];
+    size_t figures;
 };
 
 struct given make_measured(enum measured kind, int n);

@@ -4,7 +4,7 @@
  *
  * A time is a median of many stretches, each of as many calls as take 50 microseconds, with job and lists in the cache.
  * All is timed several times over, and the smallest times count: other programs on the machine only make them longer. Of
- * the six boards the smallest and the largest are printed. Boards and starting sheets are those of bench.c.
+ * the six boards the smallest and the largest are printed. Boards, tables and starting sheets are those of bench.c.
  */
 #define _POSIX_C_SOURCE 199309L /* clock_gettime */
 
@@ -23,7 +23,7 @@
 #define LARGEST 10000  /* layouts on a page */
 #define ENTRIES CHEREMYSL_MAX_RECORDS
 
-enum { CALLS = 5, SIZES = 4, LISTINGS = 2, PAGES = 4 };
+enum { CALLS = 8, SIZES = 4, LISTINGS = 2, PAGES = 4 };
 
 static struct given on;
 static size_t pads;
@@ -41,6 +41,16 @@ static void page_of_20(void) {
     answer = cheremysl_page(on.job, on.bytes, on.length_weight, 0, start, pads, page, 20 * pads);
 }
 static void measure(void) { answer = cheremysl_measure(on.job, on.bytes, on.length_weight, 0, start, pads); }
+static void table_first(void) {
+    answer = cheremysl_table_first(on.job, on.bytes, on.table, on.figures, layout, pads);
+}
+static void table_next(void) {
+    memcpy(layout, start, sizeof layout);
+    answer = cheremysl_table_next(on.job, on.bytes, on.table, on.figures, layout, pads);
+}
+static void table_measure(void) {
+    answer = cheremysl_table_measure(on.job, on.bytes, on.table, on.figures, start, pads);
+}
 static void draw(void) {
     float points[CHEREMYSL_DRAW_FLOATS];
     answer = cheremysl_draw(on.job, on.bytes, 0, start[0], points, CHEREMYSL_DRAW_FLOATS);
@@ -49,8 +59,14 @@ static void draw(void) {
 static const struct {
     const char *name;
     void (*call)(void);
-} calls[CALLS] = {
-    {"First", first}, {"Next", next}, {"Page of 20", page_of_20}, {"Measure", measure}, {"Draw, one leader", draw}};
+} calls[CALLS] = {{"First", first},
+                  {"Next", next},
+                  {"Page of 20", page_of_20},
+                  {"Measure", measure},
+                  {"Table First", table_first},
+                  {"Table Next", table_next},
+                  {"Table Measure", table_measure},
+                  {"Draw, one leader", draw}};
 
 static void take_board(int kind, int n) {
     on = make_measured((enum measured)kind, n);
