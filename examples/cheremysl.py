@@ -9,10 +9,12 @@ As a module, the calls of the shared library for Python:
     job = job_of([(101, 10, 15, 10), (102, 20, 15, 20)])  # name, x, y, port height of each record
     total, ports = library.first(job)
     for total, ports in library.sheets(job, length_weight=1, bend_weight=0): ...
+    total, ports = library.table_first(job, [7, 0, 0, 7])  # the figure of each pad with each port
 
-A job is bytes, a layout any sequence of port numbers, which is only read. What C's list would hold
-afterwards is returned. A refusal is an exception, Refusal; the end is None. A number that does not
-fit C's type is an OverflowError. The manual is cheremysl(3).
+A job is bytes, a layout any sequence of port numbers, a table any sequence of figures, pad by pad,
+ports rising; all are only read. What C's list would hold afterwards is returned. A refusal is an
+exception, Refusal; the end is None. A number that does not fit C's type is an OverflowError. The
+manual is cheremysl(3).
 """
 import array
 import ctypes
@@ -40,6 +42,7 @@ TEXTS = {  # as cheremysl_refusal_text of the C header has them
     10: "No two leaders touch, but another sheet has a smaller total.",
     11: "There is no pad, or no port, of the number given.",
     12: "The port of this record is less than 8 above the port of the record before.",
+    13: "The table does not have just one figure for each pad with each port.",
 }
 
 
@@ -90,29 +93,41 @@ def layout_of(ports):
     return lent(ctypes.c_uint16, array.array("H", ports))
 
 
+def table_of(figures):
+    return lent(ctypes.c_uint32, array.array("I", figures))
+
+
 class Cheremysl:
     """The library: by its path, by the path in CHEREMYSL_LIBRARY, or where the loader finds it."""
 
     def __init__(self, path=None):
         path = path or os.environ.get("CHEREMYSL_LIBRARY") or "libcheremysl.so.1"
         library = ctypes.CDLL(path)
-        job, number = [ctypes.POINTER(ctypes.c_uint8), ctypes.c_size_t], ctypes.c_uint32
-        layout = [ctypes.POINTER(ctypes.c_uint16), ctypes.c_size_t]
-        points = [ctypes.POINTER(ctypes.c_float), ctypes.c_size_t]
+        byte, port, figure = ctypes.c_uint8, ctypes.c_uint16, ctypes.c_uint32
+        job, layout, table, points = (
+            [ctypes.POINTER(kind), ctypes.c_size_t] for kind in (byte, port, figure, ctypes.c_float)
+        )
+        numbers = [ctypes.c_uint32, ctypes.c_uint32]
 
-        def call(name, *lists):
+        def call(name, *words):
             function = getattr(library, "cheremysl_" + name)
-            function.argtypes, function.restype = job + [number, number, *lists], ctypes.c_int64
+            function.argtypes, function.restype = job + [*words], ctypes.c_int64
             return function
 
-        self._first, self._next = call("first", *layout), call("next", *layout)
-        self._page = call("page", *layout, *layout)
-        self._measure, self._draw = call("measure", *layout), call("draw", *points)
+        self._first, self._next = call("first", *numbers, *layout), call("next", *numbers, *layout)
+        self._page = call("page", *numbers, *layout, *layout)
+        self._measure = call("measure", *numbers, *layout)
+        self._draw = call("draw", *numbers, *points)
+        self._table_first = call("table_first", *table, *layout)
+        self._table_next = call("table_next", *table, *layout)
+        self._table_measure = call("table_measure", *table, *layout)
 
     @staticmethod
-    def _ask(call, job, a, b, *lists):
-        job = lent(ctypes.c_uint8, bytearray(memoryview(job)))
-        return taken_apart(call(*job, word(a), word(b), *lists))
+    def _ask_lists(call, job, *words):
+        return taken_apart(call(*lent(ctypes.c_uint8, bytearray(memoryview(job))), *words))
+
+    def _ask(self, call, job, a, b, *lists):
+        return self._ask_lists(call, job, word(a), word(b), *lists)
 
     def first(self, job, length_weight=1, bend_weight=0):
         """The earliest best sheet: its total, and the list of its port numbers."""
@@ -143,6 +158,22 @@ class Cheremysl:
         points = (ctypes.c_float * DRAW_FLOATS)()
         count = self._ask(self._draw, job, record, port, points, DRAW_FLOATS)
         return [(points[2 * k], points[2 * k + 1]) for k in range(count)]
+
+    def table_first(self, job, table):
+        """The earliest best sheet by a table, as from first; the total is that of its figures."""
+        layout, entries = layout_of([0] * MAX_RECORDS)
+        total = self._ask_lists(self._table_first, job, *table_of(table), layout, entries)
+        return total, layout[: records_in(job)]
+
+    def table_next(self, job, table, layout):
+        """The best sheet by a table after a given one, as from table_first; None at the end."""
+        layout, entries = layout_of(layout)
+        total = self._ask_lists(self._table_next, job, *table_of(table), layout, entries)
+        return None if total == END else (total, layout[: records_in(job)])
+
+    def table_measure(self, job, table, layout):
+        """The total by a table of a sheet without touching leaders, best or not."""
+        return self._ask_lists(self._table_measure, job, *table_of(table), *layout_of(layout))
 
     def sheets(self, job, length_weight=1, bend_weight=0):
         """Every best sheet, in order, each as from first; they are fetched page by page."""

@@ -15,13 +15,17 @@
  *        |                 |             cheremysl_measure   the total of any sheet that is sound
  *     10 *-----o 101       |             cheremysl_draw      one leader's points for the canvas
  *        |                 |
- *      0 *-----------------+             Best: no two leaders share a point, and no such sheet has
- *        +-----+-----+-----+--> x        a smaller total of lengths and bends, each times a weight
- *        0    10    20    30             that the caller chooses.
+ *      0 *-----------------+             cheremysl_table_first     First, Next and Measure by the
+ *        +-----+-----+-----+--> x        cheremysl_table_next      caller's own figure for each
+ *        0    10    20    30             cheremysl_table_measure   pad with each port
  *
- * First and then Next until the end list every best sheet once and nothing else; Page does the
- * work of several calls of Next. Every accepted job has a best sheet. Answers and lists are
- * proved to be what this header says, for every input.
+ * Best: no two leaders share a point, and no such sheet has a smaller total. The total is that of
+ * lengths and bends, each times a weight that the caller chooses; in the table calls it is that of
+ * the caller's own figures.
+ *
+ * First and then Next until the end list every best sheet once and nothing else, and so do
+ * TableFirst and TableNext; Page does the work of several calls of Next. Every accepted job has a
+ * best sheet. Answers and lists are proved to be what this header says, for every input.
  *
  * A MINUTE'S USE
  *
@@ -35,7 +39,8 @@
  *          answer = cheremysl_next(job, job_bytes, 1, 0, layout, CHEREMYSL_MAX_RECORDS);
  *      }
  *
- * The example sheets.c takes them page by page.
+ * The example sheets.c takes them page by page; antenna.c makes a table that keeps leaders off an
+ * area of the board.
  *
  * THE JOB
  *
@@ -56,6 +61,22 @@
  *
  * Below, n is the number of records, job_bytes / 16.
  *
+ * THE TABLE
+ *
+ * The table calls are lent a table where the others take weights: n * n unsigned 32-bit figures,
+ * in the machine's own form. They stand pad by pad in the order of the records, and for each pad
+ * port by port from port 0 on: the figure of pad i with port q is table[i * n + q]. With 3 records:
+ *
+ *                 port 0     port 1     port 2
+ *      pad 0     table[0]   table[1]   table[2]
+ *      pad 1     table[3]   table[4]   table[5]
+ *      pad 2     table[6]   table[7]   table[8]
+ *
+ * A figure says how bad that leader is. It may be anything from 0 to 4,294,967,295, and none has a
+ * meaning of its own: the largest forbids nothing. To keep a leader away, give it a dear figure. If
+ * that is more than the other figures of a sheet can come to, a best sheet has as few dear leaders
+ * as can be, and its total divided by the dear figure, the remainder dropped, is their number.
+ *
  * SHEETS
  *
  * A layout is a list of n 16-bit entries: entry i is the port number, 0 to n - 1, of the pad of
@@ -68,10 +89,15 @@
  * height and B's port height, ends included.
  *
  * The total of a layout is length_weight times the sum of the lengths plus bend_weight times
- * the sum of the bends. A best layout has no touching pair, and no layout without a touching
- * pair has a smaller total. With both weights 0 every layout without a touching pair is best.
- * With bend_weight 0 no layout at all, touching or not, has a smaller total than a best one; with
- * a larger bend_weight one with a touching pair may have.
+ * the sum of the bends. By a table it is the sum of the figures of the pads with their ports. A
+ * best layout has no touching pair, and no layout without a touching pair has a smaller total.
+ * With both weights 0, or all figures equal, every layout without a touching pair is best. With
+ * bend_weight 0 no layout at all, touching or not, has a smaller total than a best one; with a
+ * larger bend_weight, or by a table, one with a touching pair may have.
+ *
+ * With weights up to 1,000, First, Next and Measure answer as the table calls do with the table of
+ * weighted leaders: the figure of a pad with a port is length_weight times the length of that
+ * leader plus bend_weight times its bends.
  *
  * Order: to compare two layouts take the pad with the largest x; the layout with the smaller
  * port number there comes earlier. If these are equal, go on with the next pad to the left.
@@ -80,9 +106,11 @@
  *
  * Each call answers one signed 64-bit number:
  *
- *      0 or more           the total (First, Next, Measure; at most CHEREMYSL_MAX_TOTAL), the
- *                          number of layouts written (Page), or of points, 2 or 3 (Draw)
- *      -1                  the end (Next only): no best layout comes after the given one
+ *      0 or more           the total (First, Next, Measure; at most CHEREMYSL_MAX_TOTAL, and in
+ *                          the table calls at most CHEREMYSL_MAX_TABLE_TOTAL), the number of
+ *                          layouts written (Page), or of points, 2 or 3 (Draw)
+ *      -1                  the end (Next and TableNext only): no best layout comes after the
+ *                          given one
  *      -(4294967296 * j + 65536 * r + i)
  *                          refusal number r with record number i and, in refusal 9 alone, the
  *                          earlier record j; in every other refusal j is 0
@@ -109,36 +137,43 @@
  *      10   the given layout has no touching pair but is not best            0
  *      11   Draw's record number or port number is n or more                 0
  *      12   a port height is less than 8 above the one before                first such record
+ *      13   the table has fewer or more than n * n figures                   0
  *
  * Each call checks for these, in this order, each over the whole job before the next:
  *
- *      First     1, 2, 3, 4, 5, 12, 6, 7
- *      Next      1, 2, 3, 4, 5, 12, 6, 7, 8, 9, 10
- *      Page      1, 2, 3, 4, 5, 12, 6, 7, 8, 9, 10
- *      Measure   1, 2, 3, 4, 5, 12, 6, 7, 8, 9
- *      Draw      1, 3, 4, 5, 12, 6, 7, 11
+ *      First          1, 2, 3, 4, 5, 12, 6, 7
+ *      Next           1, 2, 3, 4, 5, 12, 6, 7, 8, 9, 10
+ *      Page           1, 2, 3, 4, 5, 12, 6, 7, 8, 9, 10
+ *      Measure        1, 2, 3, 4, 5, 12, 6, 7, 8, 9
+ *      Draw           1, 3, 4, 5, 12, 6, 7, 11
+ *      TableFirst     1, 13, 3, 4, 5, 12, 6, 7
+ *      TableNext      1, 13, 3, 4, 5, 12, 6, 7, 8, 9, 10
+ *      TableMeasure   1, 13, 3, 4, 5, 12, 6, 7, 8, 9
  *
  * An input that deserves several refusals gets the one that stands first, with the first record
  * at fault for it: a port that is not above the one before gets 5, not 12. No refusal is given in
  * any other case.
  *
- * Refusal 9 names both leaders, in Next, Page and Measure alike: record i is the smallest that
- * touches an earlier one, and j the smallest earlier one that it touches. Record 0 is a record, so
- * ask for the refusal's number first: it tells whether a j of 0 names record 0 or none.
+ * Refusal 9 names both leaders, in every call that gives it: record i is the smallest that touches
+ * an earlier one, and j the smallest earlier one that it touches. Record 0 is a record, so ask for
+ * the refusal's number first: it tells whether a j of 0 names record 0 or none.
  *
  * WHO OWNS WHAT, AND WHAT STAYS UNCHANGED
  *
  * All memory is the caller's, and the library keeps no pointer after a call. Every list is lent
- * as a pointer and the number of its elements (bytes of a job, entries of a layout or of a page,
- * floats); all of them must be there. NULL with 0 is an empty list; NULL with another number is
- * not allowed. A job may stand at any address; layouts, pages and floats are aligned as uint16_t
- * and float always are. A list that a call writes must not overlap the job, nor Page's page the
- * layout: to go on from the last layout of a page, copy it out first.
+ * as a pointer and the number of its elements (bytes of a job, figures of a table, entries of a
+ * layout or of a page, floats); all of them must be there. NULL with 0 is an empty list; NULL with
+ * another number is not allowed. A job may stand at any address; a table is aligned as uint32_t
+ * always is, layouts and pages as uint16_t, floats as float. A list that a call writes must not
+ * overlap the job or the table, nor Page's page the layout: to go on from the last layout of a
+ * page, copy it out first.
  *
- *      the job                       never written
- *      Page's layout, Measure's      never written
+ *      the job, the table            never written
+ *      the layout of Page, Measure   never written
+ *      and TableMeasure
  *      after a refusal, or the end   nothing was written: every lent list is as it was
- *      First, Next with a total      entries 0 to n - 1 are replaced, those from n on unchanged
+ *      First, Next, TableFirst and   entries 0 to n - 1 are replaced, those from n on unchanged
+ *      TableNext with a total
  *      Page with k layouts           the page's entries 0 to k * n - 1 are replaced, those from
  *                                    k * n on unchanged
  *      Draw with 2 or 3 points       the first 4 or 6 floats are replaced, those after unchanged
@@ -148,21 +183,22 @@
  * THREADS AND MEMORY
  *
  * The calls keep no state: no static variables, no heap, no locks, no files, no errno. Any
- * number of threads may call at once, on one job too, as long as no list that one of them
- * writes is used by another meanwhile. The calls raise no floating-point exception and leave
+ * number of threads may call at once, on one job and one table too, as long as no list that one of
+ * them writes is used by another meanwhile. The calls raise no floating-point exception and leave
  * modes and flags as they were, whatever the caller's registers hold; rounding mode and treatment
  * of denormals make no difference to them.
  *
  * Working memory is on the stack: at most 64 KiB in any call (CHEREMYSL_STACK_BYTES). As built, a
  * call takes so many bytes at most, whatever it is given, from its return address on:
  *
- *      First 37,376   Next 37,504   Page 37,520   Measure 224   Draw 40
+ *      First 37,440   Next 37,584   Page 37,584   Measure 224   Draw 40
+ *      TableFirst 20,992   TableNext 21,136   TableMeasure 208
  *
  * tests/stack.c measures it at 64 records, and fails if a call takes 48 bytes more.
  *
- * First and Next take time that grows with n cubed, Measure with n squared. What grows with n
- * cubed is the making of a table of least totals. Page does as Next does, and one table serves
- * the whole page.
+ * First and Next take time that grows with n cubed, Measure with n squared, and each table call as
+ * its namesake. What grows with n cubed is the finding of least totals, for every run of ports.
+ * Page does as Next does, and finds them once for the whole page.
  *
  * COMPILERS AND PLATFORMS
  *
@@ -203,14 +239,14 @@
 /* ---- version ----------------------------------------------------------------------------- */
 
 #define CHEREMYSL_VERSION_MAJOR 1
-#define CHEREMYSL_VERSION_MINOR 1
+#define CHEREMYSL_VERSION_MINOR 2
 #define CHEREMYSL_VERSION_PATCH 0
 
-/* A number to compare, in #if too: 1001000 for 1.1.0. */
+/* A number to compare, in #if too: 1002000 for 1.2.0. */
 #define CHEREMYSL_VERSION_NUMBER \
     (1000000 * CHEREMYSL_VERSION_MAJOR + 1000 * CHEREMYSL_VERSION_MINOR + CHEREMYSL_VERSION_PATCH)
 
-/* A string: "1.1.0". */
+/* A string: "1.2.0". */
 #define CHEREMYSL_VERSION_TEXT \
     CHEREMYSL_JOIN(CHEREMYSL_VERSION_MAJOR, CHEREMYSL_VERSION_MINOR, CHEREMYSL_VERSION_PATCH)
 #define CHEREMYSL_JOIN(major, minor, patch) CHEREMYSL_JOIN_WORDS(major, minor, patch)
@@ -269,34 +305,37 @@ extern "C" {
 
 /* ---- limits ------------------------------------------------------------------------------ */
 
-#define CHEREMYSL_RECORD_BYTES 16         /* bytes of a record */
-#define CHEREMYSL_MAX_RECORDS 64          /* records of a job, so also entries of a layout */
-#define CHEREMYSL_MAX_JOB_BYTES 1024      /* bytes of a job */
-#define CHEREMYSL_MAX_WEIGHT 1000         /* a weight; the smallest is 0 */
-#define CHEREMYSL_MAX_X 1000000           /* a pad's x; the smallest is 1 */
-#define CHEREMYSL_MAX_HEIGHT 1000000      /* a pad's y or a port height, up or down */
-#define CHEREMYSL_MIN_RISE 8              /* from one port height to the next */
-#define CHEREMYSL_MAX_TOTAL 192000064000  /* no total is larger */
-#define CHEREMYSL_DRAW_FLOATS 6           /* floats that Draw must be lent */
-#define CHEREMYSL_STACK_BYTES 65536       /* no call needs more stack */
+#define CHEREMYSL_RECORD_BYTES 16              /* bytes of a record */
+#define CHEREMYSL_MAX_RECORDS 64               /* records of a job, so also entries of a layout */
+#define CHEREMYSL_MAX_JOB_BYTES 1024           /* bytes of a job */
+#define CHEREMYSL_MAX_FIGURES 4096             /* figures of a table, for the largest job */
+#define CHEREMYSL_MAX_WEIGHT 1000              /* a weight; the smallest is 0 */
+#define CHEREMYSL_MAX_X 1000000                /* a pad's x; the smallest is 1 */
+#define CHEREMYSL_MAX_HEIGHT 1000000           /* a pad's y or a port height, up or down */
+#define CHEREMYSL_MIN_RISE 8                   /* from one port height to the next */
+#define CHEREMYSL_MAX_TOTAL 192000064000       /* no total by weights is larger */
+#define CHEREMYSL_MAX_TABLE_TOTAL 274877906880 /* no total by a table is larger */
+#define CHEREMYSL_DRAW_FLOATS 6                /* floats that Draw must be lent */
+#define CHEREMYSL_STACK_BYTES 65536            /* no call needs more stack */
 
 /* ---- numbers in answers ------------------------------------------------------------------ */
 
 #define CHEREMYSL_END (-1)
 
 enum cheremysl_refusal {
-    CHEREMYSL_BAD_SIZE = 1,       /* job_bytes is 0, not a multiple of 16, or above 1,024 */
-    CHEREMYSL_BAD_WEIGHT = 2,     /* a weight is above 1,000 */
-    CHEREMYSL_NO_ROOM = 3,        /* a layout of fewer than n entries, fewer than six floats */
-    CHEREMYSL_BAD_FIELD = 4,      /* a field is outside its range */
-    CHEREMYSL_PORT_NOT_ABOVE = 5, /* a port height is not above the one before */
-    CHEREMYSL_NAME_TWICE = 6,     /* a name other than 0 stood in an earlier record */
-    CHEREMYSL_X_TWICE = 7,        /* an x stood in an earlier record */
-    CHEREMYSL_BAD_ENTRY = 8,      /* a given entry is n or more, or stood earlier */
-    CHEREMYSL_TOUCHING = 9,       /* a leader touches that of an earlier record */
-    CHEREMYSL_NOT_BEST = 10,      /* the given layout has no touching pair but is not best */
-    CHEREMYSL_BAD_NUMBER = 11,    /* Draw's record or port number is n or more */
-    CHEREMYSL_PORT_TOO_CLOSE = 12 /* a port height is less than 8 above the one before */
+    CHEREMYSL_BAD_SIZE = 1,        /* job_bytes is 0, not a multiple of 16, or above 1,024 */
+    CHEREMYSL_BAD_WEIGHT = 2,      /* a weight is above 1,000 */
+    CHEREMYSL_NO_ROOM = 3,         /* a layout of fewer than n entries, fewer than six floats */
+    CHEREMYSL_BAD_FIELD = 4,       /* a field is outside its range */
+    CHEREMYSL_PORT_NOT_ABOVE = 5,  /* a port height is not above the one before */
+    CHEREMYSL_NAME_TWICE = 6,      /* a name other than 0 stood in an earlier record */
+    CHEREMYSL_X_TWICE = 7,         /* an x stood in an earlier record */
+    CHEREMYSL_BAD_ENTRY = 8,       /* a given entry is n or more, or stood earlier */
+    CHEREMYSL_TOUCHING = 9,        /* a leader touches that of an earlier record */
+    CHEREMYSL_NOT_BEST = 10,       /* the given layout has no touching pair but is not best */
+    CHEREMYSL_BAD_NUMBER = 11,     /* Draw's record or port number is n or more */
+    CHEREMYSL_PORT_TOO_CLOSE = 12, /* a port height is less than 8 above the one before */
+    CHEREMYSL_BAD_TABLE = 13       /* a table of fewer or more than n * n figures */
 };
 
 /* ---- the calls --------------------------------------------------------------------------- */
@@ -408,6 +447,53 @@ int64_t cheremysl_draw(const uint8_t *job, size_t job_bytes, uint32_t record, ui
                        float *points, size_t floats)
     CHEREMYSL_CALL CHEREMYSL_READS(1, 2) CHEREMYSL_WRITES(5, 6);
 
+/*
+ * TableFirst: the earliest best layout by a table. As First, with a table in place of the weights.
+ *
+ *      job, job_bytes   the job; only read
+ *      table, figures   n * n figures, that of pad i with port q at table[i * n + q]; only read
+ *      layout, entries  a lent list of at least n entries, to be filled; what it holds on entry
+ *                       makes no difference; it must overlap neither the job nor the table
+ *
+ * Answers the layout's total, the sum of its figures; entries 0 to n - 1 hold the layout and those
+ * from n on are unchanged. Or refuses with 1, 13, 3 to 5, 12, 6 or 7, checked in this order, and
+ * writes nothing. Never answers the end.
+ */
+int64_t cheremysl_table_first(const uint8_t *job, size_t job_bytes, const uint32_t *table,
+                              size_t figures, uint16_t *layout, size_t entries)
+    CHEREMYSL_CALL CHEREMYSL_READS(1, 2) CHEREMYSL_READS(3, 4) CHEREMYSL_WRITES(5, 6);
+
+/*
+ * TableNext: the earliest best layout by a table after the given one.
+ *
+ *      job, job_bytes   the job; only read
+ *      table, figures   as for TableFirst: best means best for this table
+ *      layout, entries  a lent list of at least n entries, whose first n hold a best layout, from
+ *                       anywhere: it is checked, not trusted
+ *
+ * Answers the total of the layout found (all best layouts have the same); entries 0 to n - 1
+ * hold it and those from n on are unchanged. Or answers the end, exactly if no best layout
+ * comes after the given one, and writes nothing. Or refuses with 1, 13, 3 to 5, 12 or 6 to 10,
+ * checked in this order, and writes nothing.
+ */
+int64_t cheremysl_table_next(const uint8_t *job, size_t job_bytes, const uint32_t *table,
+                             size_t figures, uint16_t *layout, size_t entries)
+    CHEREMYSL_CALL CHEREMYSL_READS(1, 2) CHEREMYSL_READS(3, 4) CHEREMYSL_CHANGES(5, 6);
+
+/*
+ * TableMeasure: the total by a table of a layout without a touching pair, best or not.
+ *
+ *      job, job_bytes   the job; only read
+ *      table, figures   as for TableFirst
+ *      layout, entries  a list of at least n entries, whose first n are the layout; only read
+ *
+ * Answers the total, or refuses with 1, 13, 3 to 5, 12 or 6 to 9, checked in this order. Writes
+ * nothing. Refusal 9 names the first pair of records whose leaders touch.
+ */
+int64_t cheremysl_table_measure(const uint8_t *job, size_t job_bytes, const uint32_t *table,
+                                size_t figures, const uint16_t *layout, size_t entries)
+    CHEREMYSL_CALL CHEREMYSL_READS(1, 2) CHEREMYSL_READS(3, 4) CHEREMYSL_READS(5, 6);
+
 /* ---- taking an answer apart -------------------------------------------------------------- */
 
 /* 1 if the answer is a refusal, else 0. */
@@ -416,7 +502,7 @@ static inline int cheremysl_is_refusal(int64_t answer) { return answer < CHEREMY
 /* 1 if the answer is the end, else 0. */
 static inline int cheremysl_is_end(int64_t answer) { return answer == CHEREMYSL_END; }
 
-/* The refusal's number, 1 to 12; 0 if the answer is not a refusal. */
+/* The refusal's number, 1 to 13; 0 if the answer is not a refusal. */
 static inline int cheremysl_refusal_number(int64_t answer) {
     return cheremysl_is_refusal(answer) ? CHEREMYSL_CAST(int, answer / -65536 % 65536) : 0;
 }
@@ -439,7 +525,7 @@ static inline int cheremysl_refusal_earlier(int64_t answer) {
  */
 static inline const char *cheremysl_refusal_text(int64_t answer) {
     int number = cheremysl_refusal_number(answer);
-    int known = number <= CHEREMYSL_PORT_TOO_CLOSE ? number : 0; /* within the enum's range */
+    int known = number <= CHEREMYSL_BAD_TABLE ? number : 0; /* within the enum's range */
     switch (CHEREMYSL_CAST(enum cheremysl_refusal, known)) {
     case CHEREMYSL_BAD_SIZE:
         return "The job is not 1 to 64 records of 16 bytes.";
@@ -465,6 +551,8 @@ static inline const char *cheremysl_refusal_text(int64_t answer) {
         return "There is no pad, or no port, of the number given.";
     case CHEREMYSL_PORT_TOO_CLOSE:
         return "The port of this record is less than 8 above the port of the record before.";
+    case CHEREMYSL_BAD_TABLE:
+        return "The table does not have just one figure for each pad with each port.";
     }
     return cheremysl_is_refusal(answer)
                ? "The library refuses for a reason that this program does not know."

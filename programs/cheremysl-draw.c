@@ -1,13 +1,15 @@
 /*
- * cheremysl-draw [--any] JOB [PORT..] >SVG: draws a sheet: the label edge with port numbers and
- * names, the pads as dots with their names, and the leaders. Without ports it is First's sheet.
+ * cheremysl-draw [--any] [--area X1,Y1,X2,Y2] JOB [PORT..] >SVG: draws a sheet: the label edge with
+ * port numbers and names, the pads as dots with their names, and the leaders. Without ports it is
+ * First's sheet. An area of the board is shaded.
  * The status is 0 if it was drawn, 1 if job or sheet is refused, 2 if it cannot be read or written.
  *
  * There is one scale for x and y, but what would come too close to be told apart is pushed on, to
  * the right or down, with all that follows. So the order of the heights, and that of the pads' x,
  * stay what they are, and these orders alone decide what touches: the picture shows no touching
- * that is not there, hides none, and has room for every line, dot, name and label. A polyline's
- * data-points are Draw's numbers as they are, its points the same places in pixels.
+ * that is not there, hides none, and has room for every line, dot, name and label. An area's sides
+ * are pushed on with what lies before them, so they too keep their places in these orders. A
+ * polyline's data-points are Draw's numbers as they are, its points the same places in pixels.
  */
 #include <inttypes.h>
 
@@ -25,10 +27,11 @@
 
 static char program[] = "cheremysl-draw";
 static const char usage[] =
-    "usage: cheremysl-draw [--any] JOB [PORT..] >SVG\n"
+    "usage: cheremysl-draw [--any] [--area X1,Y1,X2,Y2] JOB [PORT..] >SVG\n"
     "Draws a sheet: a job file, - for standard input, and then each pad's port number. Without\n"
     "port numbers it is the earliest sheet of least length that has no touching leaders.\n"
     "  --any      draws a sheet with touching leaders or with a port given twice, too\n"
+    "  --area     shades the rectangle with these corners, in the job's units\n"
     "  --help     prints this\n"
     "  --version  prints the version\n";
 
@@ -45,6 +48,12 @@ struct port {
     double down;
 };
 
+/* An area of the board, on the canvas. */
+struct area {
+    int given;
+    double left, top, right, bottom;
+};
+
 /* A sheet and where the picture has it: the height y stands at pixel top + scale * y + its push. */
 struct picture {
     struct given_sheet s;
@@ -56,6 +65,7 @@ struct picture {
     double scale, left, top, width, height;
     double edge; /* where the label edge begins, below the heading */
     int pushed;
+    struct area area;
 };
 
 static double larger(double a, double b) { return a > b ? a : b; }
@@ -263,6 +273,24 @@ static void place_pads(struct picture *p) {
     push_right(p, order);
 }
 
+/* Where a height stands that need not be a pad's or a port's: pushed as the last one above it. */
+static double any_y(const struct picture *p, double at) {
+    double down = 0;
+    for (size_t i = 0; i < p->n; i++) {
+        if (p->leaders[i].at[1] <= at) down = larger(down, p->leaders[i].down);
+        if (p->ports[i].at <= at) down = larger(down, p->ports[i].down);
+    }
+    return height_of(p, at, down);
+}
+
+/* Where an x stands that need not be a pad's. */
+static double any_x(const struct picture *p, double at) {
+    double right = 0;
+    for (size_t i = 0; i < p->n; i++)
+        if (p->leaders[i].at[0] <= at) right = larger(right, p->leaders[i].right);
+    return p->left + p->scale * at + right;
+}
+
 /* ---- texts ---- */
 
 /* The bytes of the letter that begins here if XML may have it, UTF-8 and no control; else 0. */
@@ -388,6 +416,16 @@ static void place_heading(struct picture *p, const struct heading *h) {
     p->width = larger(p->width, AROUND + h->width) + AROUND;
 }
 
+/* What of the area lies on the board's part of the picture. */
+static void draw_area(const struct picture *p, const struct area *a) {
+    double left = larger(any_x(p, a->left), p->left), top = larger(any_y(p, a->top), p->edge);
+    double right = smaller(any_x(p, a->right), p->width);
+    double bottom = smaller(any_y(p, a->bottom), p->height - AROUND / 2);
+    if (!a->given || right < left || bottom < top) return;
+    printf("<rect id=\"area\" x=\"%.6g\" y=\"%.6g\" width=\"%.6g\" height=\"%.6g\" "
+           "fill=\"#ffdf80\"/>\n", left, top, right - left, bottom - top);
+}
+
 static void draw_line(const struct picture *p, const struct leader *l) {
     double x = pad_x(p, l), pad = pad_y(p, l), port = port_y(p, l->port);
     printf("<polyline data-points=\"%.9g,%.9g", l->at[0], l->at[1]);
@@ -464,6 +502,7 @@ static void draw_picture(struct picture *p, const char *file) {
            p->width, p->height, p->width, p->height, FONT);
     printf("<title>%s</title>\n", h.lines[0]);
     printf("<rect width=\"100%%\" height=\"100%%\" fill=\"white\"/>\n");
+    draw_area(p, &p->area);
     draw_heading(&h);
     printf("<path stroke=\"gray\" d=\"M%.6g,%.6gV%.6g\"/>\n", p->left, p->edge,
            p->height - AROUND / 2);
@@ -495,14 +534,27 @@ static void end_with_option(const char *word) {
     exit(2);
 }
 
+/* Two corners in the job's units; no word is no area. */
+static struct area read_area(const char *word) {
+    int x, y, u, v, end = 0;
+    if (word == NULL || sscanf(word, "%8d,%8d,%8d,%8d%n", &x, &y, &u, &v, &end) != 4 || word[end]) {
+        fprintf(stderr, "%s: --area takes X1,Y1,X2,Y2\n%s", program, usage);
+        exit(2);
+    }
+    return (struct area){1, smaller(x, u) / 4, -larger(y, v) / 4, larger(x, u) / 4,
+                         -smaller(y, v) / 4};
+}
+
 /* Takes the options out of the words and answers how many are left; -- ends the options. */
-static int take_options(int argc, char **argv, int *any) {
+static int take_options(int argc, char **argv, int *any, struct area *area) {
     int left = 1, k = 1;
     for (; k < argc && strcmp(argv[k], "--") != 0; k++) {
         if (argv[k][0] != '-' || argv[k][1] == 0)
             argv[left++] = argv[k];
         else if (strcmp(argv[k], "--any") == 0)
             *any = 1;
+        else if (strcmp(argv[k], "--area") == 0)
+            *area = read_area(argv[++k]);
         else
             end_with_option(argv[k]);
     }
@@ -513,7 +565,7 @@ static int take_options(int argc, char **argv, int *any) {
 
 int main(int argc, char **argv) {
     static struct picture p;
-    int any = 0, words = take_options(argc, argv, &any);
+    int any = 0, words = take_options(argc, argv, &any, &p.area);
     if (words < 2) {
         fputs(usage, stderr);
         return 2;
