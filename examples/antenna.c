@@ -19,10 +19,10 @@ static void end_without_area(const char *program) {
 }
 
 static struct area read_area(const char *program, const char *word) {
-    int x, y, u, v, end = 0;
-    if (sscanf(word, "%8d,%8d,%8d,%8d%n", &x, &y, &u, &v, &end) != 4 || word[end] != 0)
-        end_without_area(program);
-    return (struct area){x < u ? x : u, y < v ? y : v, x < u ? u : x, y < v ? v : y};
+    int at[4];
+    if (!read_given_area(word, at)) end_without_area(program);
+    int right = at[0] < at[2], up = at[1] < at[3];
+    return (struct area){at[right ? 0 : 2], at[up ? 1 : 3], at[right ? 2 : 0], at[up ? 3 : 1]};
 }
 
 /* A number of 4 bytes in a record: like the job, x86-64 has the lowest byte first. */

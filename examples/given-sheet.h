@@ -53,6 +53,14 @@ static inline struct given_sheet read_given_sheet(int argc, char **argv) {
     return s;
 }
 
+/* The corners of an area, X1,Y1,X2,Y2 in the job's units; 0 if the word is none. */
+static inline int read_given_area(const char *word, int at[4]) {
+    int end = 0;
+    return word != NULL &&
+           sscanf(word, "%8d,%8d,%8d,%8d%n", &at[0], &at[1], &at[2], &at[3], &end) == 4 &&
+           word[end] == 0;
+}
+
 /* The name of the pad of record i, which must be one of the job's. */
 static inline int pad_name(const struct given_sheet *s, size_t i) {
     const uint8_t *record = s->job + CHEREMYSL_RECORD_BYTES * i;

@@ -536,13 +536,13 @@ static void end_with_option(const char *word) {
 
 /* Two corners in the job's units; no word is no area. */
 static struct area read_area(const char *word) {
-    int x, y, u, v, end = 0;
-    if (word == NULL || sscanf(word, "%8d,%8d,%8d,%8d%n", &x, &y, &u, &v, &end) != 4 || word[end]) {
+    int at[4];
+    if (!read_given_area(word, at)) {
         fprintf(stderr, "%s: --area takes X1,Y1,X2,Y2\n%s", program, usage);
         exit(2);
     }
-    return (struct area){1, smaller(x, u) / 4, -larger(y, v) / 4, larger(x, u) / 4,
-                         -smaller(y, v) / 4};
+    return (struct area){1, smaller(at[0], at[2]) / 4, -larger(at[1], at[3]) / 4,
+                         larger(at[0], at[2]) / 4, -smaller(at[1], at[3]) / 4};
 }
 
 /* Takes the options out of the words and answers how many are left; -- ends the options. */

@@ -7,6 +7,7 @@ use paper::Answer;
 ghost use Rattle.paper.specs.Layouts.{byTable};
 ghost use Rattle.paper.specs.Promises.{FirstAnswers, NextAnswers, MeasureAnswers};
 
+// First: the earliest layout that is best by the table, in the first n entries of `list`.
 pub fn first(job: &[u8], figures: &[u32], list: &mut [u16]) -> Answer
     ensures { λ r. ⌜ FirstAnswers (now (job .entry)) (byTable (now (figures .entry))) (now (list .entry)) r (now (list .exit)) ⌝ }
 {
@@ -17,6 +18,7 @@ pub fn first(job: &[u8], figures: &[u32], list: &mut [u16]) -> Answer
     }
 }
 
+// Next: the earliest such layout after the one in `list`.
 pub fn next(job: &[u8], figures: &[u32], list: &mut [u16]) -> Answer
     ensures { λ r. ⌜ NextAnswers (now (job .entry)) (byTable (now (figures .entry))) (now (list .entry)) r (now (list .exit)) ⌝ }
 {
@@ -27,6 +29,7 @@ pub fn next(job: &[u8], figures: &[u32], list: &mut [u16]) -> Answer
     }
 }
 
+// Measure: the sum of the figures of an untouching layout, best or not.
 pub fn measure(job: &[u8], figures: &[u32], list: &[u16]) -> Answer
     ensures { λ r. ⌜ MeasureAnswers (now (job .entry)) (byTable (now (figures .entry))) (now (list .entry)) r ⌝ }
 {

@@ -1,4 +1,4 @@
--- DEFINITIONS. 01, "Leaders, touching and totals": layouts and their totals, over a board of pads and ports.
+-- DEFINITIONS. 01, "Leaders, touching and totals", and of 02, the table: layouts and their totals, over a board of pads and ports.
 -- A layout f gives the pad of record i the port number f i.
 use mathlib.Core.Path.{_≡_}
 use mathlib.Core.Logic.{_≢_}

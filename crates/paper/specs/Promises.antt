@@ -1,5 +1,5 @@
 -- DEFINITIONS. 01, "The calls": what each call promises for every input, by cases of its answer, and the number that C gets.
--- A call is given a job, numbers, and a lent list that holds `before` at entry and `after` at exit. Page is given a layout besides, which is only read.
+-- A call is given a job, numbers or a table, and a lent list that holds `before` at entry and `after` at exit. Page is given a layout besides, which is only read.
 use mathlib.Core.Path.{_≡_}
 use mathlib.Core.Logic.{_⊎_, _↔_}
 use mathlib.Core.List.{List, [], _∷_, _++_}
@@ -73,7 +73,7 @@ overwritten cs before = cs ++ drop (length cs) before
 
 -- Each is said for any calls, by their problem and their trials, and then for those on a job.
 
--- FIRST: the earliest best layout fills the first n entries, and the answer is its value: for 01, its total.
+-- FIRST: the earliest best layout fills the first n entries, and the answer is its value: on a job, its total.
 abbrev pub FirstOver : Calls → List ℕ → Answer → List ℕ → Type 0
 FirstOver c before (Total t) after =
     Passed (c .first (length before)) × FirstBest (c .problem) (held after) × (t ≡ c .problem .value (held after)) × Kept (entries c) before after

@@ -119,7 +119,7 @@ layoutTrials b list =
     ofPairs 9 (b .pads) (Touching b (held list)) ∷
     []
 
--- 10: the given layout counts, for 01 it has no touching pair, but isn't best
+-- 10: the given layout counts, on a job: it has no touching pair, but isn't best
 abbrev pub bestTrial : Problem → List ℕ → Trial
 bestTrial p list = ofWhole 10 (p .Counts (held list) × ¬ Best p (held list))
 

@@ -184,6 +184,21 @@ pub table-bound : (job figures list : List ℕ) → ((k : ℕ) → getD figures 
     → total (boardOf job) (figure (boardOf job) figures) (held list) ≤ 274877906880
 table-bound job figures list narrow p = by.Bounds.measure-bounded job (byTable figures) narrow list (Total _) (p, refl)
 
+-- So is each number that First, Next and Measure by such a table give to C.
+pub first-bound : (job figures before : List ℕ) (t : ℕ) (after : List ℕ) → ((k : ℕ) → getD figures k 0 < 4294967296)
+    → FirstPromise job (byTable figures) before (pos t) after → t ≤ 274877906880
+first-bound job figures before t after narrow p =
+    by.Bounds.first-bounded job (byTable figures) narrow before (Total t) after (first-answers job (byTable figures) before t after .0 p)
+
+pub next-bound : (job figures before : List ℕ) (t : ℕ) (after : List ℕ) → ((k : ℕ) → getD figures k 0 < 4294967296)
+    → NextPromise job (byTable figures) before (pos t) after → t ≤ 274877906880
+next-bound job figures before t after narrow p =
+    by.Bounds.next-bounded job (byTable figures) narrow before (Total t) after (next-answers job (byTable figures) before t after .0 p)
+
+pub measure-bound : (job figures list : List ℕ) (t : ℕ) → ((k : ℕ) → getD figures k 0 < 4294967296)
+    → MeasurePromise job (byTable figures) list (pos t) → t ≤ 274877906880
+measure-bound job figures list t narrow p = by.Bounds.measure-bounded job (byTable figures) narrow list (Total t) (measure-answers job (byTable figures) list t .0 p)
+
 -- Draw answers 2 exactly if the first four places then hold the two points of a leader without a bend, and 3 exactly if the six hold the three of one with a bend.
 pub draw-straight : (job : List ℕ) (i q : ℕ) (before after : List Float)
     → DrawPromise job i q before (pos 2) after
@@ -213,9 +228,13 @@ drawn-once a b v = by.Quarter.four-times-one {a = a} {b = b} v
 pub drawn-zero : (a : Float) → FourTimesIs a (pos 0) → a ≡ fin false 0 (pos 0)
 drawn-zero a = by.Quarter.zero-positive {a = a}
 
--- With both weights 0 every untouching layout is best; and every job that is accepted has one.
+-- With both weights 0, or all figures equal, every untouching layout is best; and every job that is accepted has one.
 pub zero-weights : (b : Board) (f : ℕ → ℕ) → Untouching b f → Best (labeling b (weighted b 0 0)) f
 zero-weights = by.Boards.zero-weights
+
+pub equal-figures : (b : Board) (figures : List ℕ) (c : ℕ) → ((i q : ℕ) → i < b .pads → q < b .ports → figure b figures i q ≡ c)
+    → (f : ℕ → ℕ) → Untouching b f → Best (labeling b (figure b figures)) f
+equal-figures b figures = by.Boards.equal-costs b (figure b figures)
 
 pub untouching-exists : (job : List ℕ) (bad : Badness) (room : ℕ) → Passed (firstTrials job bad room) → (f : ℕ → ℕ) × Untouching (boardOf job) f
 untouching-exists job bad = regular job bad .exists

@@ -27,11 +27,12 @@ pub mod Kept
 pub mod Earliest
 pub mod Pages
 pub mod Regular
-pub mod Alike
--- THE THEOREMS: determinacy, each promise can be met, demand 3, a page is what calls of Next give, straightening costs no length, the worked sheets.
+-- THE THEOREMS: determinacy, each promise can be met, demand 3, a page is what calls of Next give, straightening costs no length, by weights as by their table, the
+-- worked sheets.
 pub mod Determined
 pub mod Met
 pub mod Demand
 pub mod ByNext
 pub mod Shortest
+pub mod Alike
 pub mod Worked

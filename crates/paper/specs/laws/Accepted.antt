@@ -1,5 +1,5 @@
 -- What a call may go by once its trials are passed.
---     first-accepted, draw-accepted: the job's fields, weights and room;  layout-passed: 8 and 9 on any board;  measure-accepted, untouching-passed: Measure's
+--     first-accepted, draw-accepted: the job's fields, weights or table, and room;  layout-passed: 8 and 9 on any board;  measure-accepted, untouching-passed: Measure's
 use mathlib.Core.Path.{_≡_, refl, ap}
 use mathlib.Core.Logic.{_≢_, inl, inr, ⊎-elim, _↔_, Dec·not-not}
 use mathlib.Core.List.{List, [], _∷_}

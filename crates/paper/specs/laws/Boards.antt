@@ -1,6 +1,6 @@
 -- Layouts on a board: which ports count, 01's criterion for all pairs of pads, and each pad's own port.
---     layout-iff: each port number stands once;  untouched-iff: the criterion;  untouching-of: own ports come by themselves;  zero-weights
-use mathlib.Core.Path.{_≡_, refl, sym, ap}
+--     layout-iff: each port number stands once;  untouched-iff: the criterion;  untouching-of: own ports come by themselves;  equal-costs, zero-weights
+use mathlib.Core.Path.{_≡_, refl, sym, ap, _∙_}
 use mathlib.Core.Logic.{_≢_, _⊎_, inl, inr, ⊎-elim, _↔_}
 use Prim.Native.Nat.{ℕ, zero, suc, _<_}
 use native.Mathlib.Decide.{decLt, ℕ-discrete}
@@ -9,7 +9,7 @@ use Rattle.paper.specs.Leaders.{Between}
 use Rattle.paper.specs.Layouts.{Board, leader, Touching, Layout, StandsOnce, EachOnce, Untouching, weighted, total, Differ, Same}
 use Rattle.paper.specs.Problem.{Best, labeling}
 use Rattle.paper.specs.laws.Touching.{touch-sym, touch-iff}
-use Rattle.paper.specs.laws.Totals.{sum-same, total-is}
+use Rattle.paper.specs.laws.Totals.{sum-same}
 
 -- ---- only the ports of the board's pads count
 
@@ -178,6 +178,14 @@ module _ (b : Board) (f : ℕ → ℕ) (same : b .ports ≡ b .pads) where
   pub layout-iff : Layout b f ↔ EachOnce b f
   layout-iff = (each-once, once-layout)
 
--- THEOREM: with both weights 0 every untouching layout is best.
+-- THEOREM: where all leaders cost the same every untouching layout is best; so with both weights 0.
+pub equal-costs : (b : Board) (cost : ℕ → ℕ → ℕ) (c : ℕ) → ((i q : ℕ) → i < b .pads → q < b .ports → cost i q ≡ c) → (f : ℕ → ℕ) → Untouching b f
+    → Best (labeling b cost) f
+equal-costs b cost c all f u = record { counts = u; least = λ g v. omega (arith, same g v) }
+  where
+    same : (g : ℕ → ℕ) → Untouching b g → total b cost f ≡ total b cost g
+    same g v = sum-same (b .pads) (λ i. cost i (f i)) (λ i. cost i (g i)) (λ i l. all i (f i) l (u .layout .inside i l) ∙ sym (all i (g i) l (v .layout .inside i l)))
+
 pub zero-weights : (b : Board) (f : ℕ → ℕ) → Untouching b f → Best (labeling b (weighted b 0 0)) f
-zero-weights b f u = record { counts = u; least = λ g v. omega (arith, total-is b 0 0 f, total-is b 0 0 g) }
+unfolding weighted
+zero-weights b = equal-costs b (weighted b 0 0) 0 (λ i q h k. omega arith)
