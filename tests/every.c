@@ -98,19 +98,6 @@ static void least_of_all(struct question q) {
     crossed += q.a > 0 && all.crossed;
 }
 
-static void any_job(struct question *q, size_t n) {
-    static uint32_t table[TABLE_ROOM];
-    make_board(q->job, n, below(BOARDS));
-    q->job_bytes = 16 * n;
-    q->count = n + below(3);
-    any_weights(&q->a, &q->b);
-    lend_table(q, table, below(FIGURES));
-    uint32_t noise = below(2) ? 65536 : 8;
-    for (size_t k = 0; k < LIST_ROOM; k++) q->list.layout[k] = (uint16_t)below(noise);
-    lend_page(q, any_room(n));
-    q->call = below(3) ? FIRST : TABLE_FIRST;
-}
-
 static void count_sheets(const struct question *q, const struct sheets *all) {
     bool tabled = takes_table(q->call);
     check(all->found > 0, q, "no best layout");

@@ -30,17 +30,6 @@
 
 static long runs_ended, steps_taken, pairs_ended;
 
-static void any_job(struct question *q, size_t n) {
-    static uint32_t table[TABLE_ROOM];
-    make_board(q->job, n, below(BOARDS));
-    q->job_bytes = 16 * n;
-    q->count = n + below(3);
-    any_weights(&q->a, &q->b);
-    lend_table(q, table, below(FIGURES));
-    for (size_t i = 0; i < LIST_ROOM; i++) q->list.layout[i] = (uint16_t)below(65536);
-    q->call = below(3) ? FIRST : TABLE_FIRST;
-}
-
 static int64_t total_of(const struct question *q, const uint16_t *layout) {
     struct given g = given_of(q);
     return plain_total(&g, layout);

@@ -62,6 +62,19 @@ void sound_question(struct question *q, enum call call) {
     if (call == PAGE) lend_page(q, any_room(n));
 }
 
+void any_job(struct question *q, size_t n) {
+    static uint32_t table[TABLE_ROOM];
+    make_board(q->job, n, below(BOARDS));
+    q->job_bytes = 16 * n;
+    q->count = n + below(3);
+    any_weights(&q->a, &q->b);
+    lend_table(q, table, below(FIGURES));
+    uint32_t noise = below(2) ? 65536 : 8;
+    for (size_t k = 0; k < LIST_ROOM; k++) q->list.layout[k] = (uint16_t)below(noise);
+    lend_page(q, any_room(n));
+    q->call = below(3) ? FIRST : TABLE_FIRST;
+}
+
 /* ---- damage ---- */
 
 static int64_t far_out(void) {
