@@ -111,7 +111,7 @@ static void count_sheets(const struct question *q, const struct sheets *all) {
 static void one_job(void) {
     static struct question q;
     static struct sheets all;
-    any_job(&q, any_size());
+    sound_job(&q, any_size());
     if (records_of(&q) > 1 && below(8) == 0) too_close(q);
     least_of_all(q);
     struct given g = given_of(&q);

@@ -89,7 +89,7 @@ static bool page_of_list(struct question q, const struct listing *l, size_t k) {
 static void whole_list(size_t n) {
     static struct question q;
     static struct listing l;
-    any_job(&q, n);
+    sound_job(&q, n);
     list_all(&q, &l);
     for (size_t k = 0; k < l.found; k++) {
         bool paged = !takes_table(q.call) && (below(4) == 0 || k + 1 == l.found);
@@ -109,7 +109,7 @@ static void list_agrees(size_t n) {
     static struct question q;
     static struct listing l;
     static struct sheets all;
-    any_job(&q, n);
+    sound_job(&q, n);
     list_all(&q, &l);
     struct given g = given_of(&q);
     plain_sheets(&g, &all);
@@ -174,7 +174,7 @@ static bool follow(struct question *q, long steps, long *sheets) {
 static void large_job(size_t n) {
     static struct question q;
     long sheets;
-    any_job(&q, n);
+    sound_job(&q, n);
     follow(&q, STEPS, &sheets);
     turn_to(&q, MEASURE);
     int64_t total = ask(&q, AT_END).answer;
@@ -190,7 +190,7 @@ static void counted_run(size_t n, size_t pairs, bool tabled) {
     static struct question q;
     static uint32_t table[TABLE_ROOM];
     long sheets = 0, expected = 1L << pairs;
-    any_job(&q, n);
+    sound_job(&q, n);
     make_tied(q.job, n, pairs);
     q.a = 1;
     q.b = 0;
@@ -221,7 +221,7 @@ static void same_runs(struct question one, struct question other, int64_t times,
 static void weighed_runs(size_t n) {
     static struct question q;
     static uint32_t table[TABLE_ROOM];
-    any_job(&q, n);
+    sound_job(&q, n);
     q.call = FIRST;
     same_runs(q, by_table(&q, table), 1, 0);
     q.call = MEASURE;
@@ -236,7 +236,7 @@ static void weighed_runs(size_t n) {
 /* One figure everywhere: every untouching layout is best, as with weights 0, 0. */
 static void equal_runs(size_t n, enum figures kind) {
     static struct question q;
-    any_job(&q, n);
+    sound_job(&q, n);
     lend_table(&q, q.table, kind);
     int64_t total = (int64_t)n * q.table[0];
     struct question one = q;
@@ -256,7 +256,7 @@ static void shifted_runs(size_t n) {
     static uint32_t table[TABLE_ROOM];
     uint32_t times = 1 + below(1000000), pad_more = 0, port_more[64];
     int64_t more = 0;
-    any_job(&q, n);
+    sound_job(&q, n);
     q.call = TABLE_FIRST;
     for (size_t k = 0; k < n * n; k++) q.table[k] %= 1000;
     shifted = q;
@@ -274,7 +274,7 @@ static void planted_run(size_t n) {
     static struct question q;
     uint16_t layout[64];
     int64_t total = 0;
-    any_job(&q, n);
+    sound_job(&q, n);
     q.call = TABLE_FIRST;
     for (size_t k = 0; k < n * n; k++) q.table[k] += q.table[k] == 0;
     any_untouching(q.job, n, layout);

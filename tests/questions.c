@@ -62,7 +62,7 @@ void sound_question(struct question *q, enum call call) {
     if (call == PAGE) lend_page(q, any_room(n));
 }
 
-void any_job(struct question *q, size_t n) {
+void sound_job(struct question *q, size_t n) {
     static uint32_t table[TABLE_ROOM];
     make_board(q->job, n, below(BOARDS));
     q->job_bytes = 16 * n;

@@ -11,7 +11,7 @@
 void sound_question(struct question *q, enum call call);
 
 /* First on an accepted job of n pads, by weights or by a table, which stands until the next job. */
-void any_job(struct question *q, size_t n);
+void sound_job(struct question *q, size_t n);
 
 /* Changes one thing; the question may then deserve a refusal, or another. */
 void damage(struct question *q);
