@@ -209,15 +209,19 @@ static void two_pairs(void) {
 
 /* ---- small boards, by points ---- */
 
-/* By points: the pair is named, or Measure has the total, of weights or figures. */
+static bool has_total(struct question *q, enum call call) {
+    q->call = call;
+    struct given g = given_of(q);
+    return expect(q, keeps(q, plain_total(&g, q->list.layout)));
+}
+
+/* By points: the pair is named, or Measure has the total, of weights and of figures. */
 static bool judged(struct question *q) {
     static uint32_t table[TABLE_ROOM];
     struct pair pair = first_pair(q);
     if (pair.record > 0) return names(q, pair);
     lend_table(q, table, ANY_FIGURES);
-    q->call = below(2) ? MEASURE : TABLE_MEASURE;
-    struct given g = given_of(q);
-    return expect(q, keeps(q, plain_total(&g, q->list.layout)));
+    return has_total(q, MEASURE) && has_total(q, TABLE_MEASURE);
 }
 
 static size_t orders_of(size_t n) { return n < 2 ? 1 : n * orders_of(n - 1); }
