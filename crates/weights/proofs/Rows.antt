@@ -36,5 +36,5 @@ filled-place b cost cs j q v h l W e = filled-to (omega arith) (filled-more (pla
         rw (← t, ← u) e
 
 -- When all are written, that is the table.
-pub table-of : {b : Board} {cost : ℕ → ℕ → ℕ} {cs : List ℕ} → FilledTo b cost cs (b .pads * b .ports) → TableOf b cost cs
-table-of {b} W = record { long = W .long; at = λ j q h l. W .at (j * b .ports + q) (place-in (b .pads) (b .ports) j q h l) j q l refl }
+pub table-filled : {b : Board} {cost : ℕ → ℕ → ℕ} {cs : List ℕ} → FilledTo b cost cs (b .pads * b .ports) → TableOf b cost cs
+table-filled {b} W = record { long = W .long; at = λ j q h l. W .at (j * b .ports + q) (place-in (b .pads) (b .ports) j q h l) j q l refl }

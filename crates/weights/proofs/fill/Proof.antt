@@ -6,7 +6,7 @@ use Rattle.numbers.specs.Filled.{filled-none, filled-to}
 use Rattle.paper.specs.Job.{count}
 use Rattle.paper.specs.Layouts.{boardOf, weighted}
 use Rattle.weights.specs.Rows.{FilledTo}
-use Rattle.weights.proofs.Rows.{table-of}
+use Rattle.weights.proofs.Rows.{table-filled}
 use Rattle.weights.proofs.fill.Statement.{statement}
 use Rattle.weights.proofs.fill.Tie as tie
 
@@ -47,7 +47,7 @@ returns c =
     let l = c .before .loop in
     let n = count (begin (c .before) .args .job .now) in
     let e : l .j ≡ n = omega arith in
-    table-of (filled-to (ap (λ (k : ℕ). k * n) e) (l .inv .1))
+    table-filled (filled-to (ap (λ (k : ℕ). k * n) e) (l .inv .1))
 
 pub fill-spec : {M : Type 1} → statement M
 fill-spec =
