@@ -8,41 +8,43 @@ use lib.ListN.{length, take, length-append}
 use lib.Seq.{take-at}
 use Rattle.paper.specs.declared.Answer.{Answer}
 use Rattle.paper.specs.declared.Paged.{Paged}
-use Rattle.paper.specs.Job.{count}
+use Rattle.paper.specs.declared.Work.the-variants.{Unlent}
+use Rattle.paper.specs.Job.{records, count}
 use Rattle.paper.specs.Layouts.{boardOf, weighted, byWeights, byTable, TableOf}
 use Rattle.paper.specs.Refusals.{Passed, firstTrials, measureTrials}
 use Rattle.paper.specs.Promises.{FirstAnswers, NextAnswers, PageAnswers}
-use Rattle.paper.specs.laws.Accepted.{Accepted, Fair}
+use Rattle.paper.specs.laws.Accepted.{AcceptedJob, Fair}
 use Rattle.paper.specs.laws.Alike.{first-follows, measure-follows, first-on, next-on, page-on}
 
 -- An accepted job's table has at most 4,096 figures.
 abbrev square : List ℕ → ℕ
 square job = count job * count job
 
-pub square-most : {job : List ℕ} → Accepted job → square job ≤ 4096
+pub square-most : {job : List ℕ} → AcceptedJob (records job) → square job ≤ 4096
 square-most a = mul-le-mul (a .few) (a .few)
 
-module _ (job : List ℕ) (lw bw : ℕ) (fair : Fair job (byWeights lw bw)) {figures : List ℕ} (rest : List ℕ) (T : TableOf (boardOf job) (weighted (boardOf job) lw bw) figures) where
+module _ (job : List ℕ) (lw bw : ℕ) (fair : Fair (boardOf (records job)) (byWeights lw bw)) {figures : List ℕ} (rest : List ℕ)
+    (T : TableOf (boardOf (records job)) (weighted (boardOf (records job)) lw bw) figures) where
   front : take (square job) (figures ++ rest) ≡ figures
   front = take-at figures rest (square job) (T .long)
 
   pub front-long : square job ≤ length (figures ++ rest)
   front-long = omega (arith, length-append figures rest, T .long)
 
-  pub first-lent : (room : ℕ) → Passed (firstTrials job (byWeights lw bw) room) → Passed (firstTrials job (byTable (take (square job) (figures ++ rest))) room)
-  first-lent room p = rw front (first-follows job (byWeights lw bw) (byTable figures) fair (T .long) (λ i q h k. sym (T .at i q h k)) room .0 p)
+  pub first-lent : (room : ℕ) → Passed (firstTrials (records job) (byWeights lw bw) Unlent room) → Passed (firstTrials (records job) (byTable (take (square job) (figures ++ rest))) Unlent room)
+  first-lent room p = rw front (first-follows (records job) (byWeights lw bw) (byTable figures) fair (T .long) (λ i q h k. sym (T .at i q h k)) Unlent room .0 p)
 
-  pub measure-lent : (list : List ℕ) → Passed (measureTrials job (byWeights lw bw) list) → Passed (measureTrials job (byTable (take (square job) (figures ++ rest))) list)
-  measure-lent list p = rw front (measure-follows job (byWeights lw bw) (byTable figures) fair (T .long) (λ i q h k. sym (T .at i q h k)) list .0 p)
+  pub measure-lent : (list : List ℕ) → Passed (measureTrials (records job) (byWeights lw bw) Unlent list) → Passed (measureTrials (records job) (byTable (take (square job) (figures ++ rest))) Unlent list)
+  measure-lent list p = rw front (measure-follows (records job) (byWeights lw bw) (byTable figures) fair (T .long) (λ i q h k. sym (T .at i q h k)) Unlent list .0 p)
 
-  pub first-back : (before : List ℕ) (a : Answer) (after : List ℕ) → FirstAnswers job (byTable (take (square job) (figures ++ rest))) before a after
-      → FirstAnswers job (byWeights lw bw) before a after
-  first-back before a after f = first-on job (byTable figures) (byWeights lw bw) (T .long) fair (T .at) before a after (rw front at f)
+  pub first-back : (before : List ℕ) (a : Answer) (after : List ℕ) → FirstAnswers (records job) (byTable (take (square job) (figures ++ rest))) Unlent before a after
+      → FirstAnswers (records job) (byWeights lw bw) Unlent before a after
+  first-back before a after f = first-on (records job) (byTable figures) (byWeights lw bw) (T .long) fair (T .at) Unlent before a after (rw front at f)
 
-  pub next-back : (before : List ℕ) (a : Answer) (after : List ℕ) → NextAnswers job (byTable (take (square job) (figures ++ rest))) before a after
-      → NextAnswers job (byWeights lw bw) before a after
-  next-back before a after f = next-on job (byTable figures) (byWeights lw bw) (T .long) fair (T .at) before a after (rw front at f)
+  pub next-back : (before : List ℕ) (a : Answer) (after : List ℕ) → NextAnswers (records job) (byTable (take (square job) (figures ++ rest))) Unlent before a after
+      → NextAnswers (records job) (byWeights lw bw) Unlent before a after
+  next-back before a after f = next-on (records job) (byTable figures) (byWeights lw bw) (T .long) fair (T .at) Unlent before a after (rw front at f)
 
-  pub page-back : (list before : List ℕ) (a : Paged) (after : List ℕ) → PageAnswers job (byTable (take (square job) (figures ++ rest))) list before a after
-      → PageAnswers job (byWeights lw bw) list before a after
-  page-back list before a after f = page-on job (byTable figures) (byWeights lw bw) (T .long) fair (T .at) list before a after (rw front at f)
+  pub page-back : (list before : List ℕ) (a : Paged) (after : List ℕ) → PageAnswers (records job) (byTable (take (square job) (figures ++ rest))) Unlent list before a after
+      → PageAnswers (records job) (byWeights lw bw) Unlent list before a after
+  page-back list before a after f = page-on (records job) (byTable figures) (byWeights lw bw) (T .long) fair (T .at) Unlent list before a after (rw front at f)

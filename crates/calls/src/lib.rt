@@ -1,6 +1,7 @@
-// The calls as Rattle functions that answer an enum: here by weights, in `table` by a table. Each keeps the promise of its name in paper's
-// Promises.antt, for every input.
+// The calls as Rattle functions that answer an enum: here by weights, in `table` by a table, in `slots` where ports may stay free. Each keeps the
+// promise of its name in paper's Promises.antt, for every input.
 mod search;
+pub mod slots;
 pub mod table;
 mod weighted;
 
@@ -9,9 +10,12 @@ use checks::verdicts;
 use measure::Badness;
 use paper::Answer;
 use paper::Drawn;
+use paper::Form;
 use paper::Paged;
+use paper::Work;
 ghost use mathlib.Core.Path.{_≡_};
 ghost use lib.ListN.{length};
+ghost use Rattle.paper.specs.Job.{records};
 ghost use Rattle.paper.specs.Layouts.{boardOf, leader, byWeights};
 ghost use Rattle.paper.specs.Refusals.{Passed, drawTrials};
 ghost use Rattle.paper.specs.Promises.{FirstAnswers, NextAnswers, PageAnswers, MeasureAnswers, DrawAnswers};
@@ -19,9 +23,16 @@ ghost use Rattle.paper.specs.laws.Drawn.{leaderDrawn};
 
 // First: the earliest best layout, in the first n entries of `list`.
 pub fn first(job: &[u8], lw: u32, bw: u32, list: &mut [u16]) -> Answer
-    ensures { λ r. ⌜ FirstAnswers (now (job .entry)) (byWeights lw bw) (now (list .entry)) r (now (list .exit)) ⌝ }
+    ensures { λ r. ⌜ FirstAnswers (records (now (job .entry))) (byWeights lw bw) Work.Unlent (now (list .entry)) r (now (list .exit)) ⌝ }
 {
-    let v = verdicts::of_first(job, verdicts::of_weights(lw, bw), list.len());
+    let v = verdicts::of_first(
+        Form::Records,
+        job,
+        job,
+        verdicts::of_weights(lw, bw),
+        Work::Unlent,
+        list.len(),
+    );
     match v {
         Verdict::Sound => weighted::first(job, lw, bw, list),
         Verdict::Refused(r) => Answer::Refused(r),
@@ -30,9 +41,16 @@ pub fn first(job: &[u8], lw: u32, bw: u32, list: &mut [u16]) -> Answer
 
 // Next: the earliest best layout after the one in `list`.
 pub fn next(job: &[u8], lw: u32, bw: u32, list: &mut [u16]) -> Answer
-    ensures { λ r. ⌜ NextAnswers (now (job .entry)) (byWeights lw bw) (now (list .entry)) r (now (list .exit)) ⌝ }
+    ensures { λ r. ⌜ NextAnswers (records (now (job .entry))) (byWeights lw bw) Work.Unlent (now (list .entry)) r (now (list .exit)) ⌝ }
 {
-    let v = verdicts::of_measure(job, verdicts::of_weights(lw, bw), list);
+    let v = verdicts::of_measure(
+        Form::Records,
+        job,
+        job,
+        verdicts::of_weights(lw, bw),
+        Work::Unlent,
+        list,
+    );
     match v {
         Verdict::Sound => weighted::next(job, lw, bw, list),
         Verdict::Refused(r) => Answer::Refused(r),
@@ -41,9 +59,16 @@ pub fn next(job: &[u8], lw: u32, bw: u32, list: &mut [u16]) -> Answer
 
 // Page: the best layouts after the one in `list`, one after the other in `page`.
 pub fn page(job: &[u8], lw: u32, bw: u32, list: &[u16], page: &mut [u16]) -> Paged
-    ensures { λ r. ⌜ PageAnswers (now (job .entry)) (byWeights lw bw) (now (list .entry)) (now (page .entry)) r (now (page .exit)) ⌝ }
+    ensures { λ r. ⌜ PageAnswers (records (now (job .entry))) (byWeights lw bw) Work.Unlent (now (list .entry)) (now (page .entry)) r (now (page .exit)) ⌝ }
 {
-    let v = verdicts::of_measure(job, verdicts::of_weights(lw, bw), list);
+    let v = verdicts::of_measure(
+        Form::Records,
+        job,
+        job,
+        verdicts::of_weights(lw, bw),
+        Work::Unlent,
+        list,
+    );
     match v {
         Verdict::Sound => weighted::page(job, lw, bw, list, page),
         Verdict::Refused(r) => Paged::Refused(r),
@@ -52,13 +77,22 @@ pub fn page(job: &[u8], lw: u32, bw: u32, list: &[u16], page: &mut [u16]) -> Pag
 
 // Measure: the total of an untouching layout, best or not.
 pub fn measure(job: &[u8], lw: u32, bw: u32, list: &[u16]) -> Answer
-    ensures { λ r. ⌜ MeasureAnswers (now (job .entry)) (byWeights lw bw) (now (list .entry)) r ⌝ }
+    ensures { λ r. ⌜ MeasureAnswers (records (now (job .entry))) (byWeights lw bw) (now (list .entry)) r ⌝ }
 {
-    let v = verdicts::of_measure(job, verdicts::of_weights(lw, bw), list);
+    let v = verdicts::of_measure(
+        Form::Records,
+        job,
+        job,
+        verdicts::of_weights(lw, bw),
+        Work::Unlent,
+        list,
+    );
     let none = [0u32; 1];
     match v {
         Verdict::Sound => Answer::Total(measure::total(
             Badness::Weights(lw, bw),
+            Form::Records,
+            job,
             job,
             &none[..0],
             list,
@@ -70,11 +104,15 @@ pub fn measure(job: &[u8], lw: u32, bw: u32, list: &[u16]) -> Answer
 // The leader of the pad of record i to port q, read from the job's bytes.
 fn lead(job: &[u8], i: u32, q: u32, room: usize) -> Drawn
     requires { ⌜ Passed (drawTrials (now job) i q room) ⌝ }
-    ensures { λ r. ⌜ r ≡ leaderDrawn (leader (boardOf (now (job .entry))) i q) ⌝ }
+    ensures { λ r. ⌜ r ≡ leaderDrawn (leader (boardOf (records (now (job .entry)))) i q) ⌝ }
 {
     let pad = i as u16;
     let port = q as u16;
-    draw::lead(job::x(job, pad), job::y(job, pad), job::port(job, port))
+    draw::lead(
+        job::x(job, pad),
+        job::y(job, pad),
+        job::port(Form::Records, job, port),
+    )
 }
 
 // Draw: the leader of the pad of record i to port q, in the first places of `points`.

@@ -3,15 +3,18 @@ use layouts::Step;
 use paper::Answer;
 use paper::Paged;
 use paper::Refusal;
+use paper::Work;
 ghost use mathlib.Core.Path.{_≡_};
 ghost use lib.ListN.{length};
+ghost use Rattle.paper.specs.Job.{records};
 ghost use Rattle.paper.specs.Layouts.{byTable};
 ghost use Rattle.paper.specs.Refusals.{Passed, refusal, firstTrials, measureTrials};
 ghost use Rattle.paper.specs.Promises.{FirstAnswers, NextAnswers, PageAnswers};
+ghost use Rattle.calls.specs.Stepped.{answerOf};
 
 pub fn first(job: &[u8], figures: &[u32], list: &mut [u16]) -> Answer
-    requires { ⌜ Passed (firstTrials (now job) (byTable (now figures)) (length (now list))) ⌝ }
-    ensures { λ r. ⌜ FirstAnswers (now (job .entry)) (byTable (now (figures .entry))) (now (list .entry)) r (now (list .exit)) ⌝ }
+    requires { ⌜ Passed (firstTrials (records (now job)) (byTable (now figures)) Work.Unlent (length (now list))) ⌝ }
+    ensures { λ r. ⌜ FirstAnswers (records (now (job .entry))) (byTable (now (figures .entry))) Work.Unlent (now (list .entry)) r (now (list .exit)) ⌝ }
 {
     Answer::Total(layouts::first_on(job, figures, list))
 }
@@ -27,11 +30,10 @@ fn not_best() -> Refusal
     }
 }
 
-pub fn next(job: &[u8], figures: &[u32], list: &mut [u16]) -> Answer
-    requires { ⌜ Passed (measureTrials (now job) (byTable (now figures)) (now list)) ⌝ }
-    ensures { λ r. ⌜ NextAnswers (now (job .entry)) (byTable (now (figures .entry))) (now (list .entry)) r (now (list .exit)) ⌝ }
+// What Next answers of a layout that passed the checks.
+pub fn answer_of(s: Step) -> Answer
+    ensures { λ r. ⌜ r ≡ answerOf s ⌝ }
 {
-    let s = layouts::next_on(job, figures, list);
     match s {
         Step::Total(t) => Answer::Total(t),
         Step::End => Answer::End,
@@ -39,9 +41,16 @@ pub fn next(job: &[u8], figures: &[u32], list: &mut [u16]) -> Answer
     }
 }
 
+pub fn next(job: &[u8], figures: &[u32], list: &mut [u16]) -> Answer
+    requires { ⌜ Passed (measureTrials (records (now job)) (byTable (now figures)) Work.Unlent (now list)) ⌝ }
+    ensures { λ r. ⌜ NextAnswers (records (now (job .entry))) (byTable (now (figures .entry))) Work.Unlent (now (list .entry)) r (now (list .exit)) ⌝ }
+{
+    answer_of(layouts::next_on(job, figures, list))
+}
+
 pub fn page(job: &[u8], figures: &[u32], list: &[u16], page: &mut [u16]) -> Paged
-    requires { ⌜ Passed (measureTrials (now job) (byTable (now figures)) (now list)) ⌝ }
-    ensures { λ r. ⌜ PageAnswers (now (job .entry)) (byTable (now (figures .entry))) (now (list .entry)) (now (page .entry)) r (now (page .exit)) ⌝ }
+    requires { ⌜ Passed (measureTrials (records (now job)) (byTable (now figures)) Work.Unlent (now list)) ⌝ }
+    ensures { λ r. ⌜ PageAnswers (records (now (job .entry))) (byTable (now (figures .entry))) Work.Unlent (now (list .entry)) (now (page .entry)) r (now (page .exit)) ⌝ }
 {
     let s = layouts::page_on(job, figures, list, page);
     if s.best {

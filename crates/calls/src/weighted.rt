@@ -1,41 +1,44 @@
 // The search by weights, once the checks are passed: by the table of weighted lengths and bends.
 use crate::search;
 use paper::Answer;
+use paper::Form;
 use paper::Paged;
+use paper::Work;
 ghost use lib.ListN.{length};
+ghost use Rattle.paper.specs.Job.{records};
 ghost use Rattle.paper.specs.Layouts.{byWeights};
 ghost use Rattle.paper.specs.Refusals.{Passed, firstTrials, measureTrials};
 ghost use Rattle.paper.specs.Promises.{FirstAnswers, NextAnswers, PageAnswers};
 
 pub fn first(job: &[u8], lw: u32, bw: u32, list: &mut [u16]) -> Answer
-    requires { ⌜ Passed (firstTrials (now job) (byWeights lw bw) (length (now list))) ⌝ }
-    ensures { λ r. ⌜ FirstAnswers (now (job .entry)) (byWeights lw bw) (now (list .entry)) r (now (list .exit)) ⌝ }
+    requires { ⌜ Passed (firstTrials (records (now job)) (byWeights lw bw) Work.Unlent (length (now list))) ⌝ }
+    ensures { λ r. ⌜ FirstAnswers (records (now (job .entry))) (byWeights lw bw) Work.Unlent (now (list .entry)) r (now (list .exit)) ⌝ }
 {
     let n = job.len() / 16;
     let square = n * n;
     let mut figures = [0u32; 4096];
-    weights::fill(job, lw, bw, &mut figures[..square]);
+    weights::fill(Form::Records, job, job, lw, bw, &mut figures[..square]);
     search::first(job, &figures[..square], list)
 }
 
 pub fn next(job: &[u8], lw: u32, bw: u32, list: &mut [u16]) -> Answer
-    requires { ⌜ Passed (measureTrials (now job) (byWeights lw bw) (now list)) ⌝ }
-    ensures { λ r. ⌜ NextAnswers (now (job .entry)) (byWeights lw bw) (now (list .entry)) r (now (list .exit)) ⌝ }
+    requires { ⌜ Passed (measureTrials (records (now job)) (byWeights lw bw) Work.Unlent (now list)) ⌝ }
+    ensures { λ r. ⌜ NextAnswers (records (now (job .entry))) (byWeights lw bw) Work.Unlent (now (list .entry)) r (now (list .exit)) ⌝ }
 {
     let n = job.len() / 16;
     let square = n * n;
     let mut figures = [0u32; 4096];
-    weights::fill(job, lw, bw, &mut figures[..square]);
+    weights::fill(Form::Records, job, job, lw, bw, &mut figures[..square]);
     search::next(job, &figures[..square], list)
 }
 
 pub fn page(job: &[u8], lw: u32, bw: u32, list: &[u16], page: &mut [u16]) -> Paged
-    requires { ⌜ Passed (measureTrials (now job) (byWeights lw bw) (now list)) ⌝ }
-    ensures { λ r. ⌜ PageAnswers (now (job .entry)) (byWeights lw bw) (now (list .entry)) (now (page .entry)) r (now (page .exit)) ⌝ }
+    requires { ⌜ Passed (measureTrials (records (now job)) (byWeights lw bw) Work.Unlent (now list)) ⌝ }
+    ensures { λ r. ⌜ PageAnswers (records (now (job .entry))) (byWeights lw bw) Work.Unlent (now (list .entry)) (now (page .entry)) r (now (page .exit)) ⌝ }
 {
     let n = job.len() / 16;
     let square = n * n;
     let mut figures = [0u32; 4096];
-    weights::fill(job, lw, bw, &mut figures[..square]);
+    weights::fill(Form::Records, job, job, lw, bw, &mut figures[..square]);
     search::page(job, &figures[..square], list, page)
 }

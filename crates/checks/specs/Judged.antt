@@ -8,11 +8,13 @@ use native.Mathlib.Omega.{arith}
 use lib.Dec.{T, ltb, ltb→lt, lt→ltb}
 use Rattle.numbers.specs.Tests.{both, true-iff}
 use Rattle.paper.specs.declared.Refusal.{Refusal}
+use Rattle.paper.specs.declared.Work.{Work}
+use Rattle.paper.specs.Job.{Job}
 use Rattle.paper.specs.Layouts.{Badness}
 use Rattle.paper.specs.Refusals.{Trial, Smallest, Passed, RefusedBy, firstTrials, measureTrials, drawTrials}
-use Rattle.paper.specs.laws.Tests.{Test, atEach, atPairs, withEarlier, badnessTest, firstTests, measureTests, drawTests}
+use Rattle.paper.specs.laws.Tests.{Test, atEach, atPairs, withEarlier, drawTests}
 use Rattle.paper.specs.laws.Trials.{passed-append, refused-left, refused-right}
-use Rattle.paper.specs.laws.Decided.{reasonOf, TestOf, TestsOf, first-tests, measure-tests, draw-tests}
+use Rattle.paper.specs.laws.Decided.{reasonOf, TestOf, TestsOf, firstTestsOf, measureTestsOf, first-tests, measure-tests, draw-tests}
 use Rattle.find.specs.declared.Found.{Found}
 use Rattle.find.specs.declared.Found.the-variants.{At, Nowhere}
 use Rattle.find.specs.Search.{firstWhere, firstPairWhere, andAt, pairAt, at-is, none-at}
@@ -108,11 +110,12 @@ tests-judge (s ∷ ss) [] a = absurd a
 tests-judge (s ∷ ss) (t ∷ ts) (a, k) = judged-on (outcome (reasonOf s) (foundBy s)) ss (t ∷ []) ts (test-judged s t a) (λ p. tests-judge ss ts (k (p .0)))
 
 -- THEOREM, for every input of First, of Measure and of Draw.
-pub first-judged : (job : List ℕ) (bad : Badness) (room : ℕ) → Judged (verdictAfter Sound (firstTests job (badnessTest job bad) room)) (firstTrials job bad room)
-first-judged job bad room = tests-judge (firstTests job (badnessTest job bad) room) (firstTrials job bad room) (first-tests job bad room)
+pub first-judged : (job : Job) (bad : Badness) (work : Work) (room : ℕ) → Judged (verdictAfter Sound (firstTestsOf job bad work room)) (firstTrials job bad work room)
+first-judged job bad work room = tests-judge (firstTestsOf job bad work room) (firstTrials job bad work room) (first-tests job bad work room)
 
-pub measure-judged : (job : List ℕ) (bad : Badness) (list : List ℕ) → Judged (verdictAfter Sound (measureTests job (badnessTest job bad) list)) (measureTrials job bad list)
-measure-judged job bad list = tests-judge (measureTests job (badnessTest job bad) list) (measureTrials job bad list) (measure-tests job bad list)
+pub measure-judged : (job : Job) (bad : Badness) (work : Work) (list : List ℕ)
+    → Judged (verdictAfter Sound (measureTestsOf job bad work list)) (measureTrials job bad work list)
+measure-judged job bad work list = tests-judge (measureTestsOf job bad work list) (measureTrials job bad work list) (measure-tests job bad work list)
 
-pub draw-judged : (job : List ℕ) (i q room : ℕ) → Judged (verdictAfter Sound (drawTests job i q room)) (drawTrials job i q room)
-draw-judged job i q room = tests-judge (drawTests job i q room) (drawTrials job i q room) (draw-tests job i q room)
+pub draw-judged : (bytes : List ℕ) (i q room : ℕ) → Judged (verdictAfter Sound (drawTests bytes i q room)) (drawTrials bytes i q room)
+draw-judged bytes i q room = tests-judge (drawTests bytes i q room) (drawTrials bytes i q room) (draw-tests bytes i q room)

@@ -1,21 +1,25 @@
 -- What a sound verdict tells of the checks so far.
 use Prim.Native.Nat.{ℕ, _<_, _≤_, _%_}
-use mathlib.Core.List.{List, [], _∷_}
+use mathlib.Core.List.{List, [], _∷_, _++_}
 use mathlib.Core.Bool.{Bool, false, not, _||_}
 use mathlib.Core.Path.{_≡_, refl, sym, _∙_}
 use native.Mathlib.Omega.{arith}
 use borrow.Author.Tests.{ltb-false, leb-false}
 use lib.Dec.{ltb, eqb}
 use lib.ListN.{length}
-use Rattle.paper.specs.Job.{count}
+use Rattle.paper.specs.declared.Form.{Form}
+use Rattle.paper.specs.declared.Form.the-variants.{Records, Slots}
+use Rattle.paper.specs.declared.Work.{Work}
+use Rattle.paper.specs.Job.{count, portCount}
 use Rattle.paper.specs.Layouts.{held}
-use Rattle.paper.specs.laws.Tests.{badSize, badEntry, Test, atEach, atPairs, atWhole, jobTests, firstTests}
+use Rattle.paper.specs.laws.Tests.{badSize, badPortSize, badEntry, Test, atEach, atPairs, atWhole}
+use Rattle.paper.specs.laws.Tests.{sizeTests, enoughTests, workTests, roomTests, jobTests, firstTests}
 use Rattle.find.specs.declared.Found.{Found}
 use Rattle.find.specs.declared.Found.the-variants.{At, Nowhere}
 use Rattle.find.specs.Search.{firstWhere, none-at, or-false-left, or-false-right}
 use Rattle.checks.specs.declared.Verdict.{Verdict}
 use Rattle.checks.specs.declared.Verdict.the-variants.{Sound, Refused}
-use Rattle.checks.specs.Verdicts.{foundBy, outcome, andThen, verdictAfter}
+use Rattle.checks.specs.Verdicts.{foundBy, outcome, andThen, verdictAfter, after-append, Formed, Short}
 
 outcome-sound : (r : ℕ) (f : Found) → outcome r f ≡ Sound → f ≡ Nowhere
 outcome-sound r (At i j) e = absurd (let z : _≡_ {A = ℕ} 0 1 = cc in omega arith)
@@ -36,22 +40,48 @@ pub whole-false : (r : ℕ) (t : Bool) → foundBy (atWhole r t) ≡ Nowhere →
 whole-false r t e = none-at (λ i. t) 1 e 0 (omega arith)
 
 -- The verdict after tests is sound: it was before.
-after-sound : (v : Verdict) (ts : List Test) → verdictAfter v ts ≡ Sound → v ≡ Sound
+pub after-sound : (v : Verdict) (ts : List Test) → verdictAfter v ts ≡ Sound → v ≡ Sound
 after-sound v [] e = e
 after-sound v (t ∷ ts) e = then-sound v t (after-sound (andThen v t) ts e) .0
 
--- 1 not given: at most 1,024 bytes.
-pub size-le : (job : List ℕ) → badSize job ≡ false → length job ≤ 1024
-size-le job e = ltb-false 1024 (length job) (or-false-right (eqb (length job) 0 || not (eqb (length job % 16) 0)) (ltb 1024 (length job)) e)
+-- Tests one after another: the verdict after the first was sound.
+pub append-sound : (v : Verdict) (ts us : List Test) → verdictAfter v (ts ++ us) ≡ Sound → verdictAfter v ts ≡ Sound
+append-sound v ts us e = after-sound (verdictAfter v ts) us (sym (after-append v ts us) ∙ e)
+
+-- 1 not given: a size of at most m bytes.
+size-le : (n d m : ℕ) → (eqb n 0 || not (eqb (n % d) 0) || ltb m n) ≡ false → n ≤ m
+size-le n d m e = ltb-false m n (or-false-right (eqb n 0 || not (eqb (n % d) 0)) (ltb m n) e)
+
+-- At most 1,024 bytes, so at most 64 pads, and 128 ports.
+pub record Sizes (form : Form) (pads ports : List ℕ) : Type 0 where
+  pub short : Short pads ports
+  pub few : count pads ≤ 64
+  pub slots-few : portCount form ports ≤ 128
+
+pub sizes-sound : (form : Form) (pads ports : List ℕ) → Formed form pads ports → verdictAfter Sound (sizeTests form pads ports) ≡ Sound → Sizes form pads ports
+sizes-sound Records pads ports same e =
+    let l = size-le (length pads) 16 1024 (whole-false 1 (badSize pads) (then-sound Sound (atWhole 1 (badSize pads)) e .1)) in
+    rw same (record { short = (l, l); few = omega arith; slots-few = omega arith })
+sizes-sound Slots pads ports same e =
+    let two = then-sound _ (atWhole 1 (badPortSize ports)) e in
+    let k = size-le (length ports) 4 512 (whole-false 1 (badPortSize ports) (two .1)) in
+    let l = size-le (length pads) 16 1024 (whole-false 1 (badSize pads) (then-sound Sound (atWhole 1 (badSize pads)) (two .0) .1)) in
+    record { short = (l, omega arith); few = omega arith; slots-few = omega arith }
 
 -- 8 not given: every entry is a port number.
-pub entries-below : (n : ℕ) (list : List ℕ) → firstWhere (badEntry n list) n ≡ Nowhere → (k : ℕ) → k < n → held list k < n
-entries-below n list e k h = leb-false n (held list k) (or-false-left _ _ (none-at (badEntry n list) n e k h))
+pub entries-below : (n p : ℕ) (list : List ℕ) → firstWhere (badEntry p list) n ≡ Nowhere → (k : ℕ) → k < n → held list k < p
+entries-below n p list e k h = leb-false p (held list k) (or-false-left _ _ (none-at (badEntry p list) n e k h))
 
--- None of First's given: at most 1,024 bytes, and room for the layout.
-pub first-sized : (job : List ℕ) (given : Test) (room : ℕ) → verdictAfter Sound (firstTests job given room) ≡ Sound → (length job ≤ 1024) × (count job ≤ room)
+-- None of First's given: so few bytes, and room for the layout.
+pub first-sized : (form : Form) (pads ports : List ℕ) (given : Test) (work : Work) (room : ℕ) → Formed form pads ports
+    → verdictAfter Sound (firstTests form pads ports given work room) ≡ Sound → Sizes form pads ports × (count pads ≤ room)
 unfolding firstTests
-first-sized job given room e =
-    let three = then-sound _ (atWhole 3 (ltb room (count job))) (after-sound _ (jobTests job) e) in
-    let one = then-sound Sound (atWhole 1 (badSize job)) (then-sound _ given (three .0) .0) in
-    (size-le job (whole-false 1 (badSize job) (one .1)), ltb-false room (count job) (whole-false 3 (ltb room (count job)) (three .1)))
+first-sized form pads ports given work room formed e =
+    let sized = verdictAfter Sound (sizeTests form pads ports) in
+    let rest = roomTests form pads ports work room ++ jobTests form pads ports in
+    let after = sym (after-append Sound (sizeTests form pads ports) (given ∷ rest)) ∙ e in
+    let roomy = append-sound (andThen sized given) (roomTests form pads ports work room) (jobTests form pads ports) after in
+    let three = atWhole 3 (ltb room (count pads)) in
+    let enough = enoughTests form pads ports ++ workTests (count pads) (portCount form ports) work in
+    let room-is = then-sound (andThen sized given) three (after-sound (andThen (andThen sized given) three) enough roomy) in
+    (sizes-sound form pads ports formed (then-sound sized given (room-is .0) .0), ltb-false room (count pads) (whole-false 3 (ltb room (count pads)) (room-is .1)))

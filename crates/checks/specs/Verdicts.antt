@@ -1,7 +1,10 @@
 -- The verdict that the code works out: what each test finds, one test after the other.
 use mathlib.Core.List.{List, [], _∷_, _++_}
 use mathlib.Core.Path.{_≡_, refl}
-use Prim.Native.Nat.{ℕ}
+use Prim.Native.Nat.{ℕ, _≤_}
+use lib.ListN.{length}
+use Rattle.paper.specs.declared.Form.{Form}
+use Rattle.paper.specs.declared.Form.the-variants.{Records, Slots}
 use Rattle.paper.specs.declared.Refusal.{Refusal}
 use Rattle.paper.specs.Refusals.{refusal}
 use Rattle.paper.specs.laws.Tests.{Test, atEach, atPairs, atWhole}
@@ -44,3 +47,12 @@ after-append v (t ∷ ts) us = after-append (andThen v t) ts us
 pub after-refused : (r : Refusal) (ts : List Test) → verdictAfter (Refused r) ts ≡ Refused r
 after-refused r [] = refl
 after-refused r (t ∷ ts) = after-refused r ts
+
+-- Records are their own port list.
+abbrev pub Formed : Form → List ℕ → List ℕ → Type 0
+Formed Records pads ports = ports ≡ pads
+Formed Slots pads ports = Unit {0}
+
+-- So few bytes that 16 bits number their records and ports.
+abbrev pub Short : List ℕ → List ℕ → Type 0
+Short pads ports = (length pads ≤ 1024) × (length ports ≤ 1024)

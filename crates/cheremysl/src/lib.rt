@@ -4,10 +4,13 @@ use paper::Answer;
 use paper::Drawn;
 use paper::Paged;
 use paper::Refusal;
+use paper::Work;
 ghost use mathlib.Core.Path.{_≡_};
+ghost use lib.ListN.{length};
+ghost use Rattle.paper.specs.Job.{records, slots};
 ghost use Rattle.paper.specs.Layouts.{byWeights, byTable};
 ghost use Rattle.paper.specs.Promises.{refusalNumber, number, pagedNumber, drawnNumber};
-ghost use Rattle.paper.specs.Promises.{FirstPromise, NextPromise, PagePromise, MeasurePromise, DrawPromise};
+ghost use Rattle.paper.specs.Promises.{FirstPromise, NextPromise, PagePromise, MeasurePromise, DrawPromise, WorkPromise};
 ghost use Rattle.paper.specs.laws.Bounds.{Bounded, Counted};
 
 // C's number of a refusal, of an answer, of a page and of a drawn leader.
@@ -56,7 +59,7 @@ pub extern "C" fn cheremysl_first(
     bend_weight: u32,
     layout: &mut [u16],
 ) -> i64
-    ensures { λ r. ⌜ FirstPromise (now (job .entry)) (byWeights «length_weight» «bend_weight») (now (layout .entry)) r (now (layout .exit)) ⌝ }
+    ensures { λ r. ⌜ FirstPromise (records (now (job .entry))) (byWeights «length_weight» «bend_weight») Work.Unlent (now (layout .entry)) r (now (layout .exit)) ⌝ }
 {
     of_answer(calls::first(job, length_weight, bend_weight, layout))
 }
@@ -68,7 +71,7 @@ pub extern "C" fn cheremysl_next(
     bend_weight: u32,
     layout: &mut [u16],
 ) -> i64
-    ensures { λ r. ⌜ NextPromise (now (job .entry)) (byWeights «length_weight» «bend_weight») (now (layout .entry)) r (now (layout .exit)) ⌝ }
+    ensures { λ r. ⌜ NextPromise (records (now (job .entry))) (byWeights «length_weight» «bend_weight») Work.Unlent (now (layout .entry)) r (now (layout .exit)) ⌝ }
 {
     of_answer(calls::next(job, length_weight, bend_weight, layout))
 }
@@ -81,7 +84,7 @@ pub extern "C" fn cheremysl_page(
     layout: &[u16],
     page: &mut [u16],
 ) -> i64
-    ensures { λ r. ⌜ PagePromise (now (job .entry)) (byWeights «length_weight» «bend_weight») (now (layout .entry)) (now (page .entry)) r (now (page .exit)) ⌝ }
+    ensures { λ r. ⌜ PagePromise (records (now (job .entry))) (byWeights «length_weight» «bend_weight») Work.Unlent (now (layout .entry)) (now (page .entry)) r (now (page .exit)) ⌝ }
 {
     of_paged(calls::page(job, length_weight, bend_weight, layout, page))
 }
@@ -93,30 +96,75 @@ pub extern "C" fn cheremysl_measure(
     bend_weight: u32,
     layout: &[u16],
 ) -> i64
-    ensures { λ r. ⌜ MeasurePromise (now (job .entry)) (byWeights «length_weight» «bend_weight») (now (layout .entry)) r ⌝ }
+    ensures { λ r. ⌜ MeasurePromise (records (now (job .entry))) (byWeights «length_weight» «bend_weight») (now (layout .entry)) r ⌝ }
 {
     of_answer(calls::measure(job, length_weight, bend_weight, layout))
 }
 
 #[no_mangle]
 pub extern "C" fn cheremysl_table_first(job: &[u8], table: &[u32], layout: &mut [u16]) -> i64
-    ensures { λ r. ⌜ FirstPromise (now (job .entry)) (byTable (now (table .entry))) (now (layout .entry)) r (now (layout .exit)) ⌝ }
+    ensures { λ r. ⌜ FirstPromise (records (now (job .entry))) (byTable (now (table .entry))) Work.Unlent (now (layout .entry)) r (now (layout .exit)) ⌝ }
 {
     of_answer(calls::table::first(job, table, layout))
 }
 
 #[no_mangle]
 pub extern "C" fn cheremysl_table_next(job: &[u8], table: &[u32], layout: &mut [u16]) -> i64
-    ensures { λ r. ⌜ NextPromise (now (job .entry)) (byTable (now (table .entry))) (now (layout .entry)) r (now (layout .exit)) ⌝ }
+    ensures { λ r. ⌜ NextPromise (records (now (job .entry))) (byTable (now (table .entry))) Work.Unlent (now (layout .entry)) r (now (layout .exit)) ⌝ }
 {
     of_answer(calls::table::next(job, table, layout))
 }
 
 #[no_mangle]
 pub extern "C" fn cheremysl_table_measure(job: &[u8], table: &[u32], layout: &[u16]) -> i64
-    ensures { λ r. ⌜ MeasurePromise (now (job .entry)) (byTable (now (table .entry))) (now (layout .entry)) r ⌝ }
+    ensures { λ r. ⌜ MeasurePromise (records (now (job .entry))) (byTable (now (table .entry))) (now (layout .entry)) r ⌝ }
 {
     of_answer(calls::table::measure(job, table, layout))
+}
+
+#[no_mangle]
+pub extern "C" fn cheremysl_slots_first(
+    pads: &[u8],
+    ports: &[u8],
+    length_weight: u32,
+    bend_weight: u32,
+    layout: &mut [u16],
+    work: &mut [u64],
+) -> i64
+    ensures { λ r. ⌜ FirstPromise (slots (now (pads .entry)) (now (ports .entry))) (byWeights «length_weight» «bend_weight») (Work.Lent (length (now (work .entry))))
+        (now (layout .entry)) r (now (layout .exit)) ⌝ }
+    ensures { λ r. ⌜ WorkPromise r (now (work .entry)) (now (work .exit)) ⌝ }
+{
+    of_answer(calls::slots::first(pads, ports, length_weight, bend_weight, layout, work))
+}
+
+#[no_mangle]
+pub extern "C" fn cheremysl_slots_next(
+    pads: &[u8],
+    ports: &[u8],
+    length_weight: u32,
+    bend_weight: u32,
+    layout: &mut [u16],
+    work: &mut [u64],
+) -> i64
+    ensures { λ r. ⌜ NextPromise (slots (now (pads .entry)) (now (ports .entry))) (byWeights «length_weight» «bend_weight») (Work.Lent (length (now (work .entry))))
+        (now (layout .entry)) r (now (layout .exit)) ⌝ }
+    ensures { λ r. ⌜ WorkPromise r (now (work .entry)) (now (work .exit)) ⌝ }
+{
+    of_answer(calls::slots::next(pads, ports, length_weight, bend_weight, layout, work))
+}
+
+#[no_mangle]
+pub extern "C" fn cheremysl_slots_measure(
+    pads: &[u8],
+    ports: &[u8],
+    length_weight: u32,
+    bend_weight: u32,
+    layout: &[u16],
+) -> i64
+    ensures { λ r. ⌜ MeasurePromise (slots (now (pads .entry)) (now (ports .entry))) (byWeights «length_weight» «bend_weight») (now (layout .entry)) r ⌝ }
+{
+    of_answer(calls::slots::measure(pads, ports, length_weight, bend_weight, layout))
 }
 
 #[no_mangle]

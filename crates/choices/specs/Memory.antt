@@ -6,8 +6,9 @@ use Prim.Native.Nat.{ℕ, _+_, _-_, _≤_, _<_}
 use native.Mathlib.Omega.{arith}
 use lib.ListN.{length, getD, take, replicate, getD-replicate}
 use Rattle.strips.specs.Prefix.{floor, ceil}
-use Rattle.totals.specs.Cell.{gridOf, Leads}
+use Rattle.totals.specs.Cell.{Leads}
 use Rattle.places.specs.Places.{portIn}
+use Rattle.choices.specs.Source.{Source, gridOn}
 use Rattle.choices.specs.Choices.{Chosen}
 
 -- The strip of place k: its first port, and the port after its last.
@@ -25,39 +26,39 @@ abbrev pub mostAt : List ℕ → ℕ → ℕ
 mostAt known k = getD known (192 + k) 0
 
 -- Port q is a locally best one of the strip that is remembered for place k.
-abbrev pub LeadsAt : List ℕ → List ℕ → List ℕ → List ℕ → List ℕ → ℕ → ℕ → Type 0
-LeadsAt order cs lo hi known k = Leads (gridOf order cs lo hi) order k (startAt known k) (stopAt known k)
+abbrev pub LeadsAt : List ℕ → Source → List ℕ → List ℕ → List ℕ → ℕ → ℕ → Type 0
+LeadsAt order T lo hi known k = Leads (gridOn order T lo hi) order k (startAt known k) (stopAt known k)
 
 -- What is remembered is true.
-pub record Known (order cs lo hi known : List ℕ) : Type 0 where
+pub record Known (order : List ℕ) (T : Source) (lo hi known : List ℕ) : Type 0 where
   pub long : length known ≡ 256
-  pub least : (k : ℕ) → k < 64 → 0 < leastAt known k → Chosen (LeadsAt order cs lo hi known k) 0 (leastAt known k - 1)
-  pub most : (k : ℕ) → k < 64 → 0 < mostAt known k → (q : ℕ) → LeadsAt order cs lo hi known k q → q < mostAt known k
+  pub least : (k : ℕ) → k < 64 → 0 < leastAt known k → Chosen (LeadsAt order T lo hi known k) 0 (leastAt known k - 1)
+  pub most : (k : ℕ) → k < 64 → 0 < mostAt known k → (q : ℕ) → LeadsAt order T lo hi known k q → q < mostAt known k
 
--- The strip of the pad at place m, when the pads before it have the ports of w.
+-- The strip of the pad at place m, of p ports, when the pads before it have the ports of w.
 abbrev pub firstPort : List ℕ → List ℕ → List ℕ → ℕ → ℕ
 firstPort order lo w m = floor (portIn w) (getD lo (getD order m 0) 0) (take m order) 0
 
-abbrev pub endPort : List ℕ → List ℕ → List ℕ → ℕ → ℕ
-endPort order hi w m = ceil (portIn w) (getD hi (getD order m 0) 0) (take m order) (length order)
+abbrev pub endPort : ℕ → List ℕ → List ℕ → List ℕ → ℕ → ℕ
+endPort p order hi w m = ceil (portIn w) (getD hi (getD order m 0) 0) (take m order) p
 
 -- It is the one remembered for place k ..
-pub record StripOf (order lo hi w known : List ℕ) (k : ℕ) : Type 0 where
+pub record StripOf (p : ℕ) (order lo hi w known : List ℕ) (k : ℕ) : Type 0 where
   pub start : startAt known k ≡ firstPort order lo w k
-  pub stop : stopAt known k ≡ endPort order hi w k
+  pub stop : stopAt known k ≡ endPort p order hi w k
 
 -- .. at least where a largest port is.
-abbrev pub Current : List ℕ → List ℕ → List ℕ → List ℕ → List ℕ → ℕ → Type 0
-Current order lo hi w known k = 0 < mostAt known k → StripOf order lo hi w known k
+abbrev pub Current : ℕ → List ℕ → List ℕ → List ℕ → List ℕ → List ℕ → ℕ → Type 0
+Current p order lo hi w known k = 0 < mostAt known k → StripOf p order lo hi w known k
 
 -- What is remembered is true, and current in w for the first m places.
-pub record Memory (order cs lo hi w : List ℕ) (m : ℕ) (known : List ℕ) : Type 0 where
-  pub facts : Known order cs lo hi known
-  pub current : (k : ℕ) → k < m → Current order lo hi w known k
+pub record Memory (order : List ℕ) (T : Source) (lo hi w : List ℕ) (m : ℕ) (known : List ℕ) : Type 0 where
+  pub facts : Known order T lo hi known
+  pub current : (k : ℕ) → k < m → Current (T .ports) order lo hi w known k
 
 -- Zeros remember nothing.
-pub memory-none : (order cs lo hi w : List ℕ) (m : ℕ) → m ≤ 64 → Memory order cs lo hi w m (replicate {A = ℕ} 256 0)
-memory-none order cs lo hi w m few =
+pub memory-none : (order : List ℕ) (T : Source) (lo hi w : List ℕ) (m : ℕ) → m ≤ 64 → Memory order T lo hi w m (replicate {A = ℕ} 256 0)
+memory-none order T lo hi w m few =
     record {
       facts = record {
         long = omega arith;
@@ -87,7 +88,7 @@ pub record Noted (m a b : ℕ) (before after : List ℕ) : Type 0 where
   pub others : (k : ℕ) → k < 64 → (k ≡ m → ⊥) → Alike before after k
 
 -- What a search at place m leaves: other places are current if they were.
-pub record Learnt (order cs lo hi w : List ℕ) (m : ℕ) (before after : List ℕ) : Type 0 where
-  pub facts : Known order cs lo hi after
-  pub here : Current order lo hi w after m
-  pub others : (k : ℕ) → k < 64 → Current order lo hi w before k → Current order lo hi w after k
+pub record Learnt (order : List ℕ) (T : Source) (lo hi w : List ℕ) (m : ℕ) (before after : List ℕ) : Type 0 where
+  pub facts : Known order T lo hi after
+  pub here : Current (T .ports) order lo hi w after m
+  pub others : (k : ℕ) → k < 64 → Current (T .ports) order lo hi w before k → Current (T .ports) order lo hi w after k

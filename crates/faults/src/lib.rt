@@ -1,16 +1,35 @@
-// The tests of the refusals at one record, or at two: each computes the test of its name in paper's laws/Tests.antt.
+// The tests of the refusals at one record, or at two: each computes the test of its name in paper's laws/Tests.antt. Pads are read from their
+// records; ports from the bytes in which they stand, by the job's form.
+use paper::Form;
 ghost use mathlib.Core.Path.{_≡_};
-ghost use Prim.Native.Nat.{_<_};
+ghost use Prim.Native.Nat.{_≤_, _<_};
+ghost use lib.Dec.{ltb};
 ghost use lib.ListN.{length};
-ghost use Rattle.paper.specs.Job.{count};
-ghost use Rattle.paper.specs.Layouts.{boardOf, held};
-ghost use Rattle.paper.specs.laws.Tests.{badSize, badWeight, badTable, outside, badField, notAbove, tooClose, sameName, sameX, sameEntry, between, leadersMeet, meetAt, badNumber};
+ghost use Rattle.paper.specs.Job.{count, lastOf, portCount};
+ghost use Rattle.paper.specs.Layouts.{boardFrom, held};
+ghost use Rattle.paper.specs.Refusals.{workNeeded};
+ghost use Rattle.paper.specs.laws.Tests.{badSize, badPortSize, badWeight, badTable, outside, badLast, badField, badHeight, notAbove, tooClose, sameName, sameX, sameEntry, between, leadersMeet, meetAt, badNumber};
 
 // 1: the byte count.
 pub fn bad_size(job: &[u8]) -> bool
     ensures { λ r. ⌜ r ≡ badSize (now (job .entry)) ⌝ }
 {
     (job.len() == 0) | (job.len() % 16 != 0) | (1024 < job.len())
+}
+
+// 1: that of a port list.
+pub fn bad_port_size(ports: &[u8]) -> bool
+    ensures { λ r. ⌜ r ≡ badPortSize (now (ports .entry)) ⌝ }
+{
+    (ports.len() == 0) | (ports.len() % 4 != 0) | (512 < ports.len())
+}
+
+// 24: the work list's length, for so many pads and ports.
+pub fn short_work(n: usize, p: usize, numbers: usize) -> bool
+    requires { ⌜ (n ≤ 64) × (p ≤ 128) ⌝ }
+    ensures { λ r. ⌜ r ≡ ltb numbers (workNeeded n p) ⌝ }
+{
+    numbers < 2 * ((n + 1) * ((p + 2) * (p + 2)))
 }
 
 // 2: the weights.
@@ -22,7 +41,7 @@ pub fn bad_weight(lw: u32, bw: u32) -> bool
 
 // 13: the table's length. The product n * n could wrap before 1 is tried, a quotient and a remainder cannot.
 pub fn bad_table(job: &[u8], figures: usize) -> bool
-    ensures { λ r. ⌜ r ≡ badTable (count (now (job .entry))) figures ⌝ }
+    ensures { λ r. ⌜ r ≡ badTable (count (now (job .entry))) (count (now (job .entry))) figures ⌝ }
 {
     let n = job.len() / 16;
     if n == 0 {
@@ -39,38 +58,57 @@ fn out_of_range(h: i64) -> bool
     (h < -1000000) | (1000000 < h)
 }
 
-pub fn bad_field(job: &[u8], i: u16) -> bool
+// The last field: a port's height, or 0.
+fn bad_last(form: Form, job: &[u8], i: u16) -> bool
     requires { ⌜ i < count (now job) ⌝ }
-    ensures { λ r. ⌜ r ≡ badField (now (job .entry)) i ⌝ }
+    ensures { λ r. ⌜ r ≡ badLast form (lastOf (now (job .entry)) i) ⌝ }
+{
+    match form {
+        Form::Records => out_of_range(job::port(Form::Records, job, i)),
+        Form::Slots => job::last(job, i) != 0,
+    }
+}
+
+pub fn bad_field(form: Form, job: &[u8], i: u16) -> bool
+    requires { ⌜ i < count (now job) ⌝ }
+    ensures { λ r. ⌜ r ≡ badField form (now (job .entry)) i ⌝ }
 {
     let x = job::x(job, i);
     (job::reserved(job, i) != 0)
         | (x < 1)
         | (1000000 < x)
         | out_of_range(job::y(job, i))
-        | out_of_range(job::port(job, i))
+        | bad_last(form, job, i)
 }
 
-// 5 and 12: record i's port height against the one before.
-pub fn not_above(job: &[u8], i: u16) -> bool
-    requires { ⌜ i < count (now job) ⌝ }
-    ensures { λ r. ⌜ r ≡ notAbove (now (job .entry)) i ⌝ }
+// 4: the height of port q.
+pub fn bad_height(form: Form, ports: &[u8], q: u16) -> bool
+    requires { ⌜ q < portCount form (now ports) ⌝ }
+    ensures { λ r. ⌜ r ≡ badHeight form (now (ports .entry)) q ⌝ }
 {
-    if i == 0 {
+    out_of_range(job::port(form, ports, q))
+}
+
+// 5 and 12: port q's height against the one before.
+pub fn not_above(form: Form, ports: &[u8], q: u16) -> bool
+    requires { ⌜ q < portCount form (now ports) ⌝ }
+    ensures { λ r. ⌜ r ≡ notAbove form (now (ports .entry)) q ⌝ }
+{
+    if q == 0 {
         false
     } else {
-        job::port(job, i) <= job::port(job, i - 1)
+        job::port(form, ports, q) <= job::port(form, ports, q - 1)
     }
 }
 
-pub fn too_close(job: &[u8], i: u16) -> bool
-    requires { ⌜ i < count (now job) ⌝ }
-    ensures { λ r. ⌜ r ≡ tooClose (now (job .entry)) i ⌝ }
+pub fn too_close(form: Form, ports: &[u8], q: u16) -> bool
+    requires { ⌜ q < portCount form (now ports) ⌝ }
+    ensures { λ r. ⌜ r ≡ tooClose form (now (ports .entry)) q ⌝ }
 {
-    if i == 0 {
+    if q == 0 {
         false
     } else {
-        job::port(job, i) - job::port(job, i - 1) < 8
+        job::port(form, ports, q) - job::port(form, ports, q - 1) < 8
     }
 }
 
@@ -115,20 +153,20 @@ fn leaders_touch(x: u32, y: i64, port: i64, x2: u32, y2: i64, port2: i64) -> boo
     }
 }
 
-pub fn touches(job: &[u8], list: &[u16], i: u16, j: u16) -> bool
-    requires { ⌜ (i < count (now job)) × (i < length (now list)) × (held (now list) i < count (now job)) ⌝ }
-    requires { ⌜ (j < count (now job)) × (j < length (now list)) × (held (now list) j < count (now job)) ⌝ }
-    ensures { λ r. ⌜ r ≡ meetAt (boardOf (now (job .entry))) (held (now (list .entry))) i j ⌝ }
+pub fn touches(form: Form, job: &[u8], ports: &[u8], list: &[u16], i: u16, j: u16) -> bool
+    requires { ⌜ (i < count (now job)) × (i < length (now list)) × (held (now list) i < portCount form (now ports)) ⌝ }
+    requires { ⌜ (j < count (now job)) × (j < length (now list)) × (held (now list) j < portCount form (now ports)) ⌝ }
+    ensures { λ r. ⌜ r ≡ meetAt (boardFrom form (now (job .entry)) (now (ports .entry))) (held (now (list .entry))) i j ⌝ }
 {
     let q = list[i as usize];
     let q2 = list[j as usize];
     leaders_touch(
         job::x(job, i),
         job::y(job, i),
-        job::port(job, q),
+        job::port(form, ports, q),
         job::x(job, j),
         job::y(job, j),
-        job::port(job, q2),
+        job::port(form, ports, q2),
     )
 }
 

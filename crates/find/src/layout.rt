@@ -1,10 +1,11 @@
 // The first fault of a layout: an entry that is no port number or stood earlier, and the first touching pair.
 use crate::Found;
+use paper::Form;
 ghost use mathlib.Core.Path.{_≡_};
 ghost use Prim.Native.Nat.{_≤_, _<_};
 ghost use lib.ListN.{length};
-ghost use Rattle.paper.specs.Job.{count};
-ghost use Rattle.paper.specs.Layouts.{boardOf, held};
+ghost use Rattle.paper.specs.Job.{count, portCount};
+ghost use Rattle.paper.specs.Layouts.{boardFrom, held};
 ghost use Rattle.paper.specs.laws.Tests.{withEarlier, sameEntry, badEntry, meetAt};
 ghost use Rattle.find.specs.Search.{firstWhere, firstPairWhere};
 ghost use Rattle.find.specs.Dispatch.{Led};
@@ -24,14 +25,14 @@ fn entry_stood(list: &[u16], i: u16) -> bool
     false
 }
 
-// The first of the n entries that is n or more, or stood earlier.
-pub fn first_bad_entry(list: &[u16], n: u16) -> Found
+// The first of the n entries that is the port count p or more, or stood earlier.
+pub fn first_bad_entry(list: &[u16], n: u16, p: u16) -> Found
     requires { ⌜ n ≤ length (now list) ⌝ }
-    ensures { λ r. ⌜ r ≡ firstWhere (badEntry n (now (list .entry))) n ⌝ }
+    ensures { λ r. ⌜ r ≡ firstWhere (badEntry p (now (list .entry))) n ⌝ }
 {
     let mut i = 0;
     while i < n {
-        if (n <= list[i as usize]) | entry_stood(list, i) {
+        if (p <= list[i as usize]) | entry_stood(list, i) {
             return Found::At(i, 0);
         }
         i += 1;
@@ -40,16 +41,16 @@ pub fn first_bad_entry(list: &[u16], n: u16) -> Found
 }
 
 // The smallest record that touches an earlier one, and with it the smallest such earlier record.
-pub fn first_touching(job: &[u8], list: &[u16], n: u16) -> Found
-    requires { ⌜ (n ≡ count (now job)) × Led (now list) n ⌝ }
-    ensures { λ r. ⌜ r ≡ firstPairWhere (meetAt (boardOf (now (job .entry))) (held (now (list .entry)))) n ⌝ }
+pub fn first_touching(form: Form, job: &[u8], ports: &[u8], list: &[u16], n: u16) -> Found
+    requires { ⌜ (n ≡ count (now job)) × Led (now list) n (portCount form (now ports)) ⌝ }
+    ensures { λ r. ⌜ r ≡ firstPairWhere (meetAt (boardFrom form (now (job .entry)) (now (ports .entry))) (held (now (list .entry)))) n ⌝ }
 {
     let mut found = Found::Nowhere;
     let mut i: u16 = 0;
     'records: while i < n {
         let mut j: u16 = 0;
         while j < i {
-            if faults::touches(job, list, i, j) {
+            if faults::touches(form, job, ports, list, i, j) {
                 found = Found::At(i, j);
                 break 'records;
             }

@@ -1,10 +1,11 @@
-// A job's bytes, read as numbers. The fields are those of paper's Job.antt; record numbers are 16 bits wide.
+// A job's bytes, read as numbers. The fields are those of paper's Job.antt; record numbers and port numbers are 16 bits wide.
+use paper::Form;
 ghost use mathlib.Core.Path.{_≡_};
 ghost use Prim.Native.Nat.{_+_, _*_, _<_, _≤_};
 ghost use lib.ListN.{length};
 ghost use lib.IntN.{natAbs};
 ghost use lib.Signed.{mag};
-ghost use Rattle.paper.specs.Job.{u16At, u32At, twos, count, nameOf, reservedOf, xOf, yOf, portOf};
+ghost use Rattle.paper.specs.Job.{u16At, u32At, twos, count, nameOf, reservedOf, xOf, yOf, lastOf, strideOf, offsetOf, portCount, portOf};
 ghost use Rattle.paper.specs.Leaders.{distance};
 
 fn wide(x: u8) -> u16
@@ -89,9 +90,39 @@ pub fn y(job: &[u8], i: u16) -> i64
     signed(word(job, 16 * (i as usize) + 8))
 }
 
-pub fn port(job: &[u8], i: u16) -> i64
+// Its last field, as it stands.
+pub fn last(job: &[u8], i: u16) -> u32
     requires { ⌜ i < count (now job) ⌝ }
-    ensures { λ r. ⌜ (r ≡ portOf (now (job .entry)) i) × (mag r < 2147483648) ⌝ }
+    ensures { λ r. ⌜ r ≡ lastOf (now (job .entry)) i ⌝ }
 {
-    signed(word(job, 16 * (i as usize) + 12))
+    word(job, 16 * (i as usize) + 12)
+}
+
+// How many ports a list of them has.
+pub fn ports(form: Form, list: &[u8]) -> u16
+    requires { ⌜ length (now list) ≤ 65536 ⌝ }
+    ensures { λ r. ⌜ r ≡ portCount form (now (list .entry)) ⌝ }
+{
+    match form {
+        Form::Records => (list.len() / 16) as u16,
+        Form::Slots => (list.len() / 4) as u16,
+    }
+}
+
+// Where port q stands in it.
+fn place_of(form: Form, q: u16) -> usize
+    ensures { λ r. ⌜ r ≡ strideOf form * q + offsetOf form ⌝ }
+{
+    match form {
+        Form::Records => 16 * (q as usize) + 12,
+        Form::Slots => 4 * (q as usize),
+    }
+}
+
+// The height of port q.
+pub fn port(form: Form, list: &[u8], q: u16) -> i64
+    requires { ⌜ q < portCount form (now list) ⌝ }
+    ensures { λ r. ⌜ (r ≡ portOf form (now (list .entry)) q) × (mag r < 2147483648) ⌝ }
+{
+    signed(word(list, place_of(form, q)))
 }

@@ -1,55 +1,122 @@
 -- From the search's words to the paper's: what the rules of the work lists say, the rules of the board say.
-use mathlib.Core.Path.{_≡_, _∙_, subst}
+use mathlib.Core.Path.{_≡_, refl, sym, ap, _∙_, subst}
 use mathlib.Core.List.{List}
-use Prim.Native.Nat.{ℕ, _≤_, _<_}
+use Prim.Native.Nat.{ℕ, _+_, _*_, _^_, _≤_, _<_}
 use native.Mathlib.Omega.{arith}
 use lib.ListN.{length}
-use Rattle.totals.specs.Cell.{Table}
-use Rattle.choices.specs.Choices as choices
-use Rattle.steps.specs.Totals.{best-total}
+use borrow.Author.Tests.{eq-eqb, ne-eqb}
+use Rattle.numbers.specs.Kept.{KeptFrom}
+use Rattle.strips.specs.Least.{some}
+use Rattle.totals.specs.Cell.{leastOf}
+use Rattle.totals.specs.Cell as totals
+use Rattle.slots.specs.Slots.{figureOf, figuresAt, figuresIn, Slots, Room, Table, Answer}
+use Rattle.slots.specs.Lent.{figure-some}
+use Rattle.choices.specs.Source.{Source, source, Right}
+use Rattle.choices.specs.Choices.{Working}
+use Rattle.steps.specs.Steps.{IsLeast}
+use Rattle.steps.specs.Totals.{best-total, slots-least, full-least}
+use Rattle.weights.specs.Rows.{FiguresFrom}
 use Rattle.paper.specs.Layouts.{Board, held, figure}
 use Rattle.paper.specs.Problem.{labeling}
 use Rattle.paper.specs.Promises.{Kept}
 use Rattle.paper.specs.laws.Existence.{untouching-exists}
-use Rattle.board.specs.Lists.{WorkOf}
-use Rattle.board.specs.Bridge.{proper, untouching-sol, sum-total, optimal-is-best, best-is-optimal, first-best, next-best, last-best}
+use Rattle.board.specs.Lists.{WorkOf, CostsOn}
+use Rattle.board.specs.Bridge.{pads, slots as slotted, proper, untouching-sol, sum-total, optimal-is-best, best-is-optimal, first-best, next-best, last-best}
 use Rattle.walks.specs.declared.Start.{Start}
 use Rattle.walks.specs.declared.Start.the-variants.{First, Given}
 use Rattle.walks.specs.declared.Walked.{Walked}
 use Rattle.walks.specs.Walks.{listRules, Startable, Walks}
 use Rattle.walks.specs.Says.{Says, walks-said}
-use Rattle.layouts.specs.Replies.{rulesOf, StartOn}
+use Rattle.layouts.specs.Replies.{rulesOf, StartOn, Tabled}
 
-module _ (b : Board) {order lo hi cs : List ℕ} (W : WorkOf b order lo hi cs) where
+-- ---- any table
+
+module _ (b : Board) {order lo hi : List ℕ} {T : Source} {cost : ℕ → ℕ → ℕ} (W : WorkOf b order lo hi) (C : CostsOn b cost T) where
   same-n : length order ≡ b .pads
   same-n = W .listed .arranged .long
 
-  -- A walk on the board can start over its lists: an untouching layout is one to the search, and there is one.
-  pub working-on : {hs ts : List ℕ} (start : Start) (w : List ℕ) → 0 < b .pads → Table order cs lo hi hs ts → StartOn start b w
-      → (0 < length order) × choices.Working order cs lo hi hs ts w
-  working-on start w some T s = (omega (arith, same-n), record { proper = proper W; table = T; room = room start s })
+  -- A walk on the board can start over its lists if the table is right; ..
+  pub working-on : Right order T lo hi → (start : Start) (w : List ℕ) → 0 < b .pads → StartOn start b w → (0 < length order) × Working order T lo hi w
+  working-on right start w pads s = (omega (arith, same-n), record { proper = proper W C; table = right; room = room start s })
     where
       room : (start : Start) → StartOn start b w → length order ≤ length w
       room First s = omega (arith, same-n)
       room Given s = omega (arith, same-n, s .0)
 
-  pub startable-on : (start : Start) (w : List ℕ) → StartOn start b w → Startable start order cs lo hi w
-  startable-on First w s = let u = untouching-exists b (W .proper) in (u .0, untouching-sol W (u .0) (u .1))
-  startable-on Given w s = untouching-sol W (held w) (s .1)
+  -- .. an untouching layout is one to the search, and there is one.
+  pub startable-on : (start : Start) (w : List ℕ) → StartOn start b w → Startable start order T lo hi w
+  startable-on First w s = let u = untouching-exists b (W .proper) in (u .0, untouching-sol W C (u .0) (u .1))
+  startable-on Given w s = untouching-sol W C (held w) (s .1)
 
-  kept-on : (w v : List ℕ) → choices.KeptFrom (length order) w v → Kept (b .pads) w v
+  kept-on : (w v : List ℕ) → KeptFrom (length order) w v → Kept (b .pads) w v
   kept-on w v K = record { long = K .long; rest = λ k h. K .rest k (omega (arith, same-n)) }
 
-  says : Says (listRules order cs lo hi) (rulesOf (labeling b (figure b cs)))
+  says : Says (listRules order T lo hi) (rulesOf (labeling b cost))
   says = record {
-    earliest = λ w v e. (first-best W (held v) (e .earliest), kept-on w v (e .kept));
-    best = λ w. (optimal-is-best W (held w), best-is-optimal W (held w));
-    next = λ w v e. (next-best W (held w) (held v) (e .earliest), kept-on w v (e .kept));
-    last = λ w e. last-best W (held w) (e .none);
-    least = λ t e w s. best-total (proper W) t e w (best-is-optimal W (held w) s) ∙ sum-total W (held w) (s .counts);
+    earliest = λ w v e. (first-best W C (held v) (e .earliest), kept-on w v (e .kept));
+    best = λ w. (optimal-is-best W C (held w), best-is-optimal W C (held w));
+    next = λ w v e. (next-best W C (held w) (held v) (e .earliest), kept-on w v (e .kept));
+    last = λ w e. last-best W C (held w) (e .none);
+    least = λ t e w s. best-total (proper W C) t e w (best-is-optimal W C (held w) s) ∙ sum-total W C (held w) (s .counts);
   }
 
-  pub walks-on : (start : Start) (w page v after : List ℕ) (r : Walked)
-      → Walks (listRules order cs lo hi) (length order) start w page v after r → Walks (rulesOf (labeling b (figure b cs))) (b .pads) start w page v after r
-  walks-on start w page v after r P = subst (λ (n : ℕ). Walks (rulesOf (labeling b (figure b cs))) n start w page v after r) same-n
+  pub walks-on : (start : Start) (w page v after : List ℕ) (r : Walked) → Walks (listRules order T lo hi) (length order) start w page v after r
+      → Walks (rulesOf (labeling b cost)) (b .pads) start w page v after r
+  walks-on start w page v after r P = subst (λ (n : ℕ). Walks (rulesOf (labeling b cost)) n start w page v after r) same-n
       (walks-said says (length order) start w page v after r P)
+
+-- ---- the table on the stack: as many ports as pads
+
+module _ (b : Board) {order lo hi cs hs ts : List ℕ} (W : WorkOf b order lo hi) (even : b .ports ≡ b .pads) (made : totals.Table order cs lo hi hs ts) where
+  some-heads : length hs ≡ 0 → ⊥
+  some-heads e = omega (arith, made .sizes .heads)
+
+  abbrev stacked : Source
+  stacked = source hs ts cs (length order)
+
+  pub stacked-costs : CostsOn b (figure b cs) stacked
+  stacked-costs = record { ports = W .listed .arranged .long ∙ sym even; at = λ j q h k. rw (ne-eqb (length hs) 0 some-heads, even) refl }
+
+  pub stacked-right : Right order stacked lo hi
+  stacked-right = record { full = λ h. record { ports = refl; pads = pads W even; table = made }; slotted = λ e. absurd (some-heads e) }
+
+  pub stacked-least : (t : ℕ) → t ≡ leastOf order cs lo hi → IsLeast order stacked lo hi t
+  stacked-least t e = full-least order stacked lo hi t some-heads refl e
+
+-- ---- the table in the work list: ports may stay free
+
+-- Figures that are written as numbers of 32 bits are the costs, as long as they are kept.
+pub figures-lent : (b : Board) (cost : ℕ → ℕ → ℕ) {w v : List ℕ} → FiguresFrom b cost (figuresAt (b .pads) (b .ports)) w → KeptFrom (figuresAt (b .pads) (b .ports)) w v
+    → ((i q : ℕ) → i < b .pads → q < b .ports → cost i q < 2 ^ 32) → (i q : ℕ) → i < b .pads → q < b .ports → figuresIn v (b .pads) (b .ports) i q ≡ some (cost i q)
+figures-lent b cost F K narrow i q h k =
+    ap figureOf (K .rest (figuresAt (b .pads) (b .ports) + (i * b .ports + q)) (omega arith) ∙ F .at i q h k) ∙ figure-some (cost i q) (narrow i q h k)
+
+-- What the table asks for, of p ports and a list of so many numbers as the code has them; ..
+pub fillable : (b : Board) {order lo hi : List ℕ} (p size long : ℕ) → p ≡ b .ports → long ≡ size → WorkOf b order lo hi → Room (b .pads) (b .ports) size
+    → Slots order lo hi p × Room (length order) p long
+fillable b p size long same e W R = (rw same (slotted W), rw (same, e, W .listed .arranged .long) R)
+
+-- .. and what it then comes to.
+pub tabled : (b : Board) (cost : ℕ → ℕ → ℕ) {order lo hi w v : List ℕ} (p base t : ℕ) → p ≡ b .ports → base ≡ figuresAt (b .pads) (b .ports) → WorkOf b order lo hi
+    → FiguresFrom b cost base w → ((i q : ℕ) → i < b .pads → q < b .ports → cost i q < 2 ^ 32)
+    → KeptFrom (figuresAt (length order) p) w v → Table order lo hi p v → Answer order lo hi p v t → Tabled b cost order lo hi v t
+tabled b cost p base t same start W F narrow K T A = record {
+  lists = W;
+  figures = figures-lent b cost (rw start at F) (rw (W .listed .arranged .long, same) at K) narrow;
+  table = rw same at T;
+  least = rw same at A;
+}
+
+module _ (b : Board) {cost : ℕ → ℕ → ℕ} {order lo hi work : List ℕ} {t : ℕ} (M : Tabled b cost order lo hi work t)
+    (hs cs : List ℕ) {p : ℕ} (none : length hs ≡ 0) (same : p ≡ b .ports) where
+  abbrev lent : Source
+  lent = source hs work cs p
+
+  pub lent-costs : CostsOn b cost lent
+  lent-costs = record { ports = same; at = λ j q h k. rw (eq-eqb (length hs) 0 none, same) (M .figures j q h k) }
+
+  pub lent-right : Right order lent lo hi
+  lent-right = record { full = λ h. absurd (omega (arith, none)); slotted = λ e. record { pads = rw same (slotted (M .lists)); table = rw same (M .table) } }
+
+  pub lent-least : IsLeast order lent lo hi t
+  lent-least = slots-least order lent lo hi t none (rw same (M .least))

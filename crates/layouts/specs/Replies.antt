@@ -1,14 +1,16 @@
 -- What First, Next and Page make of a walk, in the paper's words.
 use mathlib.Core.Path.{_≡_}
-use mathlib.Core.Bool.{true, false}
+use mathlib.Core.Bool.{true, false, cond}
 use mathlib.Core.List.{List}
-use Prim.Native.Nat.{ℕ, _≤_}
+use Prim.Native.Nat.{ℕ, _≤_, _<_}
+use lib.Dec.{eqb}
 use lib.ListN.{length}
-use Rattle.paper.specs.Job.{count}
-use Rattle.paper.specs.Layouts.{Board, held, Untouching, Badness}
-use Rattle.paper.specs.Problem.{Problem, Best, FirstBest, NextBest, LastBest, labelingOf}
+use Rattle.paper.specs.Layouts.{Board, held, Untouching}
+use Rattle.paper.specs.Problem.{Problem, Best, FirstBest, NextBest, LastBest}
 use Rattle.paper.specs.Promises.{Kept, Following}
-use Rattle.paper.specs.laws.Totals.{totalOf}
+use Rattle.strips.specs.Least.{some}
+use Rattle.slots.specs.Slots.{figuresIn, Table, Answer}
+use Rattle.board.specs.Lists.{WorkOf}
 use Rattle.walks.specs.declared.Start.{Start}
 use Rattle.walks.specs.declared.Start.the-variants.{First, Given}
 use Rattle.walks.specs.declared.Walked.{Walked}
@@ -16,7 +18,7 @@ use Rattle.walks.specs.Walks.{Rules}
 use Rattle.layouts.specs.declared.Step.{Step}
 use Rattle.layouts.specs.declared.Step.the-variants.{Total, End, NotBest}
 
--- The rules of a walk through the best layouts of a problem, and of a job's.
+-- The rules of a walk through the best layouts of a problem.
 abbrev pub rulesOf : Problem → Rules
 rulesOf p = record {
   Earliest = λ w v. FirstBest p (held v) × Kept (p .board .pads) w v;
@@ -26,38 +28,36 @@ rulesOf p = record {
   Least = λ t. (w : List ℕ) → Best p (held w) → t ≡ p .value (held w);
 }
 
-abbrev pub jobRules : List ℕ → Badness → Rules
-jobRules job bad = rulesOf (labelingOf job bad)
-
 -- A walk starts with room for a layout, and with an untouching one if it is given.
 abbrev pub StartOn : Start → Board → List ℕ → Type 0
 StartOn First b w = b .pads ≤ length w
 StartOn Given b w = (b .pads ≤ length w) × Untouching b (held w)
 
--- FIRST: the list holds the earliest best layout, t is its total, and the entries from n on are kept.
-abbrev pub FirstOn : List ℕ → Badness → List ℕ → List ℕ → ℕ → Type 0
-FirstOn job bad before after t =
-    FirstBest (labelingOf job bad) (held after) × (t ≡ totalOf job bad after) × Kept (count job) before after
+-- FIRST: the list holds the earliest best layout, t is its value, and the entries from n on are kept.
+abbrev pub FirstOn : Problem → List ℕ → List ℕ → ℕ → Type 0
+FirstOn p before after t = FirstBest p (held after) × (t ≡ p .value (held after)) × Kept (p .board .pads) before after
 
 -- NEXT, asked of an untouching layout: it is best, and the earliest best layout after it has replaced it; or it is the last best one, and is kept; or it
 -- is not best, and is kept.
-abbrev pub NextOn : List ℕ → Badness → List ℕ → List ℕ → Step → Type 0
-NextOn job bad before after (Total t) =
-    Best (labelingOf job bad) (held before)
-    × NextBest (labelingOf job bad) (held before) (held after)
-    × (t ≡ totalOf job bad after)
-    × Kept (count job) before after
-NextOn job bad before after End =
-    Best (labelingOf job bad) (held before)
-    × LastBest (labelingOf job bad) (held before)
-    × (after ≡ before)
-NextOn job bad before after NotBest = (¬ Best (labelingOf job bad) (held before)) × (after ≡ before)
+abbrev pub NextOn : Problem → List ℕ → List ℕ → Step → Type 0
+NextOn p before after (Total t) =
+    Best p (held before) × NextBest p (held before) (held after) × (t ≡ p .value (held after)) × Kept (p .board .pads) before after
+NextOn p before after End = Best p (held before) × LastBest p (held before) × (after ≡ before)
+NextOn p before after NotBest = (¬ Best p (held before)) × (after ≡ before)
+
+-- what a walk with room for one layout comes to
+abbrev pub stepOf : Walked → Step
+stepOf r = cond (r .best) (cond (eqb (r .count) 0) End (Total (r .total))) NotBest
 
 -- PAGE, asked of an untouching layout: it is best, and those that follow stand on the page; or it is not best, none follows, and the page is kept.
-abbrev pub PageOn : List ℕ → Badness → List ℕ → List ℕ → List ℕ → Walked → Type 0
-PageOn job bad given before after r =
-    ((r .best ≡ true)
-    → Best (labelingOf job bad) (held given)
-    × Following (labelingOf job bad) given before (r .count) after
-    × (r .total ≡ totalOf job bad given))
-    × ((r .best ≡ false) → (¬ Best (labelingOf job bad) (held given)) × (after ≡ before) × (r .count ≡ 0))
+abbrev pub PageOn : Problem → List ℕ → List ℕ → List ℕ → Walked → Type 0
+PageOn p given before after r =
+    ((r .best ≡ true) → Best p (held given) × Following p given before (r .count) after × (r .total ≡ p .value (held given)))
+    × ((r .best ≡ false) → (¬ Best p (held given)) × (after ≡ before) × (r .count ≡ 0))
+
+-- The work lists of a board, and in the work list that is lent its costs and least totals: t is the least of all.
+pub record Tabled (b : Board) (cost : ℕ → ℕ → ℕ) (order lo hi work : List ℕ) (t : ℕ) : Type 0 where
+  pub lists : WorkOf b order lo hi
+  pub figures : (j q : ℕ) → j < b .pads → q < b .ports → figuresIn work (b .pads) (b .ports) j q ≡ some (cost j q)
+  pub table : Table order lo hi (b .ports) work
+  pub least : Answer order lo hi (b .ports) work t

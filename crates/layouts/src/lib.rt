@@ -1,22 +1,42 @@
 // First, Next and Page on a job that has passed the checks, by a table of what each pad costs with each port: each is a walk over the
-// job's work lists, with its own room. The table is read where it is lent.
+// job's work lists, with its own room. The table is read where it is lent. `slotted` has First and Next where ports may stay free.
+pub mod slotted;
+
+use paper::Form;
 use walks::Start;
 use walks::Walked;
 ghost use mathlib.Core.Path.{_≡_};
 ghost use Prim.Native.Nat.{_≤_};
 ghost use lib.ListN.{length};
-ghost use Rattle.paper.specs.Job.{count};
+ghost use Rattle.paper.specs.declared.Form.the-variants.{Records};
+ghost use Rattle.paper.specs.Job.{records, count};
 ghost use Rattle.paper.specs.Layouts.{boardOf, held, Untouching, byTable};
-ghost use Rattle.paper.specs.laws.Accepted.{Accepted, Fair};
+ghost use Rattle.paper.specs.Problem.{labelingOf};
+ghost use Rattle.paper.specs.laws.Accepted.{AcceptedJob, Fair};
 ghost use Rattle.board.specs.Lists.{Lent};
 ghost use Rattle.walks.specs.Walks.{Walks};
-ghost use Rattle.layouts.specs.Replies.{jobRules, StartOn, FirstOn, NextOn, PageOn};
+ghost use Rattle.layouts.specs.Replies.{rulesOf, StartOn, FirstOn, NextOn, stepOf, PageOn};
 
 // What Next replies of an untouching layout.
 pub enum Step {
     Total(u64),
     End,
     NotBest,
+}
+
+// What a walk with room for one layout comes to.
+fn step_of(r: Walked) -> Step
+    ensures { λ s. ⌜ s ≡ stepOf r ⌝ }
+{
+    if r.best {
+        if r.count == 0 {
+            Step::End
+        } else {
+            Step::Total(r.total)
+        }
+    } else {
+        Step::NotBest
+    }
 }
 
 // A walk, with lists lent for the work lists and the table of least totals.
@@ -32,21 +52,34 @@ fn walk_at(
     w: &mut [u16],
     page: &mut [u16],
 ) -> Walked
-    requires { ⌜ Accepted (now job) × Fair (now job) (byTable (now figures)) × StartOn start (boardOf (now job)) (now w) ⌝ }
+    requires { ⌜ AcceptedJob (records (now job)) × Fair (boardOf (records (now job))) (byTable (now figures)) × StartOn start (boardOf (records (now job))) (now w) ⌝ }
     requires { ⌜ Lent (count (now job)) (now order) (now lo) (now hi) × (length (now heads) ≡ 2145) × (length (now totals) ≡ 2145) ⌝ }
-    ensures { λ r. ⌜ Walks (jobRules (now (job .entry)) (byTable (now (figures .entry)))) (count (now (job .entry))) start (now (w .entry)) (now (page .entry))
-        (now (w .exit)) (now (page .exit)) r ⌝ }
+    ensures { λ r. ⌜ Walks (rulesOf (labelingOf (records (now (job .entry))) (byTable (now (figures .entry))))) (count (now (job .entry))) start (now (w .entry))
+        (now (page .entry)) (now (w .exit)) (now (page .exit)) r ⌝ }
 {
-    board::prepare(job, order, lo, hi);
+    board::prepare(Form::Records, job, job, order, lo, hi);
     let least = table::fill(heads, totals, order, figures, lo, hi);
-    walks::walk(start, heads, totals, order, figures, lo, hi, w, page, least)
+    let n = order.len();
+    walks::walk(
+        start,
+        heads,
+        totals,
+        order,
+        figures,
+        lo,
+        hi,
+        n,
+        w,
+        page,
+        least,
+    )
 }
 
 // A walk through the best layouts of a job.
 fn walk(start: Start, job: &[u8], figures: &[u32], w: &mut [u16], page: &mut [u16]) -> Walked
-    requires { ⌜ Accepted (now job) × Fair (now job) (byTable (now figures)) × StartOn start (boardOf (now job)) (now w) ⌝ }
-    ensures { λ r. ⌜ Walks (jobRules (now (job .entry)) (byTable (now (figures .entry)))) (count (now (job .entry))) start (now (w .entry)) (now (page .entry))
-        (now (w .exit)) (now (page .exit)) r ⌝ }
+    requires { ⌜ AcceptedJob (records (now job)) × Fair (boardOf (records (now job))) (byTable (now figures)) × StartOn start (boardOf (records (now job))) (now w) ⌝ }
+    ensures { λ r. ⌜ Walks (rulesOf (labelingOf (records (now (job .entry))) (byTable (now (figures .entry))))) (count (now (job .entry))) start (now (w .entry))
+        (now (page .entry)) (now (w .exit)) (now (page .exit)) r ⌝ }
 {
     let n = job.len() / 16;
     let mut order = [0u8; 64];
@@ -70,8 +103,8 @@ fn walk(start: Start, job: &[u8], figures: &[u32], w: &mut [u16], page: &mut [u1
 
 // First: a walk from the earliest best layout, with room for none on its page.
 pub fn first_on(job: &[u8], figures: &[u32], layout: &mut [u16]) -> u64
-    requires { ⌜ Accepted (now job) × Fair (now job) (byTable (now figures)) × (count (now job) ≤ length (now layout)) ⌝ }
-    ensures { λ t. ⌜ FirstOn (now (job .entry)) (byTable (now (figures .entry))) (now (layout .entry)) (now (layout .exit)) t ⌝ }
+    requires { ⌜ AcceptedJob (records (now job)) × Fair (boardOf (records (now job))) (byTable (now figures)) × (count (now job) ≤ length (now layout)) ⌝ }
+    ensures { λ t. ⌜ FirstOn (labelingOf (records (now (job .entry))) (byTable (now (figures .entry)))) (now (layout .entry)) (now (layout .exit)) t ⌝ }
 {
     let mut page = [0u16; 1];
     walk(Start::First, job, figures, layout, &mut page[..0]).total
@@ -79,29 +112,20 @@ pub fn first_on(job: &[u8], figures: &[u32], layout: &mut [u16]) -> u64
 
 // Next: a walk from an untouching layout, with room for one.
 pub fn next_on(job: &[u8], figures: &[u32], layout: &mut [u16]) -> Step
-    requires { ⌜ Accepted (now job) × Fair (now job) (byTable (now figures)) × (count (now job) ≤ length (now layout)) ⌝ }
-    requires { ⌜ Untouching (boardOf (now job)) (held (now layout)) ⌝ }
-    ensures { λ r. ⌜ NextOn (now (job .entry)) (byTable (now (figures .entry))) (now (layout .entry)) (now (layout .exit)) r ⌝ }
+    requires { ⌜ AcceptedJob (records (now job)) × Fair (boardOf (records (now job))) (byTable (now figures)) × (count (now job) ≤ length (now layout)) ⌝ }
+    requires { ⌜ Untouching (boardOf (records (now job))) (held (now layout)) ⌝ }
+    ensures { λ r. ⌜ NextOn (labelingOf (records (now (job .entry))) (byTable (now (figures .entry)))) (now (layout .entry)) (now (layout .exit)) r ⌝ }
 {
     let n = job.len() / 16;
     let mut page = [0u16; 64];
-    let r = walk(Start::Given, job, figures, layout, &mut page[..n]);
-    if r.best {
-        if r.count == 0 {
-            Step::End
-        } else {
-            Step::Total(r.total)
-        }
-    } else {
-        Step::NotBest
-    }
+    step_of(walk(Start::Given, job, figures, layout, &mut page[..n]))
 }
 
 // Page: a walk from a copy of an untouching layout, with the room of a page.
 pub fn page_on(job: &[u8], figures: &[u32], layout: &[u16], page: &mut [u16]) -> Walked
-    requires { ⌜ Accepted (now job) × Fair (now job) (byTable (now figures)) × (count (now job) ≤ length (now layout)) ⌝ }
-    requires { ⌜ Untouching (boardOf (now job)) (held (now layout)) ⌝ }
-    ensures { λ r. ⌜ PageOn (now (job .entry)) (byTable (now (figures .entry))) (now (layout .entry)) (now (page .entry)) (now (page .exit)) r ⌝ }
+    requires { ⌜ AcceptedJob (records (now job)) × Fair (boardOf (records (now job))) (byTable (now figures)) × (count (now job) ≤ length (now layout)) ⌝ }
+    requires { ⌜ Untouching (boardOf (records (now job))) (held (now layout)) ⌝ }
+    ensures { λ r. ⌜ PageOn (labelingOf (records (now (job .entry))) (byTable (now (figures .entry)))) (now (layout .entry)) (now (page .entry)) (now (page .exit)) r ⌝ }
 {
     let mut w = [0u16; 64];
     walks::copy(layout, job.len() / 16, &mut w, 0);

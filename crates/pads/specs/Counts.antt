@@ -47,11 +47,15 @@ bit-true false e = absurd (omega arith)
 
 -- ---- lists
 
+-- a list from place k on, by what stands there
+pub drop-at : (order : List ℕ) (k : ℕ) → k < length order → drop k order ≡ getD order k 0 ∷ drop (k + 1) order
+drop-at order k h = drop-cons order k 0 h ∙ ap (λ (i : ℕ). getD order k 0 ∷ drop i order) (sym (add-one k))
+
 -- one pad more
 pub count-step : (S : Sides) (order : List ℕ) (a b k : ℕ) → k < length order
     → padsIn S a b (drop k order) ≡ bit (fits S a b (getD order k 0)) + padsIn S a b (drop (k + 1) order)
 unfolding padsIn
-count-step S order a b k h = ap (padsIn S a b) (drop-cons order k 0 h) ∙ ap (λ (i : ℕ). bit (fits S a b (getD order k 0)) + padsIn S a b (drop i order)) (sym (add-one k))
+count-step S order a b k h = ap (padsIn S a b) (drop-at order k h)
 
 count-append : (S : Sides) (a b : ℕ) (pre js : List ℕ) → padsIn S a b (pre ++ js) ≡ padsIn S a b pre + padsIn S a b js
 unfolding padsIn

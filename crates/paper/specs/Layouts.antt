@@ -7,7 +7,8 @@ use Prim.Native.Nat.{ℕ, zero, suc, _+_, _*_, _≤_, _<_}
 use lib.ListN.{length, getD}
 use lib.IntN.{ℤ}
 use lib.Signed.{_<ℤ_}
-use Rattle.paper.specs.Job.{count, xOf, yOf, portOf}
+use Rattle.paper.specs.declared.Form.{Form}
+use Rattle.paper.specs.Job.{Job, formOf, padsOf, portsOf, count, xOf, yOf, portCount, portOf}
 use Rattle.paper.specs.Leaders.{Leader, Touch, lengthOf, bendsOf}
 
 -- A board: so many pads, pad i at (x i, y i), and so many ports, port q at the height port q.
@@ -18,9 +19,12 @@ pub record Board : Type 0 where
   pub y : ℕ → ℤ
   pub port : ℕ → ℤ
 
--- The board of a job. Record i brings one pad and one port: the port of record i is port number i.
-abbrev pub boardOf : List ℕ → Board
-boardOf job = record { pads = count job; ports = count job; x = xOf job; y = yOf job; port = portOf job }
+-- The board that pads and ports of such bytes make; and that of a job. (The port of record i is port number i: records have as many ports as pads.)
+abbrev pub boardFrom : Form → List ℕ → List ℕ → Board
+boardFrom form pads ports = record { pads = count pads; ports = portCount form ports; x = xOf pads; y = yOf pads; port = portOf form ports }
+
+abbrev pub boardOf : Job → Board
+boardOf job = boardFrom (formOf job) (padsOf job) (portsOf job)
 
 -- The layout that a list holds: entry i is the port number of the pad of record i.
 abbrev pub held : List ℕ → ℕ → ℕ

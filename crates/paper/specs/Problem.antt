@@ -1,8 +1,8 @@
 -- DEFINITIONS. One problem, of which all calls that seek layouts are instances: a board, which layouts count, and the value of a layout. That of 01, and of
--- 02's tables, is Benkert's one-sided labeling: a layout counts if no two leaders touch, and its value is its total.
+-- 02's tables and slots, is Benkert's one-sided labeling: a layout counts if no two leaders touch, and its value is its total.
 use mathlib.Core.Path.{_≡_}
-use mathlib.Core.List.{List}
 use Prim.Native.Nat.{ℕ, _≤_, _<_}
+use Rattle.paper.specs.Job.{Job}
 use Rattle.paper.specs.Layouts.{Board, boardOf, Untouching, Badness, costOf, total}
 
 pub record Problem : Type 1 where
@@ -40,5 +40,5 @@ abbrev pub labeling : Board → (ℕ → ℕ → ℕ) → Problem
 labeling b cost = record { board = b; Counts = Untouching b; value = total b cost }
 
 -- On the board of a job: 01's by weights, 02's by a table.
-abbrev pub labelingOf : List ℕ → Badness → Problem
+abbrev pub labelingOf : Job → Badness → Problem
 labelingOf job bad = labeling (boardOf job) (costOf (boardOf job) bad)

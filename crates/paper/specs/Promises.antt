@@ -1,7 +1,8 @@
 -- DEFINITIONS. 01, "The calls": what each call promises for every input, by cases of its answer, and the number that C gets.
 -- A call is given a job, numbers or a table, and a lent list that holds `before` at entry and `after` at exit. Page is given a layout besides, which is only read.
+-- Of the work list that First and Next may be lent, a promise knows the length alone: what it holds on entry changes no answer.
 use mathlib.Core.Path.{_≡_}
-use mathlib.Core.Logic.{_⊎_, _↔_}
+use mathlib.Core.Logic.{_≢_, _⊎_, _↔_}
 use mathlib.Core.List.{List, [], _∷_, _++_}
 use Prim.Native.Nat.{ℕ, zero, suc, _+_, _*_, _/_, _%_, _≤_, _<_}
 use lib.ListN.{length, getD, drop}
@@ -15,6 +16,9 @@ use Rattle.paper.specs.declared.Paged.{Paged}
 use Rattle.paper.specs.declared.Paged.the-variants.{Wrote, Refused as NotPaged}
 use Rattle.paper.specs.declared.Drawn.{Drawn}
 use Rattle.paper.specs.declared.Drawn.the-variants.{Straight, Bent, Refused as NotDrawn}
+use Rattle.paper.specs.declared.Work.{Work}
+use Rattle.paper.specs.declared.Work.the-variants.{Unlent}
+use Rattle.paper.specs.Job.{Job, records}
 use Rattle.paper.specs.Layouts.{boardOf, held, leader, Badness}
 use Rattle.paper.specs.Problem.{Problem, FirstBest, NextBest, LastBest}
 use Rattle.paper.specs.Refusals.{Trial, Passed, RefusedBy, refusal, drawTrials, Calls, entries, callsOf}
@@ -121,38 +125,47 @@ PageReplies c given before m after = (a : Paged) × PageOver c given before a af
 abbrev pub MeasureReplies : Calls → List ℕ → ℤ → Type 0
 MeasureReplies c list m = (a : Answer) × MeasureOver c list a × (m ≡ number a)
 
+-- A work list holds what it held after every refusal but 10. After 10, an end or a total its content is left open (docs/OPEN-REPLIES.md).
+abbrev pub WorkAfter : Answer → List ℕ → List ℕ → Type 0
+WorkAfter (Total t) before after = Unit {0}
+WorkAfter End before after = Unit {0}
+WorkAfter (Refused r) before after = (r .reason ≢ 10) → after ≡ before
+
+abbrev pub WorkPromise : ℤ → List ℕ → List ℕ → Type 0
+WorkPromise m before after = m ≤ℤ negℤ (pos 65536) → (refusalIn m .reason ≢ 10) → after ≡ before
+
 -- ---- the calls on a job, by weights and by tables: their answers in the language, and their promises to C
 
-abbrev pub FirstAnswers : List ℕ → Badness → List ℕ → Answer → List ℕ → Type 0
-FirstAnswers job bad = FirstOver (callsOf job bad)
+abbrev pub FirstAnswers : Job → Badness → Work → List ℕ → Answer → List ℕ → Type 0
+FirstAnswers job bad work = FirstOver (callsOf job bad work)
 
-abbrev pub NextAnswers : List ℕ → Badness → List ℕ → Answer → List ℕ → Type 0
-NextAnswers job bad = NextOver (callsOf job bad)
+abbrev pub NextAnswers : Job → Badness → Work → List ℕ → Answer → List ℕ → Type 0
+NextAnswers job bad work = NextOver (callsOf job bad work)
 
-abbrev pub PageAnswers : List ℕ → Badness → List ℕ → List ℕ → Paged → List ℕ → Type 0
-PageAnswers job bad = PageOver (callsOf job bad)
+abbrev pub PageAnswers : Job → Badness → Work → List ℕ → List ℕ → Paged → List ℕ → Type 0
+PageAnswers job bad work = PageOver (callsOf job bad work)
 
-abbrev pub MeasureAnswers : List ℕ → Badness → List ℕ → Answer → Type 0
-MeasureAnswers job bad = MeasureOver (callsOf job bad)
+abbrev pub MeasureAnswers : Job → Badness → List ℕ → Answer → Type 0
+MeasureAnswers job bad = MeasureOver (callsOf job bad Unlent)
 
-abbrev pub FirstPromise : List ℕ → Badness → List ℕ → ℤ → List ℕ → Type 0
-FirstPromise job bad = FirstReplies (callsOf job bad)
+abbrev pub FirstPromise : Job → Badness → Work → List ℕ → ℤ → List ℕ → Type 0
+FirstPromise job bad work = FirstReplies (callsOf job bad work)
 
-abbrev pub NextPromise : List ℕ → Badness → List ℕ → ℤ → List ℕ → Type 0
-NextPromise job bad = NextReplies (callsOf job bad)
+abbrev pub NextPromise : Job → Badness → Work → List ℕ → ℤ → List ℕ → Type 0
+NextPromise job bad work = NextReplies (callsOf job bad work)
 
-abbrev pub PagePromise : List ℕ → Badness → List ℕ → List ℕ → ℤ → List ℕ → Type 0
-PagePromise job bad = PageReplies (callsOf job bad)
+abbrev pub PagePromise : Job → Badness → Work → List ℕ → List ℕ → ℤ → List ℕ → Type 0
+PagePromise job bad work = PageReplies (callsOf job bad work)
 
-abbrev pub MeasurePromise : List ℕ → Badness → List ℕ → ℤ → Type 0
-MeasurePromise job bad = MeasureReplies (callsOf job bad)
+abbrev pub MeasurePromise : Job → Badness → List ℕ → ℤ → Type 0
+MeasurePromise job bad = MeasureReplies (callsOf job bad Unlent)
 
 -- DRAW: the leader of the pad of record i to port q.
 abbrev pub DrawAnswers : List ℕ → ℕ → ℕ → List Float → Drawn → List Float → Type 0
 DrawAnswers job i q before (Straight d) after =
-    Passed (drawTrials job i q (length before)) × DrawnStraight (leader (boardOf job) i q) d × (after ≡ overwritten (coordinates (Straight d)) before)
+    Passed (drawTrials job i q (length before)) × DrawnStraight (leader (boardOf (records job)) i q) d × (after ≡ overwritten (coordinates (Straight d)) before)
 DrawAnswers job i q before (Bent d) after =
-    Passed (drawTrials job i q (length before)) × DrawnBent (leader (boardOf job) i q) d × (after ≡ overwritten (coordinates (Bent d)) before)
+    Passed (drawTrials job i q (length before)) × DrawnBent (leader (boardOf (records job)) i q) d × (after ≡ overwritten (coordinates (Bent d)) before)
 DrawAnswers job i q before (NotDrawn r) after = RefusedBy (drawTrials job i q (length before)) r × (after ≡ before)
 
 abbrev pub DrawPromise : List ℕ → ℕ → ℕ → List Float → ℤ → List Float → Type 0

@@ -1,13 +1,17 @@
--- DEFINITIONS. 01, "Refusal numbers", and of 02, 12, 13 and both records of 9: what is at fault for each number, and each call's trials, in their order.
+-- DEFINITIONS. 01, "Refusal numbers", and of 02, 12, 13, 14, 24 and both records of 9: what is at fault for each number, and each call's trials, in their order.
 use mathlib.Core.Path.{_≡_}
 use mathlib.Core.Logic.{_≢_, _⊎_}
 use mathlib.Core.List.{List, [], _∷_, _++_}
-use Prim.Native.Nat.{ℕ, _*_, _-_, _%_, _≤_, _<_}
+use Prim.Native.Nat.{ℕ, _+_, _*_, _-_, _%_, _≤_, _<_}
 use lib.ListN.{length}
 use lib.IntN.{ℤ, pos, natAbs, _-ℤ_}
 use lib.Signed.{_≤ℤ_, _<ℤ_}
 use Rattle.paper.specs.declared.Refusal.{Refusal}
-use Rattle.paper.specs.Job.{count, nameOf, reservedOf, xOf, yOf, portOf}
+use Rattle.paper.specs.declared.Form.{Form}
+use Rattle.paper.specs.declared.Form.the-variants.{Records, Slots}
+use Rattle.paper.specs.declared.Work.{Work}
+use Rattle.paper.specs.declared.Work.the-variants.{Unlent, Lent}
+use Rattle.paper.specs.Job.{Job, records, slots, padsOf, twos, count, nameOf, reservedOf, xOf, yOf, lastOf, portCount, portOf}
 use Rattle.paper.specs.Layouts.{Board, boardOf, held, Touching, Badness, byWeights, byTable}
 use Rattle.paper.specs.Problem.{Problem, Best, labelingOf}
 
@@ -53,9 +57,12 @@ RefusedBy (t ∷ ts) r = ((r .reason ≡ t .reason) × FirstFault t (r .at) (r .
 abbrev pub Earlier : (ℕ → ℕ → Type 0) → ℕ → Type 0
 Earlier R i = (j : ℕ) × (j < i) × R i j
 
--- 1: the byte count is 0, not a multiple of 16, or above 1,024
+-- 1: the byte count is 0, not a multiple of 16, or above 1,024; of a port list, of 4, or above 512 (02: "1 to 128 of them")
 abbrev pub BadSize : List ℕ → Type 0
-BadSize job = (length job ≡ 0) ⊎ (length job % 16 ≢ 0) ⊎ (1024 < length job)
+BadSize pads = (length pads ≡ 0) ⊎ (length pads % 16 ≢ 0) ⊎ (1024 < length pads)
+
+abbrev pub BadPortSize : List ℕ → Type 0
+BadPortSize ports = (length ports ≡ 0) ⊎ (length ports % 4 ≢ 0) ⊎ (512 < length ports)
 
 -- 2: a weight is above 1,000
 abbrev pub BadWeight : ℕ → ℕ → Type 0
@@ -65,9 +72,14 @@ BadWeight lw bw = (1000 < lw) ⊎ (1000 < bw)
 abbrev pub Outside : ℤ → Type 0
 Outside h = 1000000 < natAbs h
 
-abbrev pub BadField : List ℕ → ℕ → Type 0
-BadField job i =
-    (reservedOf job i ≢ 0) ⊎ (xOf job i < 1) ⊎ (1000000 < xOf job i) ⊎ Outside (yOf job i) ⊎ Outside (portOf job i)
+-- The last field is the height of record i's port, or where ports stand apart, 0.
+abbrev pub BadLast : Form → ℕ → Type 0
+BadLast Records n = Outside (twos n)
+BadLast Slots n = n ≢ 0
+
+abbrev pub BadField : Form → List ℕ → ℕ → Type 0
+BadField form pads i =
+    (reservedOf pads i ≢ 0) ⊎ (xOf pads i < 1) ⊎ (1000000 < xOf pads i) ⊎ Outside (yOf pads i) ⊎ BadLast form (lastOf pads i)
 
 -- 5: a port height is not above the one before
 abbrev pub NotAbove : (ℕ → ℤ) → ℕ → Type 0
@@ -79,15 +91,15 @@ TooClose port i = (0 < i) × ((port i -ℤ port (i - 1)) <ℤ pos 8)
 
 -- 6: a nonzero name stood in an earlier record
 abbrev pub SameName : List ℕ → ℕ → ℕ → Type 0
-SameName job i j = (nameOf job i ≢ 0) × (nameOf job i ≡ nameOf job j)
+SameName pads i j = (nameOf pads i ≢ 0) × (nameOf pads i ≡ nameOf pads j)
 
 -- 7: an x stood in an earlier record
 abbrev pub SameX : List ℕ → ℕ → ℕ → Type 0
-SameX job i j = xOf job i ≡ xOf job j
+SameX pads i j = xOf pads i ≡ xOf pads j
 
--- 8: a given entry is n or more, n being the number of ports, or stood earlier
+-- 8: a given entry is the port count p or more (in records, n or more), or stood earlier
 abbrev pub BadEntry : ℕ → List ℕ → ℕ → Type 0
-BadEntry n list i = (n ≤ held list i) ⊎ Earlier (λ i j. held list i ≡ held list j) i
+BadEntry p list i = (p ≤ held list i) ⊎ Earlier (λ i j. held list i ≡ held list j) i
 
 -- ---- each call's trials
 
@@ -102,15 +114,42 @@ ofWhole r P = ofEach r 1 (λ i. P)
 abbrev pub ofPairs : ℕ → ℕ → (ℕ → ℕ → Type 0) → Trial
 ofPairs r n R = record { reason = r; among = n; fault = Earlier R; beside = λ i j. (j < i) × R i j }
 
--- 4 to 7, and 12 directly after 5: the job's records
-abbrev pub jobTrials : List ℕ → List Trial
-jobTrials job =
-    ofEach 4 (count job) (BadField job) ∷
-    ofEach 5 (count job) (NotAbove (portOf job)) ∷
-    ofEach 12 (count job) (TooClose (portOf job)) ∷
-    ofEach 6 (count job) (Earlier (SameName job)) ∷
-    ofEach 7 (count job) (Earlier (SameX job)) ∷
+-- 1: the records; or the pad list and then the port list
+abbrev pub sizeTrials : Job → List Trial
+sizeTrials (records bytes) = ofWhole 1 (BadSize bytes) ∷ []
+sizeTrials (slots pads ports) = ofWhole 1 (BadSize pads) ∷ ofWhole 1 (BadPortSize ports) ∷ []
+
+-- 14: there are fewer ports than pads
+abbrev pub enoughTrials : Job → List Trial
+enoughTrials (records bytes) = []
+enoughTrials (slots pads ports) = ofWhole 14 (portCount Slots ports < count pads) ∷ []
+
+-- 24: the work list has fewer than 2(n + 1)(p + 2)² numbers
+abbrev pub workNeeded : ℕ → ℕ → ℕ
+workNeeded n p = 2 * ((n + 1) * ((p + 2) * (p + 2)))
+
+abbrev pub workTrials : Board → Work → List Trial
+workTrials b Unlent = []
+workTrials b (Lent numbers) = ofWhole 24 (numbers < workNeeded (b .pads) (b .ports)) ∷ []
+
+-- 4: the records; or the pads and then the ports, and then the record number is the port's
+abbrev pub fieldTrials : Job → List Trial
+fieldTrials (records bytes) = ofEach 4 (count bytes) (BadField Records bytes) ∷ []
+fieldTrials (slots pads ports) =
+    ofEach 4 (count pads) (BadField Slots pads) ∷ ofEach 4 (portCount Slots ports) (λ q. Outside (portOf Slots ports q)) ∷ []
+
+-- 5 and 12 of the ports, and 6 and 7 of the pads
+abbrev pub placeTrials : Job → List Trial
+placeTrials job =
+    ofEach 5 (boardOf job .ports) (NotAbove (boardOf job .port)) ∷
+    ofEach 12 (boardOf job .ports) (TooClose (boardOf job .port)) ∷
+    ofEach 6 (boardOf job .pads) (Earlier (SameName (padsOf job))) ∷
+    ofEach 7 (boardOf job .pads) (Earlier (SameX (padsOf job))) ∷
     []
+
+-- 4 to 7, and 12 directly after 5
+abbrev pub jobTrials : Job → List Trial
+jobTrials job = fieldTrials job ++ placeTrials job
 
 -- 8 and 9: the layout that the list holds. 9: a leader touches that of an earlier record; both are named (02)
 abbrev pub layoutTrials : Board → List ℕ → List Trial
@@ -125,28 +164,32 @@ bestTrial p list = ofWhole 10 (p .Counts (held list) × ¬ Best p (held list))
 
 -- 11: Draw's record or port number is n or more
 abbrev pub numberTrial : List ℕ → ℕ → ℕ → Trial
-numberTrial job i q = ofWhole 11 ((count job ≤ i) ⊎ (count job ≤ q))
+numberTrial bytes i q = ofWhole 11 ((count bytes ≤ i) ⊎ (count bytes ≤ q))
 
--- 2 of weights; of a table 13: it has another length than n × n
-abbrev pub badnessTrial : List ℕ → Badness → Trial
-badnessTrial job (byWeights lw bw) = ofWhole 2 (BadWeight lw bw)
-badnessTrial job (byTable figures) = ofWhole 13 (length figures ≢ count job * count job)
+-- 2 of weights; of a table 13: it has another length than a figure for each pad and port (in records n × n)
+abbrev pub badnessTrial : Board → Badness → Trial
+badnessTrial b (byWeights lw bw) = ofWhole 2 (BadWeight lw bw)
+badnessTrial b (byTable figures) = ofWhole 13 (length figures ≢ b .pads * b .ports)
 
--- First, with room for so many entries: 1, 2 or 13, 3 and the job's. 3: the layout list has fewer than n entries
-abbrev pub firstTrials : List ℕ → Badness → ℕ → List Trial
-firstTrials job bad room = ofWhole 1 (BadSize job) ∷ badnessTrial job bad ∷ ofWhole 3 (room < count job) ∷ jobTrials job
+-- 3, the layout list has fewer than n entries, then 14 and 24
+abbrev pub roomTrials : Job → Work → ℕ → List Trial
+roomTrials job work room = ofWhole 3 (room < boardOf job .pads) ∷ enoughTrials job ++ workTrials (boardOf job) work
+
+-- First, with such a work list and room for so many entries: 1, 2 or 13, the room's and the job's
+abbrev pub firstTrials : Job → Badness → Work → ℕ → List Trial
+firstTrials job bad work room = sizeTrials job ++ (badnessTrial (boardOf job) bad ∷ roomTrials job work room ++ jobTrials job)
 
 -- Measure: First's, 8 and 9
-abbrev pub measureTrials : List ℕ → Badness → List ℕ → List Trial
-measureTrials job bad list = firstTrials job bad (length list) ++ layoutTrials (boardOf job) list
+abbrev pub measureTrials : Job → Badness → Work → List ℕ → List Trial
+measureTrials job bad work list = firstTrials job bad work (length list) ++ layoutTrials (boardOf job) list
 
 -- Next: Measure's and 10
-abbrev pub nextTrials : List ℕ → Badness → List ℕ → List Trial
-nextTrials job bad list = measureTrials job bad list ++ (bestTrial (labelingOf job bad) list ∷ [])
+abbrev pub nextTrials : Job → Badness → Work → List ℕ → List Trial
+nextTrials job bad work list = measureTrials job bad work list ++ (bestTrial (labelingOf job bad) list ∷ [])
 
 -- Draw, of record i to port q with room for so many floats: 1, 3, the job's and 11. 3: the float list has fewer than six
 abbrev pub drawTrials : List ℕ → ℕ → ℕ → ℕ → List Trial
-drawTrials job i q room = ofWhole 1 (BadSize job) ∷ ofWhole 3 (room < 6) ∷ jobTrials job ++ (numberTrial job i q ∷ [])
+drawTrials bytes i q room = ofWhole 1 (BadSize bytes) ∷ ofWhole 3 (room < 6) ∷ jobTrials (records bytes) ++ (numberTrial bytes i q ∷ [])
 
 -- ---- calls
 
@@ -161,13 +204,13 @@ pub record Calls : Type 1 where
 abbrev pub entries : Calls → ℕ
 entries c = c .problem .board .pads
 
--- On a job: 01's with its weights, 02's with its table.
-abbrev pub callsOf : List ℕ → Badness → Calls
-callsOf job bad = record {
+-- On a job, by weights or a table. First and Next are lent such a work list, or none; Measure never is.
+abbrev pub callsOf : Job → Badness → Work → Calls
+callsOf job bad work = record {
   problem = labelingOf job bad;
-  first = firstTrials job bad;
-  measure = measureTrials job bad;
-  next = nextTrials job bad;
+  first = firstTrials job bad work;
+  measure = measureTrials job bad Unlent;
+  next = nextTrials job bad work;
 }
 
 -- ---- which records a refusal names

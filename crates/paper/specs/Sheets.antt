@@ -1,8 +1,11 @@
 -- DEFINITIONS. 01, "Sheets worked by hand": the jobs as bytes, and the sheets P1 to P12, each with its call, its input and its whole reply.
--- After P10 stands Measure's sheet for "its total is 85"; after P12, four for refusal 12, four for both records of 9, and those of tables. Page has its own list.
+-- After P10 stands Measure's sheet for "its total is 85"; after P12, four for refusal 12, four for both records of 9, those of tables, and those of slots. Page has its own list.
 use mathlib.Core.Path.{_≡_}
 use mathlib.Core.List.{List, [], _∷_, _++_}
 use Prim.Native.Nat.{ℕ, _/_, _%_}
+use Rattle.paper.specs.declared.Work.{Work}
+use Rattle.paper.specs.declared.Work.the-variants.{Unlent, Lent}
+use Rattle.paper.specs.Job.{Job, records, slots}
 use Rattle.paper.specs.Layouts.{Badness, byWeights, byTable}
 use Rattle.paper.specs.Refusals.{refusal}
 use Rattle.paper.specs.declared.Answer.{Answer}
@@ -51,21 +54,40 @@ levelPad = padAndPort 101 10 20 0 ++ padAndPort 102 20 10 10
 abbrev pub crossingPays : List ℕ
 crossingPays = 0 ∷ 1 ∷ 1 ∷ 0 ∷ []
 
--- A sheet: call, job, weights or table, the list at entry, the answer, the list at exit.
+-- Of the second form: a pad's record, and port heights.
+abbrev pub pad : ℕ → ℕ → ℕ → List ℕ
+pad name x y = padAndPort name x y 0
+
+abbrev pub heights : List ℕ → List ℕ
+heights [] = []
+heights (h ∷ hs) = bytes4 h ++ heights hs
+
+-- A pad between two of three ports; two pads, of which the third port is best for the second.
+abbrev pub onePad : List ℕ
+onePad = pad 101 10 15
+
+abbrev pub threePorts : List ℕ
+threePorts = heights (0 ∷ 10 ∷ 20 ∷ [])
+
+abbrev pub twoPads : List ℕ
+twoPads = pad 101 10 0 ++ pad 102 20 30
+
+-- A sheet: call, job, weights or table, the work list's length, the list at entry, the answer, the list at exit.
 pub data Call : Type 0 where
   First Next Measure : Call
 
 pub record Sheet : Type 0 where
   pub call : Call
-  pub job : List ℕ
+  pub job : Job
   pub bad : Badness
+  pub work : Work
   pub before : List ℕ
   pub answer : Answer
   pub after : List ℕ
 
 abbrev pub AllowedBy : Call → Sheet → Type 0
-AllowedBy First s = FirstPromise (s .job) (s .bad) (s .before) (number (s .answer)) (s .after)
-AllowedBy Next s = NextPromise (s .job) (s .bad) (s .before) (number (s .answer)) (s .after)
+AllowedBy First s = FirstPromise (s .job) (s .bad) (s .work) (s .before) (number (s .answer)) (s .after)
+AllowedBy Next s = NextPromise (s .job) (s .bad) (s .work) (s .before) (number (s .answer)) (s .after)
 AllowedBy Measure s = MeasurePromise (s .job) (s .bad) (s .before) (number (s .answer)) × (s .after ≡ s .before)
 
 -- The call's promise allows this reply.
@@ -78,10 +100,17 @@ Each P [] = Unit {0}
 Each P (s ∷ ss) = P s × Each P ss
 
 abbrev pub sheet : Call → List ℕ → ℕ → ℕ → List ℕ → Answer → List ℕ → Sheet
-sheet call job lw bw before answer after = record { call = call; job = job; bad = byWeights lw bw; before = before; answer = answer; after = after }
+sheet call bytes lw bw before answer after =
+    record { call = call; job = records bytes; bad = byWeights lw bw; work = Unlent; before = before; answer = answer; after = after }
 
 abbrev pub tableSheet : Call → List ℕ → List ℕ → List ℕ → Answer → List ℕ → Sheet
-tableSheet call job figures before answer after = record { call = call; job = job; bad = byTable figures; before = before; answer = answer; after = after }
+tableSheet call bytes figures before answer after =
+    record { call = call; job = records bytes; bad = byTable figures; work = Unlent; before = before; answer = answer; after = after }
+
+-- of the second form, with a work list of so many numbers
+abbrev pub slotSheet : Call → List ℕ → List ℕ → ℕ → ℕ → ℕ → List ℕ → Answer → List ℕ → Sheet
+slotSheet call pads ports lw bw numbers before answer after =
+    record { call = call; job = slots pads ports; bad = byWeights lw bw; work = Lent numbers; before = before; answer = answer; after = after }
 
 abbrev pub refused : ℕ → ℕ → Answer
 refused r i = Refused (refusal r i 0)
@@ -129,13 +158,31 @@ sheets =
     tableSheet First J3 (1 ∷ 1 ∷ 1 ∷ []) (9 ∷ []) (refused 13 0) (9 ∷ []) ∷  -- 13 before 3
     tableSheet First J3 (1 ∷ 1 ∷ 1 ∷ 1 ∷ 1 ∷ []) (9 ∷ 9 ∷ []) (refused 13 0) (9 ∷ 9 ∷ []) ∷  -- longer
     tableSheet First J3 (1 ∷ 1 ∷ 1 ∷ 1 ∷ []) (9 ∷ []) (refused 3 0) (9 ∷ []) ∷
+    slotSheet First onePad threePorts 1 0 100 (9 ∷ 9 ∷ []) (Total 15) (1 ∷ 9 ∷ []) ∷  -- two ports stay free
+    slotSheet Next onePad threePorts 1 0 100 (1 ∷ []) (Total 15) (2 ∷ []) ∷
+    slotSheet Next onePad threePorts 1 0 100 (2 ∷ []) End (2 ∷ []) ∷
+    slotSheet Next onePad threePorts 1 0 100 (0 ∷ []) (refused 10 0) (0 ∷ []) ∷
+    slotSheet Measure onePad threePorts 1 0 0 (0 ∷ []) (Total 25) (0 ∷ []) ∷  -- Measure is lent no work list
+    slotSheet Measure onePad threePorts 1 0 0 (3 ∷ []) (refused 8 0) (3 ∷ []) ∷  -- the port count or more
+    slotSheet First twoPads (heights (10 ∷ 20 ∷ 30 ∷ [])) 1 0 150 (9 ∷ 9 ∷ []) (Total 40) (0 ∷ 2 ∷ []) ∷
+    slotSheet Next twoPads (heights (10 ∷ 20 ∷ 30 ∷ [])) 1 0 150 (1 ∷ 0 ∷ []) (refusedPair 1 0) (1 ∷ 0 ∷ []) ∷
+    slotSheet First twoPads (0 ∷ 0 ∷ 0 ∷ 0 ∷ 0 ∷ []) 1001 0 0 (9 ∷ []) (refused 1 0) (9 ∷ []) ∷  -- the port list's 1 before 2
+    slotSheet First twoPads (heights (10 ∷ [])) 1 0 0 (9 ∷ []) (refused 3 0) (9 ∷ []) ∷  -- 3 before 14
+    slotSheet First twoPads (heights (10 ∷ [])) 1 0 0 (9 ∷ 9 ∷ []) (refused 14 0) (9 ∷ 9 ∷ []) ∷  -- 14 before 24
+    slotSheet First (pad 101 0 15) threePorts 1 0 99 (9 ∷ []) (refused 24 0) (9 ∷ []) ∷  -- 24 before 4
+    slotSheet First (pad 101 0 15) threePorts 1 0 100 (9 ∷ []) (refused 4 0) (9 ∷ []) ∷
+    slotSheet First (padAndPort 101 10 15 1) threePorts 1 0 100 (9 ∷ []) (refused 4 0) (9 ∷ []) ∷  -- the last field is 0
+    slotSheet First (pad 101 10 0 ++ pad 102 0 30) (heights (1000001 ∷ 20 ∷ [])) 1 0 96 (9 ∷ 9 ∷ []) (refused 4 1) (9 ∷ 9 ∷ []) ∷  -- pads before ports
+    slotSheet First onePad (heights (0 ∷ 10 ∷ 1000001 ∷ [])) 1 0 100 (9 ∷ []) (refused 4 2) (9 ∷ []) ∷  -- the port's number
+    slotSheet First onePad (heights (0 ∷ 10 ∷ 10 ∷ [])) 1 0 100 (9 ∷ []) (refused 5 2) (9 ∷ []) ∷
+    slotSheet First onePad (heights (0 ∷ 10 ∷ 17 ∷ [])) 1 0 100 (9 ∷ []) (refused 12 2) (9 ∷ []) ∷
     []
 
 -- ---- Page
 
 -- Its sheet: job, weights, the given layout, the page at entry, the answer, the page at exit.
 pub record PageSheet : Type 0 where
-  pub job : List ℕ
+  pub job : Job
   pub bad : Badness
   pub given : List ℕ
   pub before : List ℕ
@@ -143,10 +190,10 @@ pub record PageSheet : Type 0 where
   pub after : List ℕ
 
 abbrev pub PageAllowed : PageSheet → Type 0
-PageAllowed s = PagePromise (s .job) (s .bad) (s .given) (s .before) (pagedNumber (s .answer)) (s .after)
+PageAllowed s = PagePromise (s .job) (s .bad) Unlent (s .given) (s .before) (pagedNumber (s .answer)) (s .after)
 
 abbrev pub pageSheet : List ℕ → ℕ → ℕ → List ℕ → List ℕ → Paged → List ℕ → PageSheet
-pageSheet job lw bw given before answer after = record { job = job; bad = byWeights lw bw; given = given; before = before; answer = answer; after = after }
+pageSheet bytes lw bw given before answer after = record { job = records bytes; bad = byWeights lw bw; given = given; before = before; answer = answer; after = after }
 
 abbrev pub pageRefused : ℕ → ℕ → Paged
 pageRefused r i = NotPaged (refusal r i 0)

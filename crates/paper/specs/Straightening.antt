@@ -5,27 +5,29 @@ use mathlib.Core.Path.{_≡_}
 use mathlib.Core.List.{List, [], _∷_}
 use Prim.Native.Nat.{ℕ, _+_, _*_, _≤_, _<_}
 use lib.IntN.{pos}
-use Rattle.paper.specs.Job.{count}
+use Rattle.paper.specs.declared.Work.{Work}
+use Rattle.paper.specs.declared.Work.the-variants.{Unlent}
+use Rattle.paper.specs.Job.{Job, records, count}
 use Rattle.paper.specs.Layouts.{Board, boardOf, held, Touching, Layout, EachOnce, Badness, byWeights, byTable, costOf, total}
 use Rattle.paper.specs.Promises.{FirstPromise}
 use Rattle.paper.specs.Sheets.{levelPad, crossingPays}
 
--- No layout at all, touching or not, has a smaller total than t: on any board, where ports may stay free. (On a job's board the layouts are the lists in
--- which each port number stands once: `layout-iff`.)
+-- No layout at all, touching or not, has a smaller total than t: on any board, where ports may stay free. (Where there are as many ports as pads, the layouts
+-- are the lists in which each port number stands once: `each-port-once`.)
 abbrev pub LeastOfAll : Board → (ℕ → ℕ → ℕ) → ℕ → Type 0
 LeastOfAll b cost t = (f : ℕ → ℕ) → Layout b f → t ≤ total b cost f
 
--- Straightening costs nothing: no list in which each port number stands once has a smaller total than First answers.
-abbrev pub CostsNothing : List ℕ → Badness → Type 0
-CostsNothing job bad = (before after : List ℕ) (t : ℕ) → FirstPromise job bad before (pos t) after
-    → (list : List ℕ) → EachOnce (boardOf job) (held list) → t ≤ total (boardOf job) (costOf (boardOf job) bad) (held list)
+-- Straightening costs nothing: no layout at all has a smaller total than First answers.
+abbrev pub CostsNothing : Job → Badness → Work → Type 0
+CostsNothing job bad work = (before after : List ℕ) (t : ℕ) → FirstPromise job bad work before (pos t) after
+    → LeastOfAll (boardOf job) (costOf (boardOf job) bad) t
 
--- It costs something: First answers t, and a list in which each port number stands once, and two leaders touch, has the smaller total u.
-pub record Costs (job : List ℕ) (bad : Badness) (t : ℕ) (list : List ℕ) (u : ℕ) : Type 0 where
-  pub first : (before : List ℕ) × (after : List ℕ) × FirstPromise job bad before (pos t) after
-  pub once : EachOnce (boardOf job) (held list)
-  pub touch : (i : ℕ) × (j : ℕ) × (j < i) × (i < count job) × Touching (boardOf job) (held list) i j
-  pub sums : u ≡ total (boardOf job) (costOf (boardOf job) bad) (held list)
+-- On records it costs something: First answers t, and a list in which each port number stands once, and two leaders touch, has the smaller total u.
+pub record Costs (bytes : List ℕ) (bad : Badness) (t : ℕ) (list : List ℕ) (u : ℕ) : Type 0 where
+  pub first : (before : List ℕ) × (after : List ℕ) × FirstPromise (records bytes) bad Unlent before (pos t) after
+  pub once : EachOnce (boardOf (records bytes)) (held list)
+  pub touch : (i : ℕ) × (j : ℕ) × (j < i) × (i < count bytes) × Touching (boardOf (records bytes)) (held list) i j
+  pub sums : u ≡ total (boardOf (records bytes)) (costOf (boardOf (records bytes)) bad) (held list)
   pub smaller : u < t
 
 -- With a bend weight it can: the lengths of the two layouts are the same together, and untouching both leaders have a bend.

@@ -1,6 +1,7 @@
 -- THE THEOREMS, in the order of the demands. Each is a closed statement about every input; nothing is assumed above it. The definitions are the files beside this
 -- one; the proofs are in laws/, for the prover. A call that keeps its promise, and the code is proved to, has all that is said here.
---     m is the number that C gets, before and after are what the lent list holds at entry and at exit, bad the weights or the table
+--     m is the number that C gets, before and after are what the lent list holds at entry and at exit, bad the weights or the table, work the length of the
+--     work list, if one is lent; a job is of either form
 use mathlib.Core.Path.{_≡_, refl}
 use mathlib.Core.Logic.{_≢_, _⊎_, _↔_}
 use mathlib.Core.Bool.{false}
@@ -15,7 +16,10 @@ use Rattle.paper.specs.declared.Answer.the-variants.{Total, End}
 use Rattle.paper.specs.declared.Two.{Two}
 use Rattle.paper.specs.declared.Three.{Three}
 use Rattle.paper.specs.declared.Drawn.the-variants.{Straight, Bent}
-use Rattle.paper.specs.Job.{count, twos, nameOf, reservedOf, xOf, yOf, portOf}
+use Rattle.paper.specs.declared.Form.the-variants.{Records, Slots}
+use Rattle.paper.specs.declared.Work.{Work}
+use Rattle.paper.specs.declared.Work.the-variants.{Unlent}
+use Rattle.paper.specs.Job.{Job, records, padsOf, count, twos, nameOf, reservedOf, xOf, yOf, portOf, lastOf, portCount}
 use Rattle.paper.specs.Leaders.{Leader, Between, Touch, lengthOf, bendsOf}
 use Rattle.paper.specs.Plane.{Line, TouchIn}
 use Rattle.paper.specs.Layouts.{Board, boardOf, held, leader, Touching, Layout, EachOnce, Untouching, sum, weighted, figure, Badness, byWeights, byTable, costOf, TableOf, total}
@@ -23,7 +27,7 @@ use Rattle.paper.specs.Layouts.{Same, Differ, Proper}
 use Rattle.paper.specs.Problem.{Best, Before, FirstBest, NextBest, LastBest, labeling, labelingOf}
 use Rattle.paper.specs.Refusals.{FirstFault, Passed, ofPairs, firstTrials, measureTrials, nextTrials, drawTrials, callsOf, Alone, FirstPair, Named}
 use Rattle.paper.specs.Canvas.{FourTimesIs, DrawnStraight, DrawnBent}
-use Rattle.paper.specs.Promises.{refusalNumber, refusalIn, Kept, coordinates, overwritten, FirstPromise, NextPromise, PagePromise, MeasurePromise, DrawPromise}
+use Rattle.paper.specs.Promises.{refusalNumber, refusalIn, Kept, coordinates, overwritten, FirstPromise, NextPromise, PagePromise, MeasurePromise, DrawPromise, WorkPromise}
 use Rattle.paper.specs.Promises.{OneReply, RefusesBy}
 use Rattle.paper.specs.Runs.{NextRun, Demand3, PageByNext, PagedOn}
 use Rattle.paper.specs.Sheets.{sample, Each, Allowed, sheets, PageAllowed, pages}
@@ -35,44 +39,59 @@ use Rattle.paper.specs.laws as by
 -- ---- DEMAND 1: every input gets an answer, and bad ones, but no others, are refused by number with the record at fault; then nothing is written
 
 -- Every input to First has exactly one reply; so has every input to Next, to Page, to Measure and to Draw.
-pub first-one-reply : (job : List ℕ) (bad : Badness) (before : List ℕ) → OneReply (FirstPromise job bad before)
-first-one-reply job bad before = (by.Met.first-met (callsOf job bad) (regular job bad) before, by.Determined.first-determined (callsOf job bad) before)
+pub first-one-reply : (job : Job) (bad : Badness) (work : Work) (before : List ℕ) → OneReply (FirstPromise job bad work before)
+first-one-reply job bad work before = (by.Met.first-met (callsOf job bad work) (regular job bad work) before, by.Determined.first-determined (callsOf job bad work) before)
 
-pub next-one-reply : (job : List ℕ) (bad : Badness) (before : List ℕ) → OneReply (NextPromise job bad before)
-next-one-reply job bad before = (by.Met.next-met (callsOf job bad) (regular job bad) before, by.Determined.next-determined (callsOf job bad) before)
+pub next-one-reply : (job : Job) (bad : Badness) (work : Work) (before : List ℕ) → OneReply (NextPromise job bad work before)
+next-one-reply job bad work before = (by.Met.next-met (callsOf job bad work) (regular job bad work) before, by.Determined.next-determined (callsOf job bad work) before)
 
-pub page-one-reply : (job : List ℕ) (bad : Badness) (given before : List ℕ) → OneReply (PagePromise job bad given before)
-page-one-reply job bad given before =
-    (by.Met.page-met (callsOf job bad) (regular job bad) given before, by.Determined.page-determined (callsOf job bad) given before)
+pub page-one-reply : (job : Job) (bad : Badness) (work : Work) (given before : List ℕ) → OneReply (PagePromise job bad work given before)
+page-one-reply job bad work given before =
+    (by.Met.page-met (callsOf job bad work) (regular job bad work) given before, by.Determined.page-determined (callsOf job bad work) given before)
 
-pub measure-one-reply : (job : List ℕ) (bad : Badness) (list : List ℕ)
+pub measure-one-reply : (job : Job) (bad : Badness) (list : List ℕ)
     → ((m : ℤ) × MeasurePromise job bad list m) × ((m n : ℤ) → MeasurePromise job bad list m → MeasurePromise job bad list n → m ≡ n)
-measure-one-reply job bad list = (by.Met.measure-met (callsOf job bad) (regular job bad) list, by.Determined.measure-determined (callsOf job bad) list)
+measure-one-reply job bad list = (by.Met.measure-met (callsOf job bad Unlent) (regular job bad Unlent) list, by.Determined.measure-determined (callsOf job bad Unlent) list)
 
 pub draw-one-reply : (job : List ℕ) (i q : ℕ) (before : List Float) → OneReply (DrawPromise job i q before)
 draw-one-reply job i q before = (by.Met.draw-met job i q before, by.Determined.draw-determined job i q before)
 
 -- First's number is a refusal exactly if one of its trials fails, and then it is that of the first that does, with its records, and the list holds what it held;
 -- so are Next's, Page's, Measure's and Draw's.
-pub first-refuses : (job : List ℕ) (bad : Badness) (before : List ℕ) (m : ℤ) (after : List ℕ) → FirstPromise job bad before m after
-    → RefusesBy (firstTrials job bad (length before)) m (after ≡ before)
-first-refuses job bad before m after = by.Numbers.first-refuses (callsOf job bad) (numbered job bad) before after m
+pub first-refuses : (job : Job) (bad : Badness) (work : Work) (before : List ℕ) (m : ℤ) (after : List ℕ) → FirstPromise job bad work before m after
+    → RefusesBy (firstTrials job bad work (length before)) m (after ≡ before)
+first-refuses job bad work before m after = by.Numbers.first-refuses (callsOf job bad work) (numbered job bad work) before after m
 
-pub next-refuses : (job : List ℕ) (bad : Badness) (before : List ℕ) (m : ℤ) (after : List ℕ) → NextPromise job bad before m after
-    → RefusesBy (nextTrials job bad before) m (after ≡ before)
-next-refuses job bad before m after = by.Numbers.next-refuses (callsOf job bad) (numbered job bad) before after m
+pub next-refuses : (job : Job) (bad : Badness) (work : Work) (before : List ℕ) (m : ℤ) (after : List ℕ) → NextPromise job bad work before m after
+    → RefusesBy (nextTrials job bad work before) m (after ≡ before)
+next-refuses job bad work before m after = by.Numbers.next-refuses (callsOf job bad work) (numbered job bad work) before after m
 
-pub page-refuses : (job : List ℕ) (bad : Badness) (given before : List ℕ) (m : ℤ) (after : List ℕ) → PagePromise job bad given before m after
-    → RefusesBy (nextTrials job bad given) m (after ≡ before)
-page-refuses job bad given before m after = by.Numbers.page-refuses (callsOf job bad) (numbered job bad) given before after m
+pub page-refuses : (job : Job) (bad : Badness) (work : Work) (given before : List ℕ) (m : ℤ) (after : List ℕ) → PagePromise job bad work given before m after
+    → RefusesBy (nextTrials job bad work given) m (after ≡ before)
+page-refuses job bad work given before m after = by.Numbers.page-refuses (callsOf job bad work) (numbered job bad work) given before after m
 
-pub measure-refuses : (job : List ℕ) (bad : Badness) (list : List ℕ) (m : ℤ) → MeasurePromise job bad list m
-    → RefusesBy (measureTrials job bad list) m (Unit {0})
-measure-refuses job bad = by.Numbers.measure-refuses (callsOf job bad) (numbered job bad)
+pub measure-refuses : (job : Job) (bad : Badness) (list : List ℕ) (m : ℤ) → MeasurePromise job bad list m
+    → RefusesBy (measureTrials job bad Unlent list) m (Unit {0})
+measure-refuses job bad = by.Numbers.measure-refuses (callsOf job bad Unlent) (numbered job bad Unlent)
 
 pub draw-refuses : (job : List ℕ) (i q : ℕ) (before : List Float) (m : ℤ) (after : List Float) → DrawPromise job i q before m after
     → RefusesBy (drawTrials job i q (length before)) m (after ≡ before)
 draw-refuses job i q before m after = by.Numbers.draw-refuses job i q before after m
+
+-- The work list that First is lent holds after every refusal what it held (02); Next's after every refusal but 10, which comes where Measure's trials are passed.
+pub first-keeps-work : (job : Job) (bad : Badness) (work : Work) (before : List ℕ) (m : ℤ) (after lent left : List ℕ) → FirstPromise job bad work before m after
+    → WorkPromise m lent left → ¬ Passed (firstTrials job bad work (length before)) → left ≡ lent
+first-keeps-work job bad work before m after lent left p w n =
+    let refused = first-refuses job bad work before m after p in
+    let low = refused .exactly .1 n in
+    w low (by.Named.first-not-ten job bad work (length before) (refusalIn m) (refused .named low .0))
+
+pub next-keeps-work : (job : Job) (bad : Badness) (work : Work) (before : List ℕ) (m : ℤ) (after lent left : List ℕ) → NextPromise job bad work before m after
+    → WorkPromise m lent left → ¬ Passed (measureTrials job bad work before) → left ≡ lent
+next-keeps-work job bad work before m after lent left p w n =
+    let refused = next-refuses job bad work before m after p in
+    let low = refused .exactly .1 (λ q. n (by.Accepted.next-measured job bad work before q)) in
+    w low (by.Named.measure-not-ten job bad work before (refusalIn m) (by.Named.not-by-ten job bad work before (refusalIn m) n (refused .named low .0)))
 
 -- ---- both records of 9 (02)
 
@@ -81,22 +100,22 @@ pub first-pair : (b : Board) (f : ℕ → ℕ) (i j : ℕ) → FirstFault (ofPai
 first-pair = by.Named.first-pair
 
 -- Measure's refusal names one record, or by 9 the first touching pair; so does Next's, and so Page's, whose trials are Next's.
-pub measure-names : (job : List ℕ) (bad : Badness) (list : List ℕ) (m : ℤ) → MeasurePromise job bad list m → m ≤ℤ negℤ (pos 65536)
+pub measure-names : (job : Job) (bad : Badness) (list : List ℕ) (m : ℤ) → MeasurePromise job bad list m → m ≤ℤ negℤ (pos 65536)
     → Named (boardOf job) (held list) (refusalIn m)
-measure-names job bad list m p l = by.Named.measure-named job bad list (refusalIn m) (measure-refuses job bad list m p .named l .0)
+measure-names job bad list m p l = by.Named.measure-named job bad Unlent list (refusalIn m) (measure-refuses job bad list m p .named l .0)
 
-pub next-names : (job : List ℕ) (bad : Badness) (before : List ℕ) (m : ℤ) (after : List ℕ) → NextPromise job bad before m after → m ≤ℤ negℤ (pos 65536)
+pub next-names : (job : Job) (bad : Badness) (work : Work) (before : List ℕ) (m : ℤ) (after : List ℕ) → NextPromise job bad work before m after → m ≤ℤ negℤ (pos 65536)
     → Named (boardOf job) (held before) (refusalIn m)
-next-names job bad before m after p l = by.Named.next-named job bad before (refusalIn m) (next-refuses job bad before m after p .named l .0)
+next-names job bad work before m after p l = by.Named.next-named job bad work before (refusalIn m) (next-refuses job bad work before m after p .named l .0)
 
-pub page-names : (job : List ℕ) (bad : Badness) (given before : List ℕ) (m : ℤ) (after : List ℕ) → PagePromise job bad given before m after → m ≤ℤ negℤ (pos 65536)
+pub page-names : (job : Job) (bad : Badness) (work : Work) (given before : List ℕ) (m : ℤ) (after : List ℕ) → PagePromise job bad work given before m after → m ≤ℤ negℤ (pos 65536)
     → Named (boardOf job) (held given) (refusalIn m)
-page-names job bad given before m after p l = by.Named.next-named job bad given (refusalIn m) (page-refuses job bad given before m after p .named l .0)
+page-names job bad work given before m after p l = by.Named.next-named job bad work given (refusalIn m) (page-refuses job bad work given before m after p .named l .0)
 
 -- First and Draw name one record; and of a refusal that does, C's number is -(65,536 × r + i).
-pub first-names : (job : List ℕ) (bad : Badness) (before : List ℕ) (m : ℤ) (after : List ℕ) → FirstPromise job bad before m after → m ≤ℤ negℤ (pos 65536)
+pub first-names : (job : Job) (bad : Badness) (work : Work) (before : List ℕ) (m : ℤ) (after : List ℕ) → FirstPromise job bad work before m after → m ≤ℤ negℤ (pos 65536)
     → Alone (refusalIn m)
-first-names job bad before m after p l = by.Named.first-named job bad (length before) (refusalIn m) (first-refuses job bad before m after p .named l .0)
+first-names job bad work before m after p l = by.Named.first-named job bad work (length before) (refusalIn m) (first-refuses job bad work before m after p .named l .0)
 
 pub draw-names : (job : List ℕ) (i q : ℕ) (before : List Float) (m : ℤ) (after : List Float) → DrawPromise job i q before m after → m ≤ℤ negℤ (pos 65536)
     → Alone (refusalIn m)
@@ -108,53 +127,55 @@ alone-number = by.Named.alone-number
 -- ---- DEMAND 2: each pad has its own port, no two leaders share a point, and no such sheet has a smaller total; total and drawn points are exact
 
 -- First answers t exactly if the input passes and the list then holds the earliest best layout, t its total, the other entries kept.
-pub first-answers : (job : List ℕ) (bad : Badness) (before : List ℕ) (t : ℕ) (after : List ℕ)
-    → FirstPromise job bad before (pos t) after
-    ↔ (Passed (firstTrials job bad (length before)) × FirstBest (labelingOf job bad) (held after)
-    × (t ≡ total (boardOf job) (costOf (boardOf job) bad) (held after)) × Kept (count job) before after)
-first-answers job bad before t after = (by.Numbers.total-told (callsOf job bad) (numbered job bad) before after t, λ a. (Total t, a, refl))
+pub first-answers : (job : Job) (bad : Badness) (work : Work) (before : List ℕ) (t : ℕ) (after : List ℕ)
+    → FirstPromise job bad work before (pos t) after
+    ↔ (Passed (firstTrials job bad work (length before)) × FirstBest (labelingOf job bad) (held after)
+    × (t ≡ total (boardOf job) (costOf (boardOf job) bad) (held after)) × Kept (boardOf job .pads) before after)
+first-answers job bad work before t after = (by.Numbers.total-told (callsOf job bad work) (numbered job bad work) before after t, λ a. (Total t, a, refl))
 
 -- Next answers t exactly if it then holds the earliest best layout after the given one, and end (-1) exactly if no best layout comes after it.
-pub next-answers : (job : List ℕ) (bad : Badness) (before : List ℕ) (t : ℕ) (after : List ℕ)
-    → NextPromise job bad before (pos t) after
-    ↔ (Passed (nextTrials job bad before) × NextBest (labelingOf job bad) (held before) (held after)
-    × (t ≡ total (boardOf job) (costOf (boardOf job) bad) (held after)) × Kept (count job) before after)
-next-answers job bad before t after = (by.Numbers.next-total-told (callsOf job bad) (numbered job bad) before after t, λ a. (Total t, a, refl))
+pub next-answers : (job : Job) (bad : Badness) (work : Work) (before : List ℕ) (t : ℕ) (after : List ℕ)
+    → NextPromise job bad work before (pos t) after
+    ↔ (Passed (nextTrials job bad work before) × NextBest (labelingOf job bad) (held before) (held after)
+    × (t ≡ total (boardOf job) (costOf (boardOf job) bad) (held after)) × Kept (boardOf job .pads) before after)
+next-answers job bad work before t after = (by.Numbers.next-total-told (callsOf job bad work) (numbered job bad work) before after t, λ a. (Total t, a, refl))
 
-pub next-ends : (job : List ℕ) (bad : Badness) (before after : List ℕ)
-    → NextPromise job bad before (negsuc 0) after
-    ↔ (Passed (nextTrials job bad before) × LastBest (labelingOf job bad) (held before) × (after ≡ before))
-next-ends job bad before after = (by.Numbers.end-told (callsOf job bad) (numbered job bad) before after, λ a. (End, a, refl))
+pub next-ends : (job : Job) (bad : Badness) (work : Work) (before after : List ℕ)
+    → NextPromise job bad work before (negsuc 0) after
+    ↔ (Passed (nextTrials job bad work before) × LastBest (labelingOf job bad) (held before) × (after ≡ before))
+next-ends job bad work before after = (by.Numbers.end-told (callsOf job bad work) (numbered job bad work) before after, λ a. (End, a, refl))
 
 -- Measure answers t exactly if the list holds an untouching layout, best or not, and t is its total.
-pub measure-answers : (job : List ℕ) (bad : Badness) (list : List ℕ) (t : ℕ)
+pub measure-answers : (job : Job) (bad : Badness) (list : List ℕ) (t : ℕ)
     → MeasurePromise job bad list (pos t)
-    ↔ (Passed (measureTrials job bad list) × (t ≡ total (boardOf job) (costOf (boardOf job) bad) (held list)))
-measure-answers job bad list t = (by.Numbers.measure-told (callsOf job bad) (numbered job bad) list t, λ a. (Total t, a, refl))
+    ↔ (Passed (measureTrials job bad Unlent list) × (t ≡ total (boardOf job) (costOf (boardOf job) bad) (held list)))
+measure-answers job bad list t = (by.Numbers.measure-told (callsOf job bad Unlent) (numbered job bad Unlent) list t, λ a. (Total t, a, refl))
 
 -- What is passed: 8 and 9 exactly if the list holds an untouching layout; Next's trials exactly if First's are, and the list holds a best one.
-pub measure-passed : (job : List ℕ) (bad : Badness) (list : List ℕ) → Passed (measureTrials job bad list)
-    ↔ (Passed (firstTrials job bad (length list)) × Untouching (boardOf job) (held list))
-measure-passed job bad list = (by.Accepted.measure-accepted job bad list, λ (p, u). by.Accepted.untouching-passed job bad list p u)
+pub measure-passed : (job : Job) (bad : Badness) (list : List ℕ) → Passed (measureTrials job bad Unlent list)
+    ↔ (Passed (firstTrials job bad Unlent (length list)) × Untouching (boardOf job) (held list))
+measure-passed job bad list = (by.Accepted.measure-accepted job bad Unlent list, λ (p, u). by.Accepted.untouching-passed job bad Unlent list p u)
 
-pub next-passed : (job : List ℕ) (bad : Badness) (list : List ℕ) → Passed (nextTrials job bad list)
-    ↔ (Passed (firstTrials job bad (length list)) × Best (labelingOf job bad) (held list))
-next-passed job bad = regular job bad .next-is
+pub next-passed : (job : Job) (bad : Badness) (work : Work) (list : List ℕ) → Passed (nextTrials job bad work list)
+    ↔ (Passed (firstTrials job bad work (length list)) × Best (labelingOf job bad) (held list))
+next-passed job bad work = regular job bad work .next-is
 
--- An accepted job has 1 to 64 records, their fields in range, pads whose x differ, and ports that rise.
-pub accepted-job : (job : List ℕ) (bad : Badness) (room : ℕ) → Passed (firstTrials job bad room)
-    → (0 < count job) × (count job ≤ 64) × Proper (boardOf job)
-    × ((i : ℕ) → i < count job → (reservedOf job i ≡ 0) × (1 ≤ xOf job i) × (xOf job i ≤ 1000000) × (natAbs (yOf job i) ≤ 1000000) × (natAbs (portOf job i) ≤ 1000000))
-accepted-job job bad room p =
-    let a = by.Accepted.first-accepted job bad room p .0 in
-    (a .some, a .few, a .proper, λ i l. (a .reserved i l, a .right i l, a .width i l, a .pad i l, a .port i l))
+-- An accepted job has 1 to 64 pads, and as many ports at least, at most 128, their fields in range, pads whose x differ, and ports that rise.
+pub accepted-job : (job : Job) (bad : Badness) (work : Work) (room : ℕ) → Passed (firstTrials job bad work room)
+    → (0 < boardOf job .pads) × (boardOf job .pads ≤ 64) × (boardOf job .ports ≤ 128) × Proper (boardOf job)
+    × ((i : ℕ) → i < boardOf job .pads
+    → (reservedOf (padsOf job) i ≡ 0) × (1 ≤ boardOf job .x i) × (boardOf job .x i ≤ 1000000) × (natAbs (boardOf job .y i) ≤ 1000000))
+    × ((q : ℕ) → q < boardOf job .ports → natAbs (boardOf job .port q) ≤ 1000000)
+accepted-job job bad work room p =
+    let a = by.Accepted.first-accepted job bad work room p .0 in
+    (a .some, a .few, a .slots-few, a .proper, (λ i l. (a .reserved i l, a .right i l, a .width i l, a .pad i l)), a .port)
 
 -- In every accepted job each port is at least 8 above those before it (02), so that ports rise.
-pub ports-apart : (job : List ℕ) (bad : Badness) (room : ℕ) → Passed (firstTrials job bad room)
-    → (a c : ℕ) → a < c → c < count job → (portOf job a +ℤ pos 8) ≤ℤ portOf job c
-ports-apart job bad room p = by.Accepted.first-accepted job bad room p .0 .spaced
+pub ports-apart : (job : Job) (bad : Badness) (work : Work) (room : ℕ) → Passed (firstTrials job bad work room)
+    → (a c : ℕ) → a < c → c < boardOf job .ports → (boardOf job .port a +ℤ pos 8) ≤ℤ boardOf job .port c
+ports-apart job bad work room p = by.Accepted.first-accepted job bad work room p .0 .spaced
 
--- In a layout each port number stands exactly once, and where each does, that is a layout (with as many ports as pads, as in every job).
+-- In a layout each port number stands exactly once, and where each does, that is a layout (with as many ports as pads, as in records).
 pub each-port-once : (b : Board) (f : ℕ → ℕ) → b .ports ≡ b .pads → Layout b f ↔ EachOnce b f
 each-port-once = by.Boards.layout-iff
 
@@ -174,41 +195,42 @@ total-is = by.Totals.total-is
 pub no-bend : (l : Leader) → (bendsOf l ≡ 0) ↔ (l .y ≡ l .port)
 no-bend = by.Totals.bends-iff
 
-pub total-bound : (job : List ℕ) (lw bw : ℕ) (list : List ℕ) → Passed (measureTrials job (byWeights lw bw) list)
+pub total-bound : (job : Job) (lw bw : ℕ) (list : List ℕ) → Passed (measureTrials job (byWeights lw bw) Unlent list)
     → total (boardOf job) (weighted (boardOf job) lw bw) (held list) ≤ 192000064000
 total-bound job lw bw list p =
-    let (accepted, fair, room) = by.Accepted.measure-facts job (byWeights lw bw) list p in
-    by.Accepted.accepted-bound job lw bw accepted (fair .0) (fair .1) (held list) (by.Accepted.measure-accepted job (byWeights lw bw) list p .1 .layout)
+    let (accepted, fair, room) = by.Accepted.measure-facts job (byWeights lw bw) Unlent list p in
+    by.Accepted.accepted-bound accepted lw bw (fair .0) (fair .1) (held list) (by.Accepted.measure-accepted job (byWeights lw bw) Unlent list p .1 .layout)
 
-pub table-bound : (job figures list : List ℕ) → ((k : ℕ) → getD figures k 0 < 4294967296) → Passed (measureTrials job (byTable figures) list)
+pub table-bound : (job : Job) (figures list : List ℕ) → ((k : ℕ) → getD figures k 0 < 4294967296) → Passed (measureTrials job (byTable figures) Unlent list)
     → total (boardOf job) (figure (boardOf job) figures) (held list) ≤ 274877906880
-table-bound job figures list narrow p = by.Bounds.measure-bounded job (byTable figures) narrow list (Total _) (p, refl)
+table-bound job figures list narrow p = by.Bounds.measure-bounded job (byTable figures) Unlent narrow list (Total _) (p, refl)
 
 -- So is each number that First, Next and Measure by such a table give to C.
-pub first-bound : (job figures before : List ℕ) (t : ℕ) (after : List ℕ) → ((k : ℕ) → getD figures k 0 < 4294967296)
-    → FirstPromise job (byTable figures) before (pos t) after → t ≤ 274877906880
-first-bound job figures before t after narrow p =
-    by.Bounds.first-bounded job (byTable figures) narrow before (Total t) after (first-answers job (byTable figures) before t after .0 p)
+pub first-bound : (job : Job) (figures : List ℕ) (work : Work) (before : List ℕ) (t : ℕ) (after : List ℕ) → ((k : ℕ) → getD figures k 0 < 4294967296)
+    → FirstPromise job (byTable figures) work before (pos t) after → t ≤ 274877906880
+first-bound job figures work before t after narrow p =
+    by.Bounds.first-bounded job (byTable figures) work narrow before (Total t) after (first-answers job (byTable figures) work before t after .0 p)
 
-pub next-bound : (job figures before : List ℕ) (t : ℕ) (after : List ℕ) → ((k : ℕ) → getD figures k 0 < 4294967296)
-    → NextPromise job (byTable figures) before (pos t) after → t ≤ 274877906880
-next-bound job figures before t after narrow p =
-    by.Bounds.next-bounded job (byTable figures) narrow before (Total t) after (next-answers job (byTable figures) before t after .0 p)
+pub next-bound : (job : Job) (figures : List ℕ) (work : Work) (before : List ℕ) (t : ℕ) (after : List ℕ) → ((k : ℕ) → getD figures k 0 < 4294967296)
+    → NextPromise job (byTable figures) work before (pos t) after → t ≤ 274877906880
+next-bound job figures work before t after narrow p =
+    by.Bounds.next-bounded job (byTable figures) work narrow before (Total t) after (next-answers job (byTable figures) work before t after .0 p)
 
-pub measure-bound : (job figures list : List ℕ) (t : ℕ) → ((k : ℕ) → getD figures k 0 < 4294967296)
+pub measure-bound : (job : Job) (figures list : List ℕ) (t : ℕ) → ((k : ℕ) → getD figures k 0 < 4294967296)
     → MeasurePromise job (byTable figures) list (pos t) → t ≤ 274877906880
-measure-bound job figures list t narrow p = by.Bounds.measure-bounded job (byTable figures) narrow list (Total t) (measure-answers job (byTable figures) list t .0 p)
+measure-bound job figures list t narrow p =
+    by.Bounds.measure-bounded job (byTable figures) Unlent narrow list (Total t) (measure-answers job (byTable figures) list t .0 p)
 
 -- Draw answers 2 exactly if the first four places then hold the two points of a leader without a bend, and 3 exactly if the six hold the three of one with a bend.
 pub draw-straight : (job : List ℕ) (i q : ℕ) (before after : List Float)
     → DrawPromise job i q before (pos 2) after
-    ↔ ((d : Two) × (Passed (drawTrials job i q (length before)) × DrawnStraight (leader (boardOf job) i q) d
+    ↔ ((d : Two) × (Passed (drawTrials job i q (length before)) × DrawnStraight (leader (boardOf (records job)) i q) d
     × (after ≡ overwritten (coordinates (Straight d)) before)))
 draw-straight job i q before after = (by.Numbers.straight-told job i q before after, λ (d, a). (Straight d, a, refl))
 
 pub draw-bent : (job : List ℕ) (i q : ℕ) (before after : List Float)
     → DrawPromise job i q before (pos 3) after
-    ↔ ((d : Three) × (Passed (drawTrials job i q (length before)) × DrawnBent (leader (boardOf job) i q) d
+    ↔ ((d : Three) × (Passed (drawTrials job i q (length before)) × DrawnBent (leader (boardOf (records job)) i q) d
     × (after ≡ overwritten (coordinates (Bent d)) before)))
 draw-bent job i q before after = (by.Numbers.bent-told job i q before after, λ (d, a). (Bent d, a, refl))
 
@@ -236,8 +258,8 @@ pub equal-figures : (b : Board) (figures : List ℕ) (c : ℕ) → ((i q : ℕ) 
     → (f : ℕ → ℕ) → Untouching b f → Best (labeling b (figure b figures)) f
 equal-figures b figures = by.Boards.equal-costs b (figure b figures)
 
-pub untouching-exists : (job : List ℕ) (bad : Badness) (room : ℕ) → Passed (firstTrials job bad room) → (f : ℕ → ℕ) × Untouching (boardOf job) f
-untouching-exists job bad = regular job bad .exists
+pub untouching-exists : (job : Job) (bad : Badness) (work : Work) (room : ℕ) → Passed (firstTrials job bad work room) → (f : ℕ → ℕ) × Untouching (boardOf job) f
+untouching-exists job bad work = regular job bad work .exists
 
 -- ---- DEMAND 3: the first sheet and then the next until the end gives every best sheet, each exactly once, in order, and no other; the end comes
 
@@ -252,29 +274,29 @@ pub before-total : (b : Board) (f g : ℕ → ℕ) → Before b f g ⊎ Same b f
 before-total = by.Order.before-total
 
 -- For every accepted job and pair of weights, or table, in the words of Runs.
-pub demand-3 : (job : List ℕ) (bad : Badness) (list : List ℕ) → Passed (firstTrials job bad (length list)) → Demand3 (callsOf job bad) list
-demand-3 job bad list = by.Demand.demand-3 (callsOf job bad) (regular job bad) list
+pub demand-3 : (job : Job) (bad : Badness) (work : Work) (list : List ℕ) → Passed (firstTrials job bad work (length list)) → Demand3 (callsOf job bad work) list
+demand-3 job bad work list = by.Demand.demand-3 (callsOf job bad work) (regular job bad work) list
 
 -- Whoever asks on from any list that Next accepts comes to the end.
-pub asking-ends : (job : List ℕ) (bad : Badness) (list : List ℕ) → Passed (nextTrials job bad list) → (ls : List (List ℕ)) × NextRun (callsOf job bad) list ls
-asking-ends job bad = by.Demand.next-ends (callsOf job bad) (regular job bad)
+pub asking-ends : (job : Job) (bad : Badness) (work : Work) (list : List ℕ) → Passed (nextTrials job bad work list) → (ls : List (List ℕ)) × NextRun (callsOf job bad work) list ls
+asking-ends job bad work = by.Demand.next-ends (callsOf job bad work) (regular job bad work)
 
 -- ---- a page by Next (02)
 
 -- What Page replies, refusals too, is what that many calls of Next give, and nothing else is.
-pub page-by-next : (job : List ℕ) (bad : Badness) (given before : List ℕ) (m : ℤ) (after : List ℕ)
-    → PagePromise job bad given before m after ↔ PageByNext (callsOf job bad) given before m after
-page-by-next job bad = by.ByNext.page-by-next (callsOf job bad) (regular job bad)
+pub page-by-next : (job : Job) (bad : Badness) (work : Work) (given before : List ℕ) (m : ℤ) (after : List ℕ)
+    → PagePromise job bad work given before m after ↔ PageByNext (callsOf job bad work) given before m after
+page-by-next job bad work = by.ByNext.page-by-next (callsOf job bad work) (regular job bad work)
 
 -- Who goes on from the last layout of a page loses no layout and meets none twice.
-pub paged-on : (job : List ℕ) (bad : Badness) (given before : List ℕ) (ms : List (List ℕ)) (k : ℕ) (after : List ℕ)
-    → NextRun (callsOf job bad) given ms → PagePromise job bad given before (pos k) after → PagedOn (callsOf job bad) given before ms k after
-paged-on job bad = by.ByNext.paged-on (callsOf job bad) (regular job bad)
+pub paged-on : (job : Job) (bad : Badness) (work : Work) (given before : List ℕ) (ms : List (List ℕ)) (k : ℕ) (after : List ℕ)
+    → NextRun (callsOf job bad work) given ms → PagePromise job bad work given before (pos k) after → PagedOn (callsOf job bad work) given before ms k after
+paged-on job bad work = by.ByNext.paged-on (callsOf job bad work) (regular job bad work)
 
 -- ---- straightening costs no length (02, No. 5)
 
 -- For bend weight 0 no layout at all, touching or not, has a smaller total than First answers; nor than a best one, on any board with enough ports.
-pub straightening-costs-no-length : (job : List ℕ) (lw : ℕ) → CostsNothing job (byWeights lw 0)
+pub straightening-costs-no-length : (job : Job) (lw : ℕ) (work : Work) → CostsNothing job (byWeights lw 0) work
 straightening-costs-no-length = by.Shortest.straightening-costs-no-length
 
 pub best-of-all : (b : Board) → Proper b → (lw : ℕ) (f : ℕ → ℕ) → Best (labeling b (weighted b lw 0)) f
@@ -291,19 +313,19 @@ tables-can-cost = by.Shortest.tables-can-cost
 -- ---- the weighted calls are the table of weighted lengths and bends (02)
 
 -- By weights that are not refused First replies as by their table, and the other way round; so do Next, Page and Measure.
-pub first-by-table : (job : List ℕ) (lw bw : ℕ) (figures : List ℕ) → lw ≤ 1000 → bw ≤ 1000 → TableOf (boardOf job) (weighted (boardOf job) lw bw) figures
-    → (before : List ℕ) (m : ℤ) (after : List ℕ) → FirstPromise job (byWeights lw bw) before m after ↔ FirstPromise job (byTable figures) before m after
+pub first-by-table : (job : Job) (lw bw : ℕ) (figures : List ℕ) → lw ≤ 1000 → bw ≤ 1000 → TableOf (boardOf job) (weighted (boardOf job) lw bw) figures
+    → (work : Work) (before : List ℕ) (m : ℤ) (after : List ℕ) → FirstPromise job (byWeights lw bw) work before m after ↔ FirstPromise job (byTable figures) work before m after
 first-by-table = by.Alike.first-by-table
 
-pub next-by-table : (job : List ℕ) (lw bw : ℕ) (figures : List ℕ) → lw ≤ 1000 → bw ≤ 1000 → TableOf (boardOf job) (weighted (boardOf job) lw bw) figures
-    → (before : List ℕ) (m : ℤ) (after : List ℕ) → NextPromise job (byWeights lw bw) before m after ↔ NextPromise job (byTable figures) before m after
+pub next-by-table : (job : Job) (lw bw : ℕ) (figures : List ℕ) → lw ≤ 1000 → bw ≤ 1000 → TableOf (boardOf job) (weighted (boardOf job) lw bw) figures
+    → (work : Work) (before : List ℕ) (m : ℤ) (after : List ℕ) → NextPromise job (byWeights lw bw) work before m after ↔ NextPromise job (byTable figures) work before m after
 next-by-table = by.Alike.next-by-table
 
-pub page-by-table : (job : List ℕ) (lw bw : ℕ) (figures : List ℕ) → lw ≤ 1000 → bw ≤ 1000 → TableOf (boardOf job) (weighted (boardOf job) lw bw) figures
-    → (given before : List ℕ) (m : ℤ) (after : List ℕ) → PagePromise job (byWeights lw bw) given before m after ↔ PagePromise job (byTable figures) given before m after
+pub page-by-table : (job : Job) (lw bw : ℕ) (figures : List ℕ) → lw ≤ 1000 → bw ≤ 1000 → TableOf (boardOf job) (weighted (boardOf job) lw bw) figures
+    → (work : Work) (given before : List ℕ) (m : ℤ) (after : List ℕ) → PagePromise job (byWeights lw bw) work given before m after ↔ PagePromise job (byTable figures) work given before m after
 page-by-table = by.Alike.page-by-table
 
-pub measure-by-table : (job : List ℕ) (lw bw : ℕ) (figures : List ℕ) → lw ≤ 1000 → bw ≤ 1000 → TableOf (boardOf job) (weighted (boardOf job) lw bw) figures
+pub measure-by-table : (job : Job) (lw bw : ℕ) (figures : List ℕ) → lw ≤ 1000 → bw ≤ 1000 → TableOf (boardOf job) (weighted (boardOf job) lw bw) figures
     → (list : List ℕ) (m : ℤ) → MeasurePromise job (byWeights lw bw) list m ↔ MeasurePromise job (byTable figures) list m
 measure-by-table = by.Alike.measure-by-table
 
@@ -311,18 +333,21 @@ measure-by-table = by.Alike.measure-by-table
 pub weighted-table : (b : Board) (lw bw : ℕ) → (figures : List ℕ) × TableOf b (weighted b lw bw) figures
 weighted-table b lw bw = by.Alike.table-of b (weighted b lw bw)
 
-pub weighted-fits : (job : List ℕ) (lw bw room : ℕ) → Passed (firstTrials job (byWeights lw bw) room)
-    → (i q : ℕ) → i < count job → q < count job → weighted (boardOf job) lw bw i q < 4294967296
-weighted-fits = by.Accepted.weighted-fits
+pub weighted-fits : (job : Job) (lw bw : ℕ) (work : Work) (room : ℕ) → Passed (firstTrials job (byWeights lw bw) work room)
+    → (i q : ℕ) → i < boardOf job .pads → q < boardOf job .ports → weighted (boardOf job) lw bw i q < 4294967296
+weighted-fits job lw bw work room p =
+    let (accepted, fair, _) = by.Accepted.first-accepted job (byWeights lw bw) work room p in
+    by.Accepted.weighted-narrow accepted lw bw (fair .0) (fair .1)
 
 -- ---- the worked sheets
 
 -- The fields of a record, byte by byte: offsets, little-endian, two's complement.
 pub fields-read : (count sample ≡ 2) × (nameOf sample 1 ≡ 513) × (reservedOf sample 1 ≡ 1027) × (xOf sample 1 ≡ 134678021)
-    × (yOf sample 1 ≡ negℤ (pos 1)) × (portOf sample 1 ≡ negℤ (pos 2147483648)) × (twos 2147483647 ≡ pos 2147483647)
+    × (yOf sample 1 ≡ negℤ (pos 1)) × (lastOf sample 1 ≡ 2147483648) × (portOf Records sample 1 ≡ negℤ (pos 2147483648))
+    × (portCount Slots sample ≡ 8) × (portOf Slots sample 7 ≡ negℤ (pos 2147483648)) × (twos 2147483647 ≡ pos 2147483647)
 fields-read = by.Vectors.fields-read
 
--- P1 to P12, and those of 02 for 12, for both records of 9 and by tables, are replies that the promises allow; so are Page's eight.
+-- P1 to P12, and those of 02 for 12, for both records of 9, by tables and on slots, are replies that the promises allow; so are Page's eight.
 pub worked : Each Allowed sheets
 worked = by.Worked.worked
 

@@ -1,4 +1,16 @@
-// The types of the calls' answers. What they mean is in specs/: start at docs/READING.md.
+// A job's forms, the work list, and the types of the calls' answers. What they mean is in specs/: start at docs/READING.md.
+
+// The two forms of a job: records that bring a pad and a port each; or pad records, and ports in a list of their own.
+pub enum Form {
+    Records,
+    Slots,
+}
+
+// The work list that a call is lent: none, or one of so many numbers.
+pub enum Work {
+    Unlent,
+    Lent(usize),
+}
 
 // Why a call refuses, by number, and the record at fault. In refusal 9 `earlier` is the smallest earlier record that it touches; in every other it is 0.
 pub struct Refusal {

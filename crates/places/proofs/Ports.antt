@@ -38,7 +38,7 @@ module _ (f : ℕ → ℕ) (l : ℕ) where
 -- ---- .. and by the list
 
 module _ {order w at : List ℕ} (m : ℕ) (P : Placed order w m at) (inside : m ≤ length order) where
-  pub low-floor : (l a : ℕ) → l ≤ length order → Lowest at m l a → a ≡ floor (portIn w) l (take m order) 0
+  pub low-floor : (l a : ℕ) → l ≤ 128 → Lowest at m l a → a ≡ floor (portIn w) l (take m order) 0
   low-floor l a h L = omega (arith, most, least (decLt 0 a))
     where
       passed : (x : ℕ) → List·Memᴰ x (take m order) → portIn w x < l → Dec (portIn w x < a) → portIn w x < a
@@ -57,8 +57,8 @@ module _ {order w at : List ℕ} (m : ℕ) (P : Placed order w m at) (inside : m
           let n = mem-take order m (getD at (a - 1) 0) s inside in
           omega (arith, e, floor-above (portIn w) l (take m order) 0 (getD order (getD at (a - 1) 0) 0) n (omega (arith, L .under)))
 
-  pub high-ceil : (h b : ℕ) → Highest at m h (length order) b → b ≡ ceil (portIn w) h (take m order) (length order)
-  high-ceil h b H = omega (arith, least, most (decLt b (length order)))
+  pub high-ceil : (p h b : ℕ) → p ≤ 128 → Highest at m h p b → b ≡ ceil (portIn w) h (take m order) p
+  high-ceil p h b few H = omega (arith, least, most (decLt b p))
     where
       passed : (x : ℕ) → List·Memᴰ x (take m order) → h ≤ portIn w x → Dec (portIn w x < b) → b ≤ portIn w x
       passed x n k (no d) = omega arith
@@ -66,15 +66,15 @@ module _ {order w at : List ℕ} (m : ℕ) (P : Placed order w m at) (inside : m
           let t = take-mem order m x n in
           absurd (omega (arith, H .free (portIn w x) k d, rw (t .2) at (P .taken (t .0) (t .1))))
 
-      least : b ≤ ceil (portIn w) h (take m order) (length order)
-      least = ceil-least (portIn w) h (take m order) (length order) b (H .inside) (λ x n k. passed x n k (decLt (portIn w x) b))
+      least : b ≤ ceil (portIn w) h (take m order) p
+      least = ceil-least (portIn w) h (take m order) p b (H .inside) (λ x n k. passed x n k (decLt (portIn w x) b))
 
-      most : Dec (b < length order) → ceil (portIn w) h (take m order) (length order) ≤ b
-      most (no d) = omega (arith, ceil-le (portIn w) h (take m order) (length order))
+      most : Dec (b < p) → ceil (portIn w) h (take m order) p ≤ b
+      most (no d) = omega (arith, ceil-le (portIn w) h (take m order) p)
       most (yes d) =
-          let s = H .stop d in let e = P .by b d s in
+          let s = H .stop d in let e = P .by b (omega arith) s in
           let n = mem-take order m (getD at b 0) s inside in
-          omega (arith, e, ceil-below (portIn w) h (take m order) (length order) (getD order (getD at b 0) 0) n (omega (arith, H .over)))
+          omega (arith, e, ceil-below (portIn w) h (take m order) p (getD order (getD at b 0) 0) n (omega (arith, H .over)))
 
 -- ---- the walks to a strip's ends: a port more is free
 
@@ -94,10 +94,10 @@ free-up at m h b k F q u v = go (decLt q b)
 
 -- ---- entering places
 
-pub entered-none : (order w : List ℕ) → length order ≤ 64 → Entered order w 0 (replicate {A = ℕ} 64 64)
-entered-none order w few = record {
-  placed = record { room = omega arith; taken = λ i h. absurd (omega arith); by = λ q l h. absurd (omega arith) };
-  free = λ q l h. rw (getD-replicate {A = ℕ} 64 q 64 0 (omega arith)) (omega arith);
+pub entered-none : (order w : List ℕ) → Entered order w 0 (replicate {A = ℕ} 128 64)
+entered-none order w = record {
+  placed = record { room = refl; taken = λ i h. absurd (omega arith); by = λ q l h. absurd (omega arith) };
+  free = λ q l h. rw (getD-replicate {A = ℕ} 128 q 64 0 l) (omega arith);
 }
 
 -- one place more, whose pad has port q in v
@@ -106,7 +106,7 @@ pub entered-more : {order w at : List ℕ} (v : List ℕ) (m q : ℕ) → m < 64
 entered-more {order} {w} {at} v m q few room E same here =
     record {
       placed = record {
-        room = omega (arith, E .placed .room, length-set at q m);
+        room = length-set at q m ∙ E .placed .room;
         taken = λ i h. taken i (decLt i m) h;
         by = λ p l h. by p l h (entry p);
       };
@@ -131,22 +131,22 @@ entered-more {order} {w} {at} v m q few room E same here =
     taken i (yes d) h = small (portIn v (getD order i 0)) (rw (← same i d) (omega (arith, E .placed .taken i d)))
     taken i (no d) h = let e : i ≡ m = omega arith in rw (e, here, getD-set-same at q m 0 room) (omega arith)
 
-    old : (p : ℕ) → p < length order → getD at p 0 < m + 1 → Dec (getD at p 0 < m) → getD at p 0 < m
+    old : (p : ℕ) → p < 128 → getD at p 0 < m + 1 → Dec (getD at p 0 < m) → getD at p 0 < m
     old p l h (yes d) = d
     old p l h (no d) = absurd (omega (arith, E .free p l (omega arith)))
 
-    by : (p : ℕ) → p < length order → getD (set at q m) p 0 < m + 1 → ((p ≡ q) × (getD (set at q m) p 0 ≡ m)) ⊎ (getD (set at q m) p 0 ≡ getD at p 0)
+    by : (p : ℕ) → p < 128 → getD (set at q m) p 0 < m + 1 → ((p ≡ q) × (getD (set at q m) p 0 ≡ m)) ⊎ (getD (set at q m) p 0 ≡ getD at p 0)
         → portIn v (getD order (getD (set at q m) p 0) 0) ≡ p
     by p l h (inl e) = rw (e .1) (here ∙ sym (e .0))
     by p l h (inr e) = let o = old p l (rw e at h) (decLt (getD at p 0) m) in rw e (sym (same (getD at p 0) o) ∙ E .placed .by p l o)
 
-    free : (p : ℕ) → p < length order → m + 1 ≤ getD (set at q m) p 0 → ((p ≡ q) × (getD (set at q m) p 0 ≡ m)) ⊎ (getD (set at q m) p 0 ≡ getD at p 0)
+    free : (p : ℕ) → p < 128 → m + 1 ≤ getD (set at q m) p 0 → ((p ≡ q) × (getD (set at q m) p 0 ≡ m)) ⊎ (getD (set at q m) p 0 ≡ getD at p 0)
         → 64 ≤ getD (set at q m) p 0
     free p l h (inl e) = absurd (omega (arith, e .1))
     free p l h (inr e) = rw e (E .free p l (let k = rw e at h in omega arith))
 
 -- In a layout whose ports differ, the list of all places is one of the first m.
-pub placed-before : {order w at : List ℕ} (m : ℕ) → m ≤ length order → ((i : ℕ) → i < length order → portIn w (getD order i 0) < length order)
+pub placed-before : {order w at : List ℕ} (m : ℕ) → m ≤ length order → ((i : ℕ) → i < length order → portIn w (getD order i 0) < 128)
     → ((i k : ℕ) → i < length order → k < length order → portIn w (getD order i 0) ≡ portIn w (getD order k 0) → i ≡ k)
     → Placed order w (length order) at → Placed order w m at
 placed-before {order} {w} {at} m inside ports apart P = record {

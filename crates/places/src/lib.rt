@@ -1,5 +1,5 @@
 // Which ports the pads at the first places have, and the strip of ports that they leave to the next pad. `order` has the record
-// numbers, rightmost pad first; `at` has for each port the place of its pad.
+// numbers, rightmost pad first; `at` has for each of 128 ports the place of its pad.
 ghost use mathlib.Core.Path.{_≡_};
 ghost use Prim.Native.Nat.{_≤_, _<_};
 ghost use lib.ListN.{length};
@@ -40,13 +40,13 @@ pub fn low(at: &[u8], l: usize, m: usize) -> usize
     a
 }
 
-// The port after its last, of n ports with h at the pad's height or below: up to the nearest such port.
-pub fn high(at: &[u8], h: usize, m: usize, n: usize) -> usize
-    requires { ⌜ (h ≤ n) × (n ≤ length (now at)) ⌝ }
-    ensures { λ b. ⌜ Highest (now (at .entry)) m h n b ⌝ }
+// The port after its last, of p ports with h at the pad's height or below: up to the nearest such port.
+pub fn high(at: &[u8], h: usize, m: usize, p: usize) -> usize
+    requires { ⌜ (h ≤ p) × (p ≤ length (now at)) ⌝ }
+    ensures { λ b. ⌜ Highest (now (at .entry)) m h p b ⌝ }
 {
     let mut b = h;
-    while b < n {
+    while b < p {
         if (at[b] as usize) < m {
             return b;
         }

@@ -1,6 +1,5 @@
 -- What follows from the definitions.
 use mathlib.Core.Path.{_≡_, ap, sym, subst, _∙_}
-use mathlib.Core.Logic.{inl, inr}
 use mathlib.Core.List.{List}
 use Prim.Native.Nat.{ℕ, _+_, _≤_}
 use native.Mathlib.Omega.{arith}
@@ -11,13 +10,15 @@ use borrow.Author.Tests.{eq-eqb, ne-eqb}
 use Rattle.paper.specs.declared.Refusal.{Refusal}
 use Rattle.paper.specs.declared.Answer.{Answer}
 use Rattle.paper.specs.declared.Answer.the-variants.{Total, End, Refused}
-use Rattle.paper.specs.Job.{count, nameOf}
+use Rattle.paper.specs.declared.Work.the-variants.{Unlent}
+use Rattle.paper.specs.Job.{records, count, nameOf}
 use Rattle.paper.specs.Leaders.{lengthOf, bendsOf}
 use Rattle.paper.specs.Layouts.{byWeights, boardOf, leader, held}
-use Rattle.paper.specs.Refusals.{BadWeight, Passed, measureTrials, callsOf}
+use Rattle.paper.specs.Refusals.{Passed, measureTrials, callsOf}
 use Rattle.paper.specs.Promises.{FirstAnswers}
 use Rattle.paper.specs.laws.Totals.{totalOf, total-is}
-use Rattle.paper.specs.laws.Accepted.{untouching-passed}
+use Rattle.paper.specs.laws.Decided.{first-parts}
+use Rattle.paper.specs.laws.Accepted.{fair-iff, first-accepted, first-other-room, untouching-passed}
 use Rattle.paper.specs.laws.Determined.{first-answer}
 use Rattle.text.specs.Text.{bytes, Writes}
 use Rattle.text.specs.Writing.{writes-none, writes-then, writes-whole}
@@ -26,7 +27,7 @@ use Rattle.printed.specs.Printed.{field, line, lines, lengths, bends, sh
 -- THEOREM: what is printed for a job is determined.
 pub printed-one : (job s t : List ℕ) → Printed job s → Printed job t → s ≡ t
 printed-one job s t p q =
-    let (a, l) = first-answer (callsOf job (byWeights 1 0)) (replicate 64 0) (p .answer) (q .answer) (p .list) (q .list) (p .first) (q .first) in
+    let (a, l) = first-answer (callsOf (records job) (byWeights 1 0) Unlent) (replicate 64 0) (p .answer) (q .answer) (p .list) (q .list) (p .first) (q .first) in
     p .says ∙ ap (λ (m : List ℕ). told job m (p .answer)) l ∙ ap (told job (q .list)) a ∙ sym (q .says)
 
 -- THEOREM: so are its length and every byte of the list that it is printed into.
@@ -47,7 +48,7 @@ module _ (job : List ℕ) (i q name : ℕ) (e : name ≡ nameOf job i) where
 
   -- any other record has four fields.
   pub named-line : {b₀ b₁ b₂ b₃ b₄ : List ℕ} {k₀ k₁ k₂ k₃ k₄ l b : ℕ} → (name ≡ 0 → ⊥)
-      → l ≡ lengthOf (leader (boardOf job) i q) → b ≡ bendsOf (leader (boardOf job) i q)
+      → l ≡ lengthOf (leader (boardOf (records job)) i q) → b ≡ bendsOf (leader (boardOf (records job)) i q)
       → Writes b₀ k₀ (field name " ") k₁ b₁ → Writes b₁ k₁ (field q " ") k₂ b₂ → Writes b₂ k₂ (field l " ") k₃ b₃ → Writes b₃ k₃ (field b "\n") k₄ b₄
       → Writes b₀ k₀ (line job i q) k₄ b₄
   unfolding line
@@ -64,11 +65,11 @@ unfolding lines
 lines-more job list i f g = rw add-one (writes-then f g)
 
 -- First's total with the weights 1, 0 is the sum of lengths, and Measure's with 0, 1 the sum of bends.
-lengths-are : (job list : List ℕ) (t : ℕ) → t ≡ totalOf job (byWeights 1 0) list → t ≡ lengths job list
-lengths-are job list t e = omega (arith, total-is (boardOf job) 1 0 (held list))
+lengths-are : (job list : List ℕ) (t : ℕ) → t ≡ totalOf (boardOf (records job)) (byWeights 1 0) list → t ≡ lengths job list
+lengths-are job list t e = omega (arith, total-is (boardOf (records job)) 1 0 (held list))
 
-pub bends-are : (job list : List ℕ) (t : ℕ) → t ≡ totalOf job (byWeights 0 1) list → t ≡ bends job list
-bends-are job list t e = omega (arith, total-is (boardOf job) 0 1 (held list))
+pub bends-are : (job list : List ℕ) (t : ℕ) → t ≡ totalOf (boardOf (records job)) (byWeights 0 1) list → t ≡ bends job list
+bends-are job list t e = omega (arith, total-is (boardOf (records job)) 0 1 (held list))
 
 -- The whole sheet: the lines, and then the sums.
 pub sheet-written : (job list : List ℕ) {b₀ b₁ b₂ b₃ b₄ : List ℕ} {k₀ k₁ k₂ k₃ k₄ l b : ℕ} → l ≡ lengths job list → b ≡ bends job list
@@ -77,17 +78,16 @@ pub sheet-written : (job list : List ℕ) {b₀ b₁ b₂ b₃ b₄ : List ℕ} 
 sheet-written job list e f w₀ w₁ w₂ w₃ = rw (← e, ← f) (writes-then (writes-then (writes-then w₀ w₁) w₂) w₃)
 
 -- From First's answer to what is printed.
-module _ (job list : List ℕ) (a : Answer) (f : FirstAnswers job (byWeights 1 0) (replicate 64 0) a list) where
+module _ (job list : List ℕ) (a : Answer) (f : FirstAnswers (records job) (byWeights 1 0) Unlent (replicate 64 0) a list) where
   -- A layout: what the sheet goes by,
-  pub first-passed : (t : ℕ) → a ≡ Total t → Passed (measureTrials job (byWeights 0 1) list) × (t ≡ lengths job list)
+  pub first-passed : (t : ℕ) → a ≡ Total t → Passed (measureTrials (records job) (byWeights 0 1) Unlent list) × (t ≡ lengths job list)
   first-passed t e =
-      let ((c1, (c2, (c3, c))), b, s, k) : FirstAnswers job (byWeights 1 0) (replicate 64 0) (Total t) list = rw e at f in
-      let l = k .long in
-      (untouching-passed job (byWeights 0 1) list (c1, (λ i l w. weights w, (λ i h. rw l (c3 i h), c))) (b .best .counts), lengths-are job list t s)
-    where
-      weights : ¬ BadWeight 0 1
-      weights (inl h) = omega arith
-      weights (inr h) = omega arith
+      let (q, b, s, k) : FirstAnswers (records job) (byWeights 1 0) Unlent (replicate 64 0) (Total t) list = rw e at f in
+      let (sizes, given, roomy, passed) = first-parts (records job) (byWeights 1 0) Unlent 64 .0 q in
+      let fair = fair-iff (boardOf (records job)) (byWeights 0 1) .1 (omega arith, omega arith) in
+      let room = first-accepted (records job) (byWeights 1 0) Unlent 64 q .2 in
+      let other = first-other-room (records job) (byWeights 0 1) Unlent 64 (length list) (first-parts (records job) (byWeights 0 1) Unlent 64 .1 (sizes, fair, roomy, passed)) (omega (arith, k .long)) in
+      (untouching-passed (records job) (byWeights 0 1) Unlent list other (b .best .counts), lengths-are job list t s)
 
   -- and its text is what is printed;
   pub prints-sheet : (t : ℕ) → a ≡ Total t → {before after : List ℕ} {r : ℕ} → Writes before 0 (sheet job list) r after

@@ -9,7 +9,8 @@ use lib.ListN.{replicate}
 use Rattle.paper.specs.declared.Refusal.{Refusal}
 use Rattle.paper.specs.declared.Answer.{Answer}
 use Rattle.paper.specs.declared.Answer.the-variants.{Total, End, Refused}
-use Rattle.paper.specs.Job.{count, nameOf}
+use Rattle.paper.specs.declared.Work.the-variants.{Unlent}
+use Rattle.paper.specs.Job.{records, count, nameOf}
 use Rattle.paper.specs.Leaders.{lengthOf, bendsOf}
 use Rattle.paper.specs.Layouts.{byWeights, boardOf, leader, held, sum}
 use Rattle.paper.specs.Promises.{FirstAnswers}
@@ -23,7 +24,7 @@ field n s = decimal n ++ bytes s
 unfoldable pub line : List ℕ → ℕ → ℕ → List ℕ
 line job i q =
     cond (eqb (nameOf job i) 0) []
-    (field (nameOf job i) " " ++ field q " " ++ field (lengthOf (leader (boardOf job) i q)) " " ++ field (bendsOf (leader (boardOf job) i q)) "\n")
+    (field (nameOf job i) " " ++ field q " " ++ field (lengthOf (leader (boardOf (records job)) i q)) " " ++ field (bendsOf (leader (boardOf (records job)) i q)) "\n")
 
 -- The lines of the first n records, in file order, for the layout that a list holds.
 unfoldable pub lines : List ℕ → List ℕ → ℕ → List ℕ
@@ -32,10 +33,10 @@ lines job list (suc n) = lines job list n ++ line job n (held list n)
 
 -- Sums of lengths and of bends: dummies are counted in both.
 abbrev pub lengths : List ℕ → List ℕ → ℕ
-lengths job list = sum (count job) (λ i. lengthOf (leader (boardOf job) i (held list i)))
+lengths job list = sum (count job) (λ i. lengthOf (leader (boardOf (records job)) i (held list i)))
 
 abbrev pub bends : List ℕ → List ℕ → ℕ
-bends job list = sum (count job) (λ i. bendsOf (leader (boardOf job) i (held list i)))
+bends job list = sum (count job) (λ i. bendsOf (leader (boardOf (records job)) i (held list i)))
 
 -- The sheet of the layout that a list holds: its lines, and then the sums. The one line of a refused job.
 abbrev pub sheet : List ℕ → List ℕ → List ℕ
@@ -54,7 +55,7 @@ told job list (Refused r) = refused r
 pub record Printed (job text : List ℕ) : Type 0 where
   pub answer : Answer
   pub list : List ℕ
-  pub first : FirstAnswers job (byWeights 1 0) (replicate 64 0) answer list
+  pub first : FirstAnswers (records job) (byWeights 1 0) Unlent (replicate 64 0) answer list
   pub says : text ≡ told job list answer
 
 -- It is printed into a lent list of bytes: it stands at the start, r is its length, and every byte after it is kept.

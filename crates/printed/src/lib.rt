@@ -2,11 +2,13 @@
 // A field has at most 21 bytes. So 5,424 are enough: 64 lines of four fields, and the last of two and a word.
 use measure::Badness;
 use paper::Answer;
+use paper::Form;
 use paper::Refusal;
+use paper::Work;
 ghost use mathlib.Core.Path.{_≡_};
 ghost use Prim.Native.Nat.{_+_, _≤_, _<_};
 ghost use lib.ListN.{length, take};
-ghost use Rattle.paper.specs.Job.{count};
+ghost use Rattle.paper.specs.Job.{records, count};
 ghost use Rattle.paper.specs.Layouts.{byWeights};
 ghost use Rattle.paper.specs.Refusals.{Passed, measureTrials};
 ghost use Rattle.text.specs.Text.{Writes};
@@ -22,8 +24,8 @@ fn line(job: &[u8], i: u16, q: u16, out: &mut [u8], at: usize) -> usize
     if name == 0 {
         return at;
     }
-    let length = measure::length(job, i, q);
-    let bends = measure::bends(job, i, q);
+    let length = measure::length(Form::Records, job, job, i, q);
+    let bends = measure::bends(Form::Records, job, job, i, q);
     let a = text::field(name as u64, b' ', out, at);
     let b = text::field(q as u64, b' ', out, a);
     let c = text::field(length, b' ', out, b);
@@ -32,7 +34,7 @@ fn line(job: &[u8], i: u16, q: u16, out: &mut [u8], at: usize) -> usize
 
 // The lines of all records.
 fn lines(job: &[u8], list: &[u16], out: &mut [u8]) -> usize
-    requires { ⌜ Passed (measureTrials (now job) (byWeights 0 1) (now list)) × (5424 ≤ length (now out)) ⌝ }
+    requires { ⌜ Passed (measureTrials (records (now job)) (byWeights 0 1) Work.Unlent (now list)) × (5424 ≤ length (now out)) ⌝ }
     ensures { λ r. ⌜ Writes (now (out .entry)) 0 (lines-of (now (job .entry)) (now (list .entry)) (count (now (job .entry)))) r (now (out .exit)) × (r ≤ 5376) ⌝ }
 {
     let n = job::records(job);
@@ -47,11 +49,18 @@ fn lines(job: &[u8], list: &[u16], out: &mut [u8]) -> usize
 
 // The sheet of a layout: its lines, and the sums of lengths and of bends. The first is First's total with the weights 1, 0.
 fn laid_out(job: &[u8], lengths: u64, list: &[u16], out: &mut [u8]) -> usize
-    requires { ⌜ Passed (measureTrials (now job) (byWeights 0 1) (now list)) × (lengths ≡ lengths-of (now job) (now list)) × (5424 ≤ length (now out)) ⌝ }
+    requires { ⌜ Passed (measureTrials (records (now job)) (byWeights 0 1) Work.Unlent (now list)) × (lengths ≡ lengths-of (now job) (now list)) × (5424 ≤ length (now out)) ⌝ }
     ensures { λ r. ⌜ Writes (now (out .entry)) 0 (sheet-of (now (job .entry)) (now (list .entry))) r (now (out .exit)) × (r ≤ 5424) ⌝ }
 {
     let none = [0u32; 1];
-    let bends = measure::total(Badness::Weights(0, 1), job, &none[..0], list);
+    let bends = measure::total(
+        Badness::Weights(0, 1),
+        Form::Records,
+        job,
+        job,
+        &none[..0],
+        list,
+    );
     let end = lines(job, list, out);
     let a = text::word(b"total ", out, end);
     let b = text::field(lengths, b' ', out, a);

@@ -1,12 +1,12 @@
 // The earliest best layout, the step to the next one, and whether a layout is best, over plain numbers: the lists are those
 // of the crate `choices`, `known` the walk's memory.
 ghost use mathlib.Core.Path.{_≡_};
-ghost use Prim.Native.Nat.{_≤_};
+ghost use Prim.Native.Nat.{_^_, _≤_, _<_};
 ghost use lib.ListN.{length};
-ghost use Rattle.totals.specs.Cell.{leastOf};
-ghost use Rattle.choices.specs.Choices.{ProperLists, Working, Begun};
+ghost use Rattle.choices.specs.Source.{source, gridOn, Right};
+ghost use Rattle.choices.specs.Choices.{Working, Begun};
 ghost use Rattle.choices.specs.Memory.{Memory};
-ghost use Rattle.steps.specs.Steps.{totalIn, Measurable, UntouchingLayout, Solvable, BestLayout, FilledUp, FirstIs, StepIs, SaysWhether};
+ghost use Rattle.steps.specs.Steps.{totalIn, IsLeast, UntouchingLayout, Solvable, BestLayout, FilledUp, FirstIs, StepIs, SaysWhether};
 
 // From place `from` on gives each pad the smallest locally best port.
 fn fill_on(
@@ -16,24 +16,26 @@ fn fill_on(
     cost: &[u32],
     lo: &[u8],
     hi: &[u8],
+    p: usize,
     out: &mut [u16],
     known: &mut [u8],
     from: usize,
 )
-    requires { ⌜ Working (now order) (now cost) (now lo) (now hi) (now heads) (now totals) (now out) ⌝ }
+    requires { ⌜ Working (now order) (source (now heads) (now totals) (now cost) p) (now lo) (now hi) (now out) ⌝ }
     requires { ⌜ from ≤ length (now order) ⌝ }
-    requires { ⌜ Begun (now order) (now cost) (now lo) (now hi) (now out) from ⌝ }
-    requires { ⌜ Memory (now order) (now cost) (now lo) (now hi) (now out) from (now known) ⌝ }
-    ensures { λ _. ⌜ FilledUp (now (order .entry)) (now (cost .entry)) (now (lo .entry)) (now (hi .entry)) (now (out .entry)) (now (out .exit)) from ⌝ }
-    ensures { λ _. ⌜ Memory (now (order .entry)) (now (cost .entry)) (now (lo .entry)) (now (hi .entry)) (now (out .exit)) (length (now (order .entry)))
-        (now (known .exit)) ⌝ }
+    requires { ⌜ Begun (now order) (source (now heads) (now totals) (now cost) p) (now lo) (now hi) (now out) from ⌝ }
+    requires { ⌜ Memory (now order) (source (now heads) (now totals) (now cost) p) (now lo) (now hi) (now out) from (now known) ⌝ }
+    ensures { λ _. ⌜ FilledUp (now (order .entry)) (source (now (heads .entry)) (now (totals .entry)) (now (cost .entry)) p) (now (lo .entry)) (now (hi .entry))
+        (now (out .entry)) (now (out .exit)) from ⌝ }
+    ensures { λ _. ⌜ Memory (now (order .entry)) (source (now (heads .entry)) (now (totals .entry)) (now (cost .entry)) p) (now (lo .entry)) (now (hi .entry))
+        (now (out .exit)) (length (now (order .entry))) (now (known .exit)) ⌝ }
 {
-    let mut at = [64u8; 64];
+    let mut at = [64u8; 128];
     places::place(order, out, from, &mut at);
     let mut m = from;
     while m < order.len() {
         let j = order[m] as usize;
-        let port = choices::lowest(heads, totals, order, cost, lo, hi, out, &at, known, m);
+        let port = choices::lowest(heads, totals, order, cost, lo, hi, p, out, &at, known, m);
         out[j] = (port % 65536) as u16;
         at[port] = m as u8;
         m += 1;
@@ -50,58 +52,116 @@ pub fn step(
     cost: &[u32],
     lo: &[u8],
     hi: &[u8],
+    p: usize,
     out: &mut [u16],
     known: &mut [u8],
 ) -> bool
-    requires { ⌜ Working (now order) (now cost) (now lo) (now hi) (now heads) (now totals) (now out) ⌝ }
-    requires { ⌜ BestLayout (now order) (now cost) (now lo) (now hi) (now out) ⌝ }
-    requires { ⌜ Memory (now order) (now cost) (now lo) (now hi) (now out) (length (now order)) (now known) ⌝ }
-    ensures { λ r. ⌜ StepIs (now (order .entry)) (now (cost .entry)) (now (lo .entry)) (now (hi .entry)) (now (out .entry)) (now (out .exit)) r ⌝ }
-    ensures { λ _. ⌜ Memory (now (order .entry)) (now (cost .entry)) (now (lo .entry)) (now (hi .entry)) (now (out .exit)) (length (now (order .entry)))
-        (now (known .exit)) ⌝ }
+    requires { ⌜ Working (now order) (source (now heads) (now totals) (now cost) p) (now lo) (now hi) (now out) ⌝ }
+    requires { ⌜ BestLayout (now order) (source (now heads) (now totals) (now cost) p) (now lo) (now hi) (now out) ⌝ }
+    requires { ⌜ Memory (now order) (source (now heads) (now totals) (now cost) p) (now lo) (now hi) (now out) (length (now order)) (now known) ⌝ }
+    ensures { λ r. ⌜ StepIs (now (order .entry)) (source (now (heads .entry)) (now (totals .entry)) (now (cost .entry)) p) (now (lo .entry)) (now (hi .entry))
+        (now (out .entry)) (now (out .exit)) r ⌝ }
+    ensures { λ _. ⌜ Memory (now (order .entry)) (source (now (heads .entry)) (now (totals .entry)) (now (cost .entry)) p) (now (lo .entry)) (now (hi .entry))
+        (now (out .exit)) (length (now (order .entry))) (now (known .exit)) ⌝ }
 {
-    let mut at = [64u8; 64];
+    let mut at = [64u8; 128];
     places::place(order, out, order.len(), &mut at);
     let mut m = order.len();
     while 0 < m {
         m -= 1;
         let j = order[m] as usize;
         let from = places::wide(out[j]) + 1;
-        let q = choices::above(heads, totals, order, cost, lo, hi, out, &at, known, m, from);
-        if q < 64 {
+        let q = choices::above(
+            heads,
+            totals,
+            order,
+            cost,
+            lo,
+            hi,
+            p,
+            out,
+            &at,
+            known,
+            m,
+            from,
+        );
+        if q < 128 {
             out[j] = (q % 65536) as u16;
-            fill_on(heads, totals, order, cost, lo, hi, out, known, m + 1);
+            fill_on(heads, totals, order, cost, lo, hi, p, out, known, m + 1);
             return true;
         }
     }
     false
 }
 
-// The total of a layout.
-fn total_of(order: &[u8], cost: &[u32], w: &[u16]) -> u64
-    requires { ⌜ Measurable (now order) (now cost) (now w) ⌝ }
-    ensures { λ r. ⌜ r ≡ totalIn (now (order .entry)) (now (cost .entry)) (now (w .entry)) ⌝ }
+// The figure of pad j on port q.
+fn figure(
+    heads: &[u8],
+    totals: &[u64],
+    order: &[u8],
+    cost: &[u32],
+    lo: &[u8],
+    hi: &[u8],
+    p: usize,
+    j: usize,
+    q: usize,
+) -> u64
+    requires { ⌜ Right (now order) (source (now heads) (now totals) (now cost) p) (now lo) (now hi) × (j < length (now order)) × (q < p) ⌝ }
+    ensures { λ r. ⌜ (r ≡ gridOn (now (order .entry)) (source (now (heads .entry)) (now (totals .entry)) (now (cost .entry)) p) (now (lo .entry))
+        (now (hi .entry)) .cost j q) × (r < 2 ^ 32) ⌝ }
 {
-    let n = order.len();
+    if heads.len() == 0 {
+        slots::figure(totals, order.len(), p, j, q)
+    } else {
+        totals::figure(cost, order.len(), j, q)
+    }
+}
+
+// The total of a layout.
+fn total_of(
+    heads: &[u8],
+    totals: &[u64],
+    order: &[u8],
+    cost: &[u32],
+    lo: &[u8],
+    hi: &[u8],
+    p: usize,
+    w: &[u16],
+) -> u64
+    requires { ⌜ Working (now order) (source (now heads) (now totals) (now cost) p) (now lo) (now hi) (now w) ⌝ }
+    requires { ⌜ UntouchingLayout (now order) (source (now heads) (now totals) (now cost) p) (now lo) (now hi) (now w) ⌝ }
+    ensures { λ r. ⌜ r ≡ totalIn (now (order .entry)) (source (now (heads .entry)) (now (totals .entry)) (now (cost .entry)) p) (now (lo .entry))
+        (now (hi .entry)) (now (w .entry)) ⌝ }
+{
     let mut sum: u64 = 0;
-    let mut k = n;
+    let mut k = order.len();
     while 0 < k {
         k -= 1;
         let j = order[k] as usize;
-        sum += totals::figure(cost, n, j, places::wide(w[j]));
+        sum += figure(heads, totals, order, cost, lo, hi, p, j, places::wide(w[j]));
     }
     sum
 }
 
-// An untouching layout is best exactly if its total is the table's.
-pub fn is_best(order: &[u8], cost: &[u32], lo: &[u8], hi: &[u8], w: &[u16], least: u64) -> bool
-    requires { ⌜ ProperLists (now order) (now cost) (now lo) (now hi) ⌝ }
-    requires { ⌜ length (now order) ≤ length (now w) ⌝ }
-    requires { ⌜ UntouchingLayout (now order) (now cost) (now lo) (now hi) (now w) ⌝ }
-    requires { ⌜ least ≡ leastOf (now order) (now cost) (now lo) (now hi) ⌝ }
-    ensures { λ r. ⌜ SaysWhether r (BestLayout (now (order .entry)) (now (cost .entry)) (now (lo .entry)) (now (hi .entry)) (now (w .entry))) ⌝ }
+// An untouching layout is best exactly if its total is the least.
+pub fn is_best(
+    heads: &[u8],
+    totals: &[u64],
+    order: &[u8],
+    cost: &[u32],
+    lo: &[u8],
+    hi: &[u8],
+    p: usize,
+    w: &[u16],
+    least: u64,
+) -> bool
+    requires { ⌜ Working (now order) (source (now heads) (now totals) (now cost) p) (now lo) (now hi) (now w) ⌝ }
+    requires { ⌜ UntouchingLayout (now order) (source (now heads) (now totals) (now cost) p) (now lo) (now hi) (now w) ⌝ }
+    requires { ⌜ IsLeast (now order) (source (now heads) (now totals) (now cost) p) (now lo) (now hi) least ⌝ }
+    ensures { λ r. ⌜ SaysWhether r (BestLayout (now (order .entry)) (source (now (heads .entry)) (now (totals .entry)) (now (cost .entry)) p) (now (lo .entry))
+        (now (hi .entry)) (now (w .entry))) ⌝ }
 {
-    total_of(order, cost, w) == least
+    total_of(heads, totals, order, cost, lo, hi, p, w) == least
 }
 
 // The earliest best layout.
@@ -112,12 +172,14 @@ pub fn first(
     cost: &[u32],
     lo: &[u8],
     hi: &[u8],
+    p: usize,
     out: &mut [u16],
 )
-    requires { ⌜ Working (now order) (now cost) (now lo) (now hi) (now heads) (now totals) (now out) ⌝ }
-    requires { ⌜ Solvable (now order) (now cost) (now lo) (now hi) ⌝ }
-    ensures { λ _. ⌜ FirstIs (now (order .entry)) (now (cost .entry)) (now (lo .entry)) (now (hi .entry)) (now (out .entry)) (now (out .exit)) ⌝ }
+    requires { ⌜ Working (now order) (source (now heads) (now totals) (now cost) p) (now lo) (now hi) (now out) ⌝ }
+    requires { ⌜ Solvable (now order) (source (now heads) (now totals) (now cost) p) (now lo) (now hi) ⌝ }
+    ensures { λ _. ⌜ FirstIs (now (order .entry)) (source (now (heads .entry)) (now (totals .entry)) (now (cost .entry)) p) (now (lo .entry)) (now (hi .entry))
+        (now (out .entry)) (now (out .exit)) ⌝ }
 {
     let mut known = [0u8; 256];
-    fill_on(heads, totals, order, cost, lo, hi, out, &mut known, 0);
+    fill_on(heads, totals, order, cost, lo, hi, p, out, &mut known, 0);
 }

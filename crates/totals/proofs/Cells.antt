@@ -16,11 +16,11 @@ use Rattle.pads.specs.Pads.{Sides, fits, bit, padsIn, sidesOf, Pads, Head}
 use Rattle.totals.specs.Strip.{partedWithin, bestWithin, localWithin}
 use Rattle.totals.specs.Cell.{noTotal, figures, choice, place, coded, Sizes, Strip, Valued, Cell, Parts, Port, sumAt, portTotal}
 use Rattle.pads.specs.Counts.{le-or-lt, bit-le, bit-true, count-step, count-drop, count-end}
-use Rattle.totals.proofs.Parted.{parted-least, parts-most, parted-less}
+use Rattle.totals.specs.Parted.{parted-least, parts-most, parted-less}
 use Rattle.totals.proofs.Corners.{corner-top}
-use Rattle.totals.proofs.Masks.{add, best-in, local-parted}
+use Rattle.totals.specs.Masks.{add, best-in, local-parted}
 use Rattle.totals.proofs.Ports.{Lower}
-use Rattle.totals.proofs.Totals.{local-none, crowded, same-from, idle, Capped, most-best, coded-none, coded-some, local-most, coded-least}
+use Rattle.totals.specs.Totals.{local-none, crowded, same-from, idle, Capped, most-best, coded-none, coded-some, local-most, coded-least}
 
 -- ---- cells
 
@@ -247,7 +247,7 @@ kept-cell S C level cheap order a b h v r b64 is e = rw e (go (eqb v noTotal) re
         let z : v ≡ noTotal = eqb-true v noTotal e in
         record {
           top = omega arith;
-          past = λ k u kn c. coded-none (padsIn S a b (drop k order) * 2 ^ 32) (bestWithin S C (drop k order) a b) (most-best S C level cheap (drop k order) a b)
+          past = λ k u kn c. coded-none noTotal (padsIn S a b (drop k order) * 2 ^ 32) (bestWithin S C (drop k order) a b) (most-best S C level cheap (drop k order) a b)
               (omega arith) (sym (same k kn c) ∙ z);
           full = λ s es. absurd (omega arith);
           value = λ s es. absurd (omega arith);
@@ -259,6 +259,6 @@ kept-cell S C level cheap order a b h v r b64 is e = rw e (go (eqb v noTotal) re
           top = H .top;
           past = λ k u kn c. absurd (let w = H .past k u kn in omega arith);
           full = H .at;
-          value = λ s es. coded-some (bestWithin S C (drop s order) a b) (λ n. ne (is .value s es ∙ n)) ∙ ap {B = Least} some (sym (is .value s es));
+          value = λ s es. coded-some noTotal (bestWithin S C (drop s order) a b) (λ n. ne (is .value s es ∙ n)) ∙ ap {B = Least} some (sym (is .value s es));
           nothing = is .nothing;
         }

@@ -21,13 +21,17 @@ figures cs n j q = some (getD cs (j * n + q) 0)
 abbrev pub gridOf : List ℕ → List ℕ → List ℕ → List ℕ → Grid
 gridOf order cs lo hi = grid (sidesOf lo hi) (figures cs (length order))
 
--- a total as the code holds it: the largest u64 stands for none
+-- a total as code holds it that lets z stand for none
+abbrev pub codedBy : ℕ → Least → ℕ
+codedBy z none = z
+codedBy z (some v) = v
+
+-- here it is the largest u64
 abbrev pub noTotal : ℕ
 noTotal = 18446744073709551615
 
 abbrev pub coded : Least → ℕ
-coded none = noTotal
-coded (some v) = v
+coded o = codedBy noTotal o
 
 -- the least total of all pads on all ports, as the code holds it
 abbrev pub leastOf : List ℕ → List ℕ → List ℕ → List ℕ → ℕ

@@ -32,7 +32,8 @@ pub fn figure(cost: &[u32], n: usize, j: usize, q: usize) -> u64
     cost[j * n + q] as u64
 }
 
-fn smaller(x: u64, y: u64) -> u64
+// The smaller of two totals.
+pub fn smaller(x: u64, y: u64) -> u64
     ensures { λ r. ⌜ r ≡ min x y ⌝ }
 {
     if x < y { x } else { y }

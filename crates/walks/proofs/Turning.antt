@@ -8,6 +8,7 @@ use native.Mathlib.Nat.{mul-le-mul-left, suc-mul}
 use native.Mathlib.Numerals.{add-one}
 use native.Mathlib.Omega.{arith}
 use lib.ListN.{length}
+use Rattle.choices.specs.Source.{Source}
 use Rattle.choices.specs.Choices.{Working}
 use Rattle.steps.specs.Steps.{BestLayout, NextIs, EndIs}
 use Rattle.steps.proofs.Filling.{working-with}
@@ -17,54 +18,54 @@ use Rattle.walks.specs.declared.Start.the-variants.{First, Given}
 use Rattle.walks.specs.Walks.{listRules, Begins, SteppedOn, Turned}
 
 -- A walk goes on from its start.
-pub began : {order cs lo hi hs ts w : List ℕ} (start : Start) (l : List ℕ) → Working order cs lo hi hs ts w → Begins (listRules order cs lo hi) start w l true
-    → Working order cs lo hi hs ts l × BestLayout order cs lo hi l
+pub began : {order : List ℕ} {T : Source} {lo hi w : List ℕ} (start : Start) (l : List ℕ) → Working order T lo hi w
+    → Begins (listRules order T lo hi) start w l true → Working order T lo hi l × BestLayout order T lo hi l
 began First l W b = (working-with l W (b .1 .kept .long), b .1 .earliest .has)
 began Given l W b = rw (b .1) (W, b .0)
 
-module _ (order cs lo hi l before : List ℕ) where
+module _ (order : List ℕ) (T : Source) (lo hi l before : List ℕ) where
   -- From the layout of l on, k layouts are on the page, up to place `at`, and w holds the last, which is best.
   pub record Turning (w page : List ℕ) (at k : ℕ) : Type 0 where
-    pub steps : SteppedOn (listRules order cs lo hi) (length order) l before w page k
-    pub best : BestLayout order cs lo hi w
+    pub steps : SteppedOn (listRules order T lo hi) (length order) l before w page k
+    pub best : BestLayout order T lo hi w
     pub place : at ≡ k * length order
     pub inside : at ≤ length before
     pub long : length w ≡ length l
     pub wide : length page ≡ length before
 
-  pub turning-none : BestLayout order cs lo hi l → Turning l before 0 0
+  pub turning-none : BestLayout order T lo hi l → Turning l before 0 0
   unfolding SteppedOn
   turning-none s = record { steps = (refl, refl); best = s; place = omega arith; inside = omega arith; long = refl; wide = refl }
 
-  module _ (w page : List ℕ) (at k : ℕ) (T : Turning w page at k) where
+  module _ (w page : List ℕ) (at k : ℕ) (G : Turning w page at k) where
     -- It has at least as many entries as layouts.
     pub turning-count : 0 < length order → k ≤ at
-    turning-count h = omega (arith, T .place, mul-le-mul-left {m = 1} {n = length order} k (omega arith))
+    turning-count h = omega (arith, G .place, mul-le-mul-left {m = 1} {n = length order} k (omega arith))
 
     -- A step, and its layout goes to the page.
-    pub turning-more : (v after : List ℕ) → length order ≤ length page - at → NextIs order cs lo hi w v → Copied (length order) at v page after
+    pub turning-more : (v after : List ℕ) → length order ≤ length page - at → NextIs order T lo hi w v → Copied (length order) at v page after
         → Turning v after (at + length order) (k + 1)
     unfolding SteppedOn
     turning-more v after room N C = rw (add-one k) (record {
-      steps = (w, page, T .steps, N, rw (T .place) at C);
+      steps = (w, page, G .steps, N, rw (G .place) at C);
       best = N .earliest .has .best;
-      place = omega (arith, suc-mul k (length order), T .place);
-      inside = omega (arith, T .inside, T .wide);
-      long = N .kept .long ∙ T .long;
-      wide = C .long ∙ T .wide;
+      place = omega (arith, suc-mul k (length order), G .place);
+      inside = omega (arith, G .inside, G .wide);
+      long = N .kept .long ∙ G .long;
+      wide = C .long ∙ G .wide;
     })
 
     -- No step is left, or no room.
-    pub turning-end : (v : List ℕ) → EndIs order cs lo hi w v → Turned (listRules order cs lo hi) (length order) l before v page k
+    pub turning-end : (v : List ℕ) → EndIs order T lo hi w v → Turned (listRules order T lo hi) (length order) l before v page k
     turning-end v E = rw (E .same) (record {
-      fit = omega (arith, T .place, T .inside);
-      steps = T .steps;
+      fit = omega (arith, G .place, G .inside);
+      steps = G .steps;
       all = inr (record { none = E .none; same = refl });
     })
 
-    pub turning-full : length page - at < length order → Turned (listRules order cs lo hi) (length order) l before w page k
+    pub turning-full : length page - at < length order → Turned (listRules order T lo hi) (length order) l before w page k
     turning-full h = record {
-      fit = omega (arith, T .place, T .inside);
-      steps = T .steps;
-      all = inl (omega (arith, suc-mul k (length order), T .place, T .inside, T .wide));
+      fit = omega (arith, G .place, G .inside);
+      steps = G .steps;
+      all = inl (omega (arith, suc-mul k (length order), G .place, G .inside, G .wide));
     }

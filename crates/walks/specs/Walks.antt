@@ -5,8 +5,8 @@ use mathlib.Core.Bool.{Bool, true, false}
 use mathlib.Core.List.{List}
 use Prim.Native.Nat.{ℕ, zero, suc, _*_, _≤_, _<_}
 use lib.ListN.{length}
-use Rattle.totals.specs.Cell.{leastOf}
-use Rattle.steps.specs.Steps.{UntouchingLayout, Solvable, BestLayout, FirstIs, NextIs, EndIs, SaysWhether}
+use Rattle.choices.specs.Source.{Source}
+use Rattle.steps.specs.Steps.{IsLeast, UntouchingLayout, Solvable, BestLayout, FirstIs, NextIs, EndIs, SaysWhether}
 use Rattle.numbers.specs.Copies.{Copied}
 use Rattle.walks.specs.declared.Start.{Start}
 use Rattle.walks.specs.declared.Start.the-variants.{First, Given}
@@ -22,19 +22,19 @@ pub record Rules : Type 1 where
   pub Least : (t : ℕ) → Type 0
 
 -- The rules of the lists.
-abbrev pub listRules : List ℕ → List ℕ → List ℕ → List ℕ → Rules
-listRules order cs lo hi = record {
-  Earliest = FirstIs order cs lo hi;
-  Best = BestLayout order cs lo hi;
-  Next = NextIs order cs lo hi;
-  Last = λ w. EndIs order cs lo hi w w;
-  Least = λ t. t ≡ leastOf order cs lo hi;
+abbrev pub listRules : List ℕ → Source → List ℕ → List ℕ → Rules
+listRules order T lo hi = record {
+  Earliest = FirstIs order T lo hi;
+  Best = BestLayout order T lo hi;
+  Next = NextIs order T lo hi;
+  Last = λ w. EndIs order T lo hi w w;
+  Least = IsLeast order T lo hi;
 }
 
 -- A walk can start at the earliest layout if there is one, and at a given one if that is untouching.
-abbrev pub Startable : Start → List ℕ → List ℕ → List ℕ → List ℕ → List ℕ → Type 0
-Startable First order cs lo hi w = Solvable order cs lo hi
-Startable Given order cs lo hi w = UntouchingLayout order cs lo hi w
+abbrev pub Startable : Start → List ℕ → Source → List ℕ → List ℕ → List ℕ → Type 0
+Startable First order T lo hi w = Solvable order T lo hi
+Startable Given order T lo hi w = UntouchingLayout order T lo hi w
 
 -- l holds its first layout, where w was lent; r says whether that is best.
 abbrev pub Begins : Rules → Start → List ℕ → List ℕ → Bool → Type 0

@@ -1,10 +1,10 @@
-// A walk from best layout to best layout, over plain lists: those of the crate `steps`, and the table's least total.
+// A walk from best layout to best layout, over plain lists: those of the crate `choices`, and their least total.
 ghost use mathlib.Core.Path.{_≡_};
 ghost use Prim.Native.Nat.{_+_, _≤_, _<_};
 ghost use lib.ListN.{length};
-ghost use Rattle.totals.specs.Cell.{leastOf};
+ghost use Rattle.choices.specs.Source.{source};
 ghost use Rattle.choices.specs.Choices.{Working};
-ghost use Rattle.steps.specs.Steps.{BestLayout};
+ghost use Rattle.steps.specs.Steps.{IsLeast, BestLayout};
 ghost use Rattle.numbers.specs.Copies.{Copied};
 ghost use Rattle.walks.specs.Walks.{listRules, Startable, Begins, Turned, Walks};
 
@@ -30,19 +30,22 @@ fn begin(
     cost: &[u32],
     lo: &[u8],
     hi: &[u8],
+    p: usize,
     w: &mut [u16],
     least: u64,
 ) -> bool
-    requires { ⌜ Working (now order) (now cost) (now lo) (now hi) (now heads) (now totals) (now w) ⌝ }
-    requires { ⌜ (least ≡ leastOf (now order) (now cost) (now lo) (now hi)) × Startable start (now order) (now cost) (now lo) (now hi) (now w) ⌝ }
-    ensures { λ r. ⌜ Begins (listRules (now (order .entry)) (now (cost .entry)) (now (lo .entry)) (now (hi .entry))) start (now (w .entry)) (now (w .exit)) r ⌝ }
+    requires { ⌜ Working (now order) (source (now heads) (now totals) (now cost) p) (now lo) (now hi) (now w) ⌝ }
+    requires { ⌜ IsLeast (now order) (source (now heads) (now totals) (now cost) p) (now lo) (now hi) least
+        × Startable start (now order) (source (now heads) (now totals) (now cost) p) (now lo) (now hi) (now w) ⌝ }
+    ensures { λ r. ⌜ Begins (listRules (now (order .entry)) (source (now (heads .entry)) (now (totals .entry)) (now (cost .entry)) p) (now (lo .entry))
+        (now (hi .entry))) start (now (w .entry)) (now (w .exit)) r ⌝ }
 {
     match start {
         Start::First => {
-            steps::first(heads, totals, order, cost, lo, hi, w);
+            steps::first(heads, totals, order, cost, lo, hi, p, w);
             true
         }
-        Start::Given => steps::is_best(order, cost, lo, hi, w, least),
+        Start::Given => steps::is_best(heads, totals, order, cost, lo, hi, p, w, least),
     }
 }
 
@@ -66,20 +69,21 @@ fn turn(
     cost: &[u32],
     lo: &[u8],
     hi: &[u8],
+    p: usize,
     w: &mut [u16],
     page: &mut [u16],
 ) -> u64
-    requires { ⌜ (0 < length (now order)) × Working (now order) (now cost) (now lo) (now hi) (now heads) (now totals) (now w) ⌝ }
-    requires { ⌜ BestLayout (now order) (now cost) (now lo) (now hi) (now w) ⌝ }
-    ensures { λ k. ⌜ Turned (listRules (now (order .entry)) (now (cost .entry)) (now (lo .entry)) (now (hi .entry))) (length (now (order .entry))) (now (w .entry))
-        (now (page .entry)) (now (w .exit)) (now (page .exit)) k ⌝ }
+    requires { ⌜ (0 < length (now order)) × Working (now order) (source (now heads) (now totals) (now cost) p) (now lo) (now hi) (now w) ⌝ }
+    requires { ⌜ BestLayout (now order) (source (now heads) (now totals) (now cost) p) (now lo) (now hi) (now w) ⌝ }
+    ensures { λ k. ⌜ Turned (listRules (now (order .entry)) (source (now (heads .entry)) (now (totals .entry)) (now (cost .entry)) p) (now (lo .entry))
+        (now (hi .entry))) (length (now (order .entry))) (now (w .entry)) (now (page .entry)) (now (w .exit)) (now (page .exit)) k ⌝ }
 {
     let n = order.len();
     let mut known = [0u8; 256];
     let mut at = 0;
     let mut k = 0;
     while n <= page.len() - at {
-        if steps::step(heads, totals, order, cost, lo, hi, w, &mut known) {
+        if steps::step(heads, totals, order, cost, lo, hi, p, w, &mut known) {
             copy(w, n, page, at);
             at += n;
             k += 1;
@@ -99,19 +103,21 @@ pub fn walk(
     cost: &[u32],
     lo: &[u8],
     hi: &[u8],
+    p: usize,
     w: &mut [u16],
     page: &mut [u16],
     least: u64,
 ) -> Walked
-    requires { ⌜ (0 < length (now order)) × Working (now order) (now cost) (now lo) (now hi) (now heads) (now totals) (now w) ⌝ }
-    requires { ⌜ (least ≡ leastOf (now order) (now cost) (now lo) (now hi)) × Startable start (now order) (now cost) (now lo) (now hi) (now w) ⌝ }
-    ensures { λ r. ⌜ Walks (listRules (now (order .entry)) (now (cost .entry)) (now (lo .entry)) (now (hi .entry))) (length (now (order .entry))) start
-        (now (w .entry)) (now (page .entry)) (now (w .exit)) (now (page .exit)) r ⌝ }
+    requires { ⌜ (0 < length (now order)) × Working (now order) (source (now heads) (now totals) (now cost) p) (now lo) (now hi) (now w) ⌝ }
+    requires { ⌜ IsLeast (now order) (source (now heads) (now totals) (now cost) p) (now lo) (now hi) least
+        × Startable start (now order) (source (now heads) (now totals) (now cost) p) (now lo) (now hi) (now w) ⌝ }
+    ensures { λ r. ⌜ Walks (listRules (now (order .entry)) (source (now (heads .entry)) (now (totals .entry)) (now (cost .entry)) p) (now (lo .entry))
+        (now (hi .entry))) (length (now (order .entry))) start (now (w .entry)) (now (page .entry)) (now (w .exit)) (now (page .exit)) r ⌝ }
 {
-    let best = begin(start, heads, totals, order, cost, lo, hi, w, least);
+    let best = begin(start, heads, totals, order, cost, lo, hi, p, w, least);
     let mut count = 0;
     if best {
-        count = turn(heads, totals, order, cost, lo, hi, w, page);
+        count = turn(heads, totals, order, cost, lo, hi, p, w, page);
     }
     Walked {
         best: best,

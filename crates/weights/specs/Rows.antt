@@ -1,10 +1,23 @@
--- A table as it is filled, pad by pad, ports rising.
+-- Figures as they are filled, pad by pad, ports rising: that of pad j with port q comes at place j * ports + q.
 use mathlib.Core.Path.{_≡_}
 use mathlib.Core.List.{List}
-use Prim.Native.Nat.{ℕ, _+_, _*_, _<_}
+use Prim.Native.Nat.{ℕ, _+_, _-_, _*_, _/_, _%_, _≤_, _<_}
+use lib.ListN.{getD}
 use Rattle.numbers.specs.Filled.{Filled}
 use Rattle.paper.specs.Layouts.{Board}
 
--- The first k places have the cost of their pad with their port: pad j and port q have place j * ports + q.
+-- The cost whose place is k.
+abbrev pub placed : Board → (ℕ → ℕ → ℕ) → ℕ → ℕ
+placed b cost k = cost (k / b .ports) (k % b .ports)
+
+-- The first k places of a table have their costs.
 abbrev pub FilledTo : Board → (ℕ → ℕ → ℕ) → List ℕ → ℕ → Type 0
-FilledTo b cost figures k = Filled (b .pads * b .ports) (λ m v. (j q : ℕ) → q < b .ports → m ≡ j * b .ports + q → v ≡ cost j q) figures k
+FilledTo b cost figures k = Filled (b .pads * b .ports) (λ m v. v ≡ placed b cost m) figures k
+
+-- Of a list of n numbers, the first k places from place base on have them.
+abbrev pub FilledFrom : Board → (ℕ → ℕ → ℕ) → ℕ → ℕ → List ℕ → ℕ → Type 0
+FilledFrom b cost base n work k = Filled n (λ m v. base ≤ m → v ≡ placed b cost (m - base)) work (base + k)
+
+-- All figures stand in a list from place base on.
+pub record FiguresFrom (b : Board) (cost : ℕ → ℕ → ℕ) (base : ℕ) (work : List ℕ) : Type 0 where
+  pub at : (i q : ℕ) → i < b .pads → q < b .ports → getD work (base + (i * b .ports + q)) 0 ≡ cost i q

@@ -2,7 +2,8 @@
 //     TITLE: A B [SIZE] | NAME X Y PORT, NAME X Y PORT, .. | ENTRY ENTRY ..;
 // The title's first letter tells the call: First, Next or Measure with the weights A and B; A page with these, of eight entries lent, each 9; Draw of
 // record A to port B, with eight numbers lent, each 99; or Print, the job's sheet. SIZE is the job's size in bytes where it is not 16 for each record.
-// With a small letter, first, next or measure is by a table, whose figures stand in place of A, B and SIZE.
+// With a small letter, first, next or measure is by a table, whose figures stand in place of A, B and SIZE; and slots, then and untouching are First,
+// Next and Measure on slots, whose heights stand in place of SIZE.
 use libc::STDIN_FILENO;
 use libc::STDOUT_FILENO;
 use paper::Answer;
@@ -240,9 +241,40 @@ fn printed(job: &[u8]) {
     say(&text[..k]);
 }
 
-// The call that a letter tells.
-fn run(call: u8, job: &[u8], a: u32, b: u32, figures: &[u32], list: &mut [u16]) {
+// The calls on slots, with a work list that holds something.
+fn on_slots(call: u8, pads: &[u8], ports: &[u8], a: u32, b: u32, list: &mut [u16]) {
+    let mut work = [4611686018427387904u64; 1024];
     match call {
+        b't' => say_answer(calls::slots::next(pads, ports, a, b, list, &mut work), list),
+        b'u' => say_answer(calls::slots::measure(pads, ports, a, b, list), list),
+        _ => say_answer(
+            calls::slots::first(pads, ports, a, b, list, &mut work),
+            list,
+        ),
+    }
+}
+
+// The heights stand after the two weights.
+fn slotted(call: u8, pads: &[u8], words: &[u32], a: u32, b: u32, list: &mut [u16])
+    requires { ⌜ length (now words) ≤ 10 ⌝ }
+{
+    let mut bytes = [0u8; 40];
+    pack(words, &mut bytes);
+    let end = 4 * words.len();
+    if end < 8 {
+        return;
+    }
+    on_slots(call, pads, &bytes[8..end], a, b, list);
+}
+
+// The call that a letter tells.
+fn run(call: u8, job: &[u8], a: u32, b: u32, figures: &[u32], list: &mut [u16])
+    requires { ⌜ length (now figures) ≤ 10 ⌝ }
+{
+    match call {
+        b's' => slotted(call, job, figures, a, b, list),
+        b't' => slotted(call, job, figures, a, b, list),
+        b'u' => slotted(call, job, figures, a, b, list),
         b'f' => say_answer(calls::table::first(job, figures, list), list),
         b'n' => say_answer(calls::table::next(job, figures, list), list),
         b'm' => say_answer(calls::table::measure(job, figures, list), list),
@@ -270,7 +302,7 @@ fn size_of(call: u8, said: u32, words: usize) -> usize
 
 // The call on a job of these words and a list of these entries.
 fn run_on(call: u8, a: u32, b: u32, size: u32, figures: &[u32], words: &[u32], entries: &[u32])
-    requires { ⌜ (length (now words) ≤ 280) × (length (now entries) ≤ 80) ⌝ }
+    requires { ⌜ (length (now words) ≤ 280) × (length (now entries) ≤ 80) × (length (now figures) ≤ 10) ⌝ }
 {
     let mut job = [0u8; 16384];
     let mut list = [0u16; 80];

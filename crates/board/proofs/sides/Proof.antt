@@ -7,25 +7,25 @@ use mir.Val.{toZ, ofZ}
 use Rattle.numbers.specs.Bits.{read-back}
 use Rattle.numbers.specs.Filled.{filled-none, filled-more, filled-done}
 use Rattle.paper.specs.Job.{count, yOf}
-use Rattle.paper.specs.Layouts.{boardOf}
+use Rattle.paper.specs.Layouts.{boardFrom}
 use Rattle.board.specs.Lists.{Lows, Highs}
 use Rattle.board.proofs.sides.Statement.{statement}
 use Rattle.board.proofs.sides.Tie as tie
 
 abbrev Inv-loop : tie.InvT-loop
-Inv-loop job lo₀ hi₀ n j₀ lo hi j = (j ≤ count job) × Lows (boardOf job) lo j × Highs (boardOf job) hi j
+Inv-loop form job ports lo₀ hi₀ n j₀ lo hi j = (j ≤ count job) × Lows (boardFrom form job ports) lo j × Highs (boardFrom form job ports) hi j
 
 abbrev μ-loop : tie.MeasureT-loop
-μ-loop job lo₀ hi₀ n j₀ lo hi j = n - j
+μ-loop form job ports lo₀ hi₀ n j₀ lo hi j = n - j
 
 abbrev begin : tie.At-loop Inv-loop μ-loop → tie.Start Inv-loop μ-loop
-begin c = c .before .before .before .before .before
+begin c = c .before .before .before .before .before .before
 
 records-requires : tie.Need-records-requires Inv-loop μ-loop
-records-requires c κs = omega (arith, c .before .before .before .pre .0 .size)
+records-requires c κs = omega (arith, c .before .before .before .before .pre .0 .size)
 
 loop-holds : tie.Need-loop-holds Inv-loop μ-loop
-loop-holds c = let s = c .before .before .before .before in (omega arith, filled-none (s .pre .1), filled-none (s .pre .2))
+loop-holds c = let s = c .before .before .before .before .before in (omega arith, filled-none (s .pre .1), filled-none (s .pre .2))
 
 -- record j is one of the job's
 inside : (c : tie.In-loop Inv-loop μ-loop) → c .before .loop .j < count (begin (c .before) .args .job .now)
@@ -40,10 +40,10 @@ height : (c : tie.After-y Inv-loop μ-loop)
 height c = read-back (c .y .result) (c .y .ok) ∙ c .y .ensures .0
 
 under-requires : tie.Need-under-requires Inv-loop μ-loop
-under-requires c κs = begin (c .before .before) .pre .0
+under-requires c κs = let a = begin (c .before .before) .pre .0 in (a .port-size, a .slots-few, a .proper .rising)
 
 cast-lo : tie.Need-cast-lo Inv-loop μ-loop
-cast-lo c = omega (arith, c .under .ensures .top, begin (c .before .before .before) .pre .0 .few)
+cast-lo c = omega (arith, c .under .ensures .top, begin (c .before .before .before) .pre .0 .slots-few)
 
 cast-lo-2 : tie.Need-cast-lo-2 Inv-loop μ-loop
 cast-lo-2 c = omega arith
@@ -52,10 +52,10 @@ slice-write-lo : tie.Need-slice-write-lo Inv-loop μ-loop
 slice-write-lo c = omega (arith, c .before .before .before .loop .inv .1 .long, inside (c .before .before))
 
 upto-requires : tie.Need-upto-requires Inv-loop μ-loop
-upto-requires c κs = (begin (c .before .before .before) .pre .0, c .under .ensures)
+upto-requires c κs = let a = begin (c .before .before .before) .pre .0 in ((a .port-size, a .proper .rising), c .under .ensures)
 
 cast-hi : tie.Need-cast-hi Inv-loop μ-loop
-cast-hi c = omega (arith, c .upto .ensures .top, begin (c .before .before .before .before) .pre .0 .few)
+cast-hi c = omega (arith, c .upto .ensures .top, begin (c .before .before .before .before) .pre .0 .slots-few)
 
 cast-hi-2 : tie.Need-cast-hi-2 Inv-loop μ-loop
 cast-hi-2 c = omega arith

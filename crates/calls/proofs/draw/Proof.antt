@@ -4,6 +4,7 @@ use native.Mathlib.Omega.{arith}
 use denote.Ref.{now}
 use lib.ListN.{length}
 use borrow.Author.Needs.{needs}
+use Rattle.paper.specs.Job.{records}
 use Rattle.paper.specs.Layouts.{boardOf, leader}
 use Rattle.paper.specs.Refusals.{drawTrials}
 use Rattle.checks.specs.Judged.{Judged, judged-sound, judged-refused, draw-judged}
@@ -45,7 +46,7 @@ returns c =
     let told = made .before in
     let a = told .before .before .before .before .before .args in
     let p = judged-sound _ _ (judged (told .before .before)) (told .enum-told .given .1) in
-    let l = leader (boardOf (now (a .job))) (a .i) (a .q) in
+    let l = leader (boardOf (records (now (a .job)))) (a .i) (a .q) in
     let is : Draws l (made .lead .result) = rw (made .lead .ensures) (drawn-is l (passed-on-sheet (now (a .job)) (a .i) (a .q) (length (now (a .points))) p)) in
     rw (c .before .before .put .ensures) (draw-answers (now (a .job)) (a .i) (a .q) (now (a .points)) (made .lead .result) p is)
 

@@ -3,6 +3,8 @@ use mathlib.Core.Path.{refl}
 use denote.Ref.{now}
 use lib.ListN.{length}
 use borrow.Author.Needs.{needs}
+use Rattle.paper.specs.Job.{records}
+use Rattle.paper.specs.declared.Work.the-variants.{Unlent}
 use Rattle.paper.specs.Layouts.{byWeights}
 use Rattle.paper.specs.Refusals.{firstTrials}
 use Rattle.checks.specs.Judged.{Judged, judged-sound, judged-refused, first-judged}
@@ -11,8 +13,8 @@ use Rattle.calls.proofs.first.Tie as tie
 
 -- the verdict is the right one
 judged : (c : tie.After-of-first)
-    → let a = c .before .before .before .before .args in Judged (c .of-first .result) (firstTrials (now (a .job)) (byWeights (a .lw) (a .bw)) (length (now (a .list))))
-judged c = let a = c .before .before .before .before .args in rw (c .of-first .ensures, c .before .of-weights .ensures) (first-judged (now (a .job)) (byWeights (a .lw) (a .bw)) (length (now (a .list))))
+    → let a = c .before .before .before .before .args in Judged (c .of-first .result) (firstTrials (records (now (a .job))) (byWeights (a .lw) (a .bw)) Unlent (length (now (a .list))))
+judged c = let a = c .before .before .before .before .args in rw (c .of-first .ensures, c .before .of-weights .ensures) (first-judged (records (now (a .job))) (byWeights (a .lw) (a .bw)) Unlent (length (now (a .list))))
 
 of-weights-requires : tie.Need-of-weights-requires
 of-weights-requires c κs = search needs

@@ -4,6 +4,7 @@ use denote.Ref.{now}
 use native.Mathlib.Omega.{arith}
 use mir.Facts.{toZ-ofZ}
 use borrow.Author.Needs.{sfits-of}
+use Rattle.paper.specs.declared.Form.the-variants.{Records}
 use Rattle.paper.specs.Job.{count}
 use Rattle.paper.specs.laws.Accepted.{Accepted, draw-accepted}
 use Rattle.paper.specs.laws.Drawn.{passed-on-sheet}
@@ -12,7 +13,7 @@ use Rattle.calls.proofs.lead.Tie as tie
 
 -- what the trials tell of the two numbers
 facts : (c : tie.After-shared-slice-known)
-    → let a = c .before .args in Accepted (now (a .job)) × (6 ≤ a .room) × (a .i < count (now (a .job))) × (a .q < count (now (a .job)))
+    → let a = c .before .args in Accepted Records (now (a .job)) (now (a .job)) × (6 ≤ a .room) × (a .i < count (now (a .job))) × (a .q < count (now (a .job)))
 facts c = let a = c .before .args in draw-accepted (now (a .job)) (a .i) (a .q) (a .room) (c .before .pre)
 
 cast-pad : tie.Need-cast-pad

@@ -1,16 +1,19 @@
 -- `calls::measure` meets its contract. Assumes nothing.
 use denote.Ref.{now}
 use borrow.Author.Needs.{needs}
+use Rattle.paper.specs.Job.{records}
+use Rattle.paper.specs.declared.Work.the-variants.{Unlent}
 use Rattle.paper.specs.Layouts.{byWeights}
 use Rattle.paper.specs.Refusals.{measureTrials}
+use Rattle.measure.specs.Given.{measurable}
 use Rattle.checks.specs.Judged.{Judged, judged-sound, judged-refused, measure-judged}
 use Rattle.calls.proofs.measure.Statement.{statement}
 use Rattle.calls.proofs.measure.Tie as tie
 
 -- the verdict is the right one
 judged : (c : tie.After-of-measure)
-    → let a = c .before .before .before .before .args in Judged (c .of-measure .result) (measureTrials (now (a .job)) (byWeights (a .lw) (a .bw)) (now (a .list)))
-judged c = let a = c .before .before .before .before .args in rw (c .of-measure .ensures, c .before .of-weights .ensures) (measure-judged (now (a .job)) (byWeights (a .lw) (a .bw)) (now (a .list)))
+    → let a = c .before .before .before .before .args in Judged (c .of-measure .result) (measureTrials (records (now (a .job))) (byWeights (a .lw) (a .bw)) Unlent (now (a .list)))
+judged c = let a = c .before .before .before .before .args in rw (c .of-measure .ensures, c .before .of-weights .ensures) (measure-judged (records (now (a .job))) (byWeights (a .lw) (a .bw)) Unlent (now (a .list)))
 
 of-weights-requires : tie.Need-of-weights-requires
 of-weights-requires c κs = search needs
@@ -28,7 +31,10 @@ slice-aggregate-total : tie.Need-slice-aggregate-total
 slice-aggregate-total c = search needs
 
 total-requires : tie.Need-total-requires
-total-requires c κs = let told = c .before in judged-sound _ _ (judged (told .before .before)) (told .enum-told .given .1)
+total-requires c κs =
+    let told = c .before in
+    let a = told .before .before .before .before .before .before .args in
+    measurable (records (now (a .job))) (byWeights (a .lw) (a .bw)) Unlent (now (a .list)) (judged-sound _ _ (judged (told .before .before)) (told .enum-told .given .1))
 
 enum-known-v : tie.Need-enum-known-v
 enum-known-v c = search needs

@@ -2,6 +2,8 @@
 use mathlib.Core.Path.{refl}
 use denote.Ref.{now}
 use borrow.Author.Needs.{needs}
+use Rattle.paper.specs.Job.{records}
+use Rattle.paper.specs.declared.Work.the-variants.{Unlent}
 use Rattle.paper.specs.Layouts.{byWeights}
 use Rattle.paper.specs.Refusals.{measureTrials}
 use Rattle.checks.specs.Judged.{Judged, judged-sound, judged-refused, measure-judged}
@@ -11,8 +13,8 @@ use Rattle.calls.proofs.next.Tie as tie
 
 -- the verdict is the right one
 judged : (c : tie.After-of-measure)
-    → let a = c .before .before .before .before .before .args in Judged (c .of-measure .result) (measureTrials (now (a .job)) (byWeights (a .lw) (a .bw)) (now (a .list)))
-judged c = let a = c .before .before .before .before .before .args in rw (c .of-measure .ensures, c .before .before .of-weights .ensures) (measure-judged (now (a .job)) (byWeights (a .lw) (a .bw)) (now (a .list)))
+    → let a = c .before .before .before .before .before .args in Judged (c .of-measure .result) (measureTrials (records (now (a .job))) (byWeights (a .lw) (a .bw)) Unlent (now (a .list)))
+judged c = let a = c .before .before .before .before .before .args in rw (c .of-measure .ensures, c .before .before .of-weights .ensures) (measure-judged (records (now (a .job))) (byWeights (a .lw) (a .bw)) Unlent (now (a .list)))
 
 of-weights-requires : tie.Need-of-weights-requires
 of-weights-requires c κs = search needs
@@ -42,7 +44,7 @@ returns-2 : tie.Need-returns-2
 returns-2 c =
     let v = c .before .before .before in
     let a = v .before .before .before .before .before .args in
-    (measure-refused (now (a .job)) (byWeights (a .lw) (a .bw)) (now (a .list)) _ (judged-refused _ _ _ (judged v) (c .before .v .given .1)), refl)
+    (measure-refused (records (now (a .job))) (byWeights (a .lw) (a .bw)) Unlent (now (a .list)) _ (judged-refused _ _ _ (judged v) (c .before .v .given .1)), refl)
 
 pub next-spec : {M : Type 1} → statement M
 next-spec =

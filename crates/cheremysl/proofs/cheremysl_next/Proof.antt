@@ -3,6 +3,8 @@ use mathlib.Core.Path.{_∙_}
 use denote.Ref.{now}
 use mir.Facts.{toZ-ofZ}
 use borrow.Author.Needs.{needs, sfits-of}
+use Rattle.paper.specs.declared.Work.the-variants.{Unlent}
+use Rattle.paper.specs.Job.{records}
 use Rattle.paper.specs.Layouts.{byWeights}
 use Rattle.paper.specs.laws.Bounds.{next-bounded}
 use Rattle.cheremysl.proofs.cheremysl_next.Statement.{statement}
@@ -15,7 +17,7 @@ of-answer-requires : tie.Need-of-answer-requires
 of-answer-requires c κs =
     let d = c .before .before in
     let a = d .before .before .before .before .args in
-    next-bounded (now (a .job)) (byWeights (a .length-weight) (a .bend-weight)) tt (now (a .layout)) (d .next .result) (d .next .last .1 .1 .1 .0) (d .next .ensures)
+    next-bounded (records (now (a .job))) (byWeights (a .length-weight) (a .bend-weight)) Unlent tt (now (a .layout)) (d .next .result) (d .next .last .1 .1 .1 .0) (d .next .ensures)
 
 same-length : tie.Need-same-length
 same-length c = search needs

@@ -4,6 +4,8 @@ use native.Mathlib.Omega.{arith}
 use denote.Ref.{now}
 use mir.Facts.{toZ-ofZ}
 use borrow.Author.Needs.{needs, sfits-of}
+use Rattle.paper.specs.declared.Work.the-variants.{Unlent}
+use Rattle.paper.specs.Job.{records}
 use Rattle.paper.specs.Layouts.{byWeights}
 use Rattle.paper.specs.laws.Bounds.{page-counted}
 use Rattle.cheremysl.proofs.cheremysl_page.Statement.{statement}
@@ -17,7 +19,7 @@ of-paged-requires c κs =
     let d = c .before .before in
     let s = d .before .before .before .before .before in
     let a = s .args in
-    page-counted (now (a .job)) (byWeights (a .length-weight) (a .bend-weight)) (now (a .layout)) (now (a .page)) (d .page .result) _
+    page-counted (records (now (a .job))) (byWeights (a .length-weight) (a .bend-weight)) Unlent (now (a .layout)) (now (a .page)) (d .page .result) _
     (omega (arith, s .good .1 .1 .1 .1 .0 .1)) (d .page .ensures)
 
 same-length : tie.Need-same-length

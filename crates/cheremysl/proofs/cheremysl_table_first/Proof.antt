@@ -4,6 +4,8 @@ use native.Mathlib.Omega.{arith}
 use denote.Ref.{now}
 use mir.Facts.{toZ-ofZ}
 use borrow.Author.Needs.{needs, sfits-of}
+use Rattle.paper.specs.declared.Work.the-variants.{Unlent}
+use Rattle.paper.specs.Job.{records}
 use Rattle.paper.specs.Layouts.{byTable}
 use Rattle.paper.specs.laws.Bounds.{first-bounded}
 use Rattle.cheremysl.proofs.cheremysl_table_first.Statement.{statement}
@@ -17,7 +19,7 @@ of-answer-requires c κs =
     let d = c .before .before in
     let known = d .before .before .before in
     let a = known .before .before .args in
-    first-bounded (now (a .job)) (byTable (now (a .table))) (λ k. omega (arith, known .shared-slice-known2 .given k)) (now (a .layout)) (d .first .result) (d .first .last .1 .1 .0) (d .first .ensures)
+    first-bounded (records (now (a .job))) (byTable (now (a .table))) Unlent (λ k. omega (arith, known .shared-slice-known2 .given k)) (now (a .layout)) (d .first .result) (d .first .last .1 .1 .0) (d .first .ensures)
 
 same-length : tie.Need-same-length
 same-length c = search needs

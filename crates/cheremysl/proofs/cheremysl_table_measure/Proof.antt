@@ -4,6 +4,8 @@ use native.Mathlib.Omega.{arith}
 use denote.Ref.{now}
 use mir.Facts.{toZ-ofZ}
 use borrow.Author.Needs.{needs, sfits-of}
+use Rattle.paper.specs.declared.Work.the-variants.{Unlent}
+use Rattle.paper.specs.Job.{records}
 use Rattle.paper.specs.Layouts.{byTable}
 use Rattle.paper.specs.laws.Bounds.{measure-bounded}
 use Rattle.cheremysl.proofs.cheremysl_table_measure.Statement.{statement}
@@ -16,7 +18,7 @@ of-answer-requires : tie.Need-of-answer-requires
 of-answer-requires c κs =
     let known = c .before .before in
     let a = known .before .before .args in
-    measure-bounded (now (a .job)) (byTable (now (a .table))) (λ k. omega (arith, known .shared-slice-known2 .given k)) (now (a .layout)) (c .measure .result) (c .measure .ensures)
+    measure-bounded (records (now (a .job))) (byTable (now (a .table))) Unlent (λ k. omega (arith, known .shared-slice-known2 .given k)) (now (a .layout)) (c .measure .result) (c .measure .ensures)
 
 returns : tie.Need-returns
 returns c = (c .before .measure .result, c .before .measure .ensures, toZ-ofZ (sfits-of (c .of-answer .ok)) ∙ c .of-answer .ensures)

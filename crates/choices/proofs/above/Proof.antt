@@ -2,9 +2,14 @@
 use Prim.Native.Nat.{_+_, _<_}
 use native.Mathlib.Omega.{arith}
 use borrow.Author.Needs.{needs}
+use Rattle.choices.specs.Source.{Source, source}
 use Rattle.choices.proofs.Memory.{settled-strip, settled-learnt, strip-look, strip-chosen, learnt-same, most-chosen, learnt-most}
 use Rattle.choices.proofs.above.Statement.{statement}
 use Rattle.choices.proofs.above.Tie as tie
+
+-- where the function reads
+abbrev read : tie.Start → Source
+read s = source (s .args .heads .now) (s .args .totals .now) (s .args .cost .now) (s .args .p)
 
 add-if1 : tie.Need-add-if1
 add-if1 c = search needs
@@ -13,7 +18,8 @@ slice-read-if1 : tie.Need-slice-read-if1
 slice-read-if1 c = search needs
 
 cast-if1 : tie.Need-cast-if1
-cast-if1 c = let s = c .before .before .before .before .before .before .before .before .before .before in omega (arith, c .slice-known2 .given (192 + s .args .m))
+cast-if1 c = let s = c .before .before .before .before .before .before .before .before .before .before in
+    omega (arith, c .slice-known2 .given (192 + s .args .m))
 
 returns : tie.Need-returns
 returns c = let s = c .before .before .before .before .before .before .before .before .before .before .before in
@@ -28,9 +34,9 @@ choose-requires : tie.Need-choose-requires
 choose-requires c κs = let s = c .before .before .before .before .before .before .before .before .before .before .before .before .before .before .before .before in
     let few : s .args .m < 64 = omega (arith, s .pre .1 .0 .0, s .pre .0 .proper .pads .few) in
     let K = s .pre .1 .1 .0 .1 in let N = c .before .before .before .settle .ensures in (
-      (s .pre .0 .proper .pads, s .pre .0 .table),
+      s .pre .0 .table,
       (
-        (settled-learnt (s .args .w .now) (s .args .m) K N .facts .long, few),
+        (settled-learnt (s .args .w .now) (s .args .m) K N .facts .long, few, s .pre .0 .proper .pads .ports),
         strip-look (s .args .m) (settled-strip (s .args .w .now) (s .args .m) K N) (s .pre .0) (s .pre .1 .0 .0) (s .pre .1 .0 .1),
       ),
     )
@@ -55,9 +61,9 @@ returns-2 c = let s = c .before .before .before .before .before .before .before 
     .before in let few : s .args .m < 64 = omega (arith, s .pre .1 .0 .0, s .pre .0 .proper .pads .few) in
     let K = s .pre .1 .1 .0 .1 in let N = c .before .before .before .before .before .settle .ensures in let q = c .before .choose in
     let strip = settled-strip (s .args .w .now) (s .args .m) K N in (
-      strip-chosen (s .args .cost .now) (s .args .m) (s .args .from) (q .result) strip (q .ensures),
-      learnt-most (s .args .m) few (settled-learnt (s .args .w .now) (s .args .m) K N) (s .args .from) (q .result) (s .pre .0 .proper .pads .few) strip (q .ensures)
-          (c .if2 .taken),
+      strip-chosen (read s) (s .args .m) (s .args .from) (q .result) strip (q .ensures),
+      learnt-most (s .args .m) few (settled-learnt (s .args .w .now) (s .args .m) K N) (s .args .from) (q .result) (s .pre .0 .proper .pads .ports) strip
+          (q .ensures) (c .if2 .taken),
     )
 
 same-length-2 : tie.Need-same-length-2
@@ -67,7 +73,7 @@ returns-3 : tie.Need-returns-3
 returns-3 c = let s = c .before .before .before .before .before .before .before .before .before .before .before .before .before .before .before .before .before
     .before in
     let K = s .pre .1 .1 .0 .1 in let N = c .before .before .before .before .before .settle .ensures in let q = c .before .choose in (
-      strip-chosen (s .args .cost .now) (s .args .m) (s .args .from) (q .result) (settled-strip (s .args .w .now) (s .args .m) K N) (q .ensures),
+      strip-chosen (read s) (s .args .m) (s .args .from) (q .result) (settled-strip (s .args .w .now) (s .args .m) K N) (q .ensures),
       settled-learnt (s .args .w .now) (s .args .m) K N,
     )
 

@@ -2,10 +2,15 @@
 use Prim.Native.Nat.{_+_, _<_}
 use native.Mathlib.Omega.{arith}
 use borrow.Author.Needs.{needs}
+use Rattle.choices.specs.Source.{Source, source}
 use Rattle.choices.proofs.Choosing.{chosen-some}
 use Rattle.choices.proofs.Memory.{settled-strip, settled-learnt, strip-look, strip-chosen, learnt-least}
 use Rattle.choices.proofs.lowest.Statement.{statement}
 use Rattle.choices.proofs.lowest.Tie as tie
+
+-- where the function reads
+abbrev read : tie.Start → Source
+read s = source (s .args .heads .now) (s .args .totals .now) (s .args .cost .now) (s .args .p)
 
 settle-requires : tie.Need-settle-requires
 settle-requires c κs = search needs
@@ -30,7 +35,7 @@ returns : tie.Need-returns
 returns c = let s = c .before .before .before .before .before .before .before .before .before .before .before .before .before .before .before in
     let few : s .args .m < 64 = omega (arith, s .pre .1 .0 .0, s .pre .0 .proper .pads .few) in
     let K = s .pre .1 .1 .1 in let N = c .before .before .before .before .settle .ensures in let L = settled-learnt (s .args .w .now) (s .args .m) K N in (
-      strip-chosen (s .args .cost .now) (s .args .m) 0 _ (settled-strip (s .args .w .now) (s .args .m) K N) (L .facts .least (s .args .m) few (c .if1 .taken)),
+      strip-chosen (read s) (s .args .m) 0 _ (settled-strip (s .args .w .now) (s .args .m) K N) (L .facts .least (s .args .m) few (c .if1 .taken)),
       L,
     )
 
@@ -38,19 +43,19 @@ choose-requires : tie.Need-choose-requires
 choose-requires c κs = let s = c .before .before .before .before .before .before .before .before .before .before .before .before .before .before .before .before in
     let few : s .args .m < 64 = omega (arith, s .pre .1 .0 .0, s .pre .0 .proper .pads .few) in
     let K = s .pre .1 .1 .1 in let N = c .before .before .before .before .before .settle .ensures in (
-      (s .pre .0 .proper .pads, s .pre .0 .table),
+      s .pre .0 .table,
       (
-        (settled-learnt (s .args .w .now) (s .args .m) K N .facts .long, few),
+        (settled-learnt (s .args .w .now) (s .args .m) K N .facts .long, few, s .pre .0 .proper .pads .ports),
         strip-look (s .args .m) (settled-strip (s .args .w .now) (s .args .m) K N) (s .pre .0) (s .pre .1 .0 .0) (s .pre .1 .0 .1),
       ),
     )
 
 -- The pads before have the ports of some best layout, so that there is a port.
-some-port : (c : tie.After-choose) → c .choose .result < 64
+some-port : (c : tie.After-choose) → c .choose .result < 128
 some-port c = let s = c .before .before .before .before .before .before .before .before .before .before .before .before .before .before .before .before .before in
     let K = s .pre .1 .1 .1 in let N = c .before .before .before .before .before .before .settle .ensures in let q = c .choose in
     chosen-some (s .args .w .now) (s .pre .0 .proper) (s .args .m) (s .pre .1 .0 .0) (s .pre .1 .0 .1) (q .result)
-    (strip-chosen (s .args .cost .now) (s .args .m) 0 (q .result) (settled-strip (s .args .w .now) (s .args .m) K N) (q .ensures))
+    (strip-chosen (read s) (s .args .m) 0 (q .result) (settled-strip (s .args .w .now) (s .args .m) K N) (q .ensures))
 
 add-known : tie.Need-add-known
 add-known c = omega (arith, some-port c)
@@ -62,7 +67,9 @@ add-known-2 : tie.Need-add-known-2
 add-known-2 c = search needs
 
 slice-write-known : tie.Need-slice-write-known
-slice-write-known c = search needs
+slice-write-known c = let s = c .before .before .before .before .before .before .before .before .before .before .before .before .before .before .before .before .before in
+    let N = c .before .before .before .before .before .before .settle .ensures in
+    omega (arith, N .long, s .pre .1 .1 .1 .long, s .pre .1 .0 .0, s .pre .0 .proper .pads .few)
 
 same-length-2 : tie.Need-same-length-2
 same-length-2 c = search needs
@@ -71,7 +78,7 @@ returns-2 : tie.Need-returns-2
 returns-2 c = let s = c .before .before .before .before .before .before .before .before .before .before .before .before .before .before .before .before .before in
     let few : s .args .m < 64 = omega (arith, s .pre .1 .0 .0, s .pre .0 .proper .pads .few) in
     let K = s .pre .1 .1 .1 in let N = c .before .before .before .before .before .before .settle .ensures in let q = c .choose in (
-      strip-chosen (s .args .cost .now) (s .args .m) 0 (q .result) (settled-strip (s .args .w .now) (s .args .m) K N) (q .ensures),
+      strip-chosen (read s) (s .args .m) 0 (q .result) (settled-strip (s .args .w .now) (s .args .m) K N) (q .ensures),
       learnt-least (s .args .m) few (settled-learnt (s .args .w .now) (s .args .m) K N) (q .result) (q .ensures),
     )
 

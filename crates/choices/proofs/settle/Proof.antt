@@ -22,11 +22,11 @@ shared-slice-read-low c = let s = c .before .before .before .before .before .bef
 
 cast-low : tie.Need-cast-low
 cast-low c = let s = c .before .before .before .before .before .before .before .before in
-    omega (arith, lows (s .pre .0 .0) (getD (s .args .order .now) (s .args .m) 0), s .pre .0 .0 .few)
+    omega (arith, lows (s .pre .0 .0) (getD (s .args .order .now) (s .args .m) 0), s .pre .0 .0 .ports)
 
 low-requires : tie.Need-low-requires
 low-requires c κs = let s = c .before .before .before .before .before .before .before .before in
-    omega (arith, lows (s .pre .0 .0) (getD (s .args .order .now) (s .args .m) 0), s .pre .1 .room)
+    omega (arith, lows (s .pre .0 .0) (getD (s .args .order .now) (s .args .m) 0), s .pre .1 .room, s .pre .0 .0 .ports)
 
 shared-slice-read-high : tie.Need-shared-slice-read-high
 shared-slice-read-high c = let s = c .before .before .before .before .before .before .before .before .before .before in
@@ -34,27 +34,27 @@ shared-slice-read-high c = let s = c .before .before .before .before .before .be
 
 cast-high : tie.Need-cast-high
 cast-high c = let s = c .before .before .before .before .before .before .before .before .before .before in
-    omega (arith, s .pre .0 .0 .top (getD (s .args .order .now) (s .args .m) 0), s .pre .0 .0 .few)
+    omega (arith, s .pre .0 .0 .top (getD (s .args .order .now) (s .args .m) 0), s .pre .0 .0 .ports)
 
 high-requires : tie.Need-high-requires
 high-requires c κs = let s = c .before .before .before .before .before .before .before .before .before .before in
-    (s .pre .0 .0 .top (getD (s .args .order .now) (s .args .m) 0), s .pre .1 .room)
+    (s .pre .0 .0 .top (getD (s .args .order .now) (s .args .m) 0), omega (arith, s .pre .1 .room, s .pre .0 .0 .ports))
 
 -- The strip's ends.
 first-port : (c : tie.After-high) → let x = c .before .before .before .before .before .before .before .before .before .before .before .args in
     c .before .before .low .result ≡ firstPort (x .order .now) (x .lo .now) (x .w .now) (x .m)
 first-port c = let s = c .before .before .before .before .before .before .before .before .before .before .before in
     let h = lows (s .pre .0 .0) (getD (s .args .order .now) (s .args .m) 0) in
-    low-floor (s .args .m) (s .pre .1) (omega (arith, s .pre .0 .1)) _ _ h (c .before .before .low .ensures)
+    low-floor (s .args .m) (s .pre .1) (omega (arith, s .pre .0 .1)) _ _ (omega (arith, h, s .pre .0 .0 .ports)) (c .before .before .low .ensures)
 
 end-port : (c : tie.After-high) → let x = c .before .before .before .before .before .before .before .before .before .before .before .args in
-    c .high .result ≡ endPort (x .order .now) (x .hi .now) (x .w .now) (x .m)
+    c .high .result ≡ endPort (x .p) (x .order .now) (x .hi .now) (x .w .now) (x .m)
 end-port c = let s = c .before .before .before .before .before .before .before .before .before .before .before in
-    high-ceil (s .args .m) (s .pre .1) (omega (arith, s .pre .0 .1)) _ _ (c .high .ensures)
+    high-ceil (s .args .m) (s .pre .1) (omega (arith, s .pre .0 .1)) (s .args .p) _ _ (s .pre .0 .0 .ports) (c .high .ensures)
 
 note-requires : tie.Need-note-requires
 note-requires c κs = let s = c .before .before .before .before .before .before .before .before .before .before .before .before in
-    let few = s .pre .0 .0 .few in let l = lows (s .pre .0 .0) (getD (s .args .order .now) (s .args .m) 0) in (
+    let few = s .pre .0 .0 .few in let ports = s .pre .0 .0 .ports in let l = lows (s .pre .0 .0) (getD (s .args .order .now) (s .args .m) 0) in (
       s .pre .0 .2,
       omega (arith, s .pre .0 .1),
       omega (arith, c .before .before .before .low .ensures .under),

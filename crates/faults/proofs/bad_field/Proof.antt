@@ -16,35 +16,20 @@ y-requires c κs = search needs
 out-of-range-requires : tie.Need-out-of-range-requires
 out-of-range-requires c κs = search needs
 
-port-requires : tie.Need-port-requires
-port-requires c κs = search needs
-
-out-of-range-requires-2 : tie.Need-out-of-range-requires-2
-out-of-range-requires-2 c κs = search needs
+bad-last-requires : tie.Need-bad-last-requires
+bad-last-requires c κs = search needs
 
 returns : tie.Need-returns
 returns c =
-    let y = c .before .before .before .y in
-    let port = c .before .port in
+    let y = c .before .before .y in
     rw (
-      c .out-of-range2 .ensures,
-      c .before .before .out-of-range .ensures,
-      read-back (port .result) (port .ok),
+      c .bad-last .ensures,
+      c .before .out-of-range .ensures,
       read-back (y .result) (y .ok),
-      port .ensures .0,
       y .ensures .0,
-      c .before .before .before .before .reserved .ensures,
-      c .before .before .before .before .before .x .ensures,
+      c .before .before .before .reserved .ensures,
+      c .before .before .before .before .x .ensures,
     )
 
 pub bad-field-spec : {M : Type 1} → statement M
-bad-field-spec =
-    tie.close
-    (tie.spec
-    x-requires
-    reserved-requires
-    y-requires
-    out-of-range-requires
-    port-requires
-    out-of-range-requires-2
-    returns)
+bad-field-spec = tie.close (tie.spec x-requires reserved-requires y-requires out-of-range-requires bad-last-requires returns)

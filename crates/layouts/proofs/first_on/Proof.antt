@@ -1,7 +1,9 @@
 -- `layouts::first_on` meets its contract (`first-walked`). Assumes nothing.
 use borrow.Author.Needs.{needs}
 use mathlib.Core.Path.{refl}
+use Rattle.paper.specs.Job.{records}
 use Rattle.paper.specs.Layouts.{byTable}
+use Rattle.paper.specs.Problem.{labelingOf}
 use Rattle.layouts.proofs.Replied.{first-walked}
 use Rattle.layouts.proofs.first_on.Statement.{statement}
 use Rattle.layouts.proofs.first_on.Tie as tie
@@ -23,7 +25,7 @@ returns c =
     let w = c .before .before .before in
     let s = w .before .before .before .before .before .before in
     let a = s .args in
-    first-walked (a .job .now) (byTable (a .figures .now)) (s .pre .0 .some) (a .layout .now) _ _ _ (w .walk .result) refl (w .walk .ensures)
+    first-walked (labelingOf (records (a .job .now)) (byTable (a .figures .now))) (s .pre .0 .some) (a .layout .now) _ _ _ (w .walk .result) refl (w .walk .ensures)
 
 pub first-on-spec : {M : Type 1} → statement M
 first-on-spec =

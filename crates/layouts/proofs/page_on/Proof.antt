@@ -1,6 +1,7 @@
 -- `layouts::page_on` meets its contract (`page-walked`). Assumes nothing.
 use borrow.Author.Needs.{needs}
-use Rattle.paper.specs.Layouts.{byTable}
+use Rattle.paper.specs.Job.{records}
+use Rattle.paper.specs.Layouts.{boardOf, byTable, costOf}
 use Rattle.layouts.proofs.Replied.{copy-startable, page-walked}
 use Rattle.layouts.proofs.page_on.Statement.{statement}
 use Rattle.layouts.proofs.page_on.Tie as tie
@@ -19,7 +20,7 @@ walk-requires c κs =
     let d = c .before .before .before in
     let s = d .before .before .before .before .before .before in
     let a = s .args in
-    (s .pre .0 .0, s .pre .0 .1, copy-startable (a .job .now) (byTable (a .figures .now)) (d .copy .ensures) (s .pre .0 .0 .few) (s .pre .1))
+    (s .pre .0 .0, s .pre .0 .1, copy-startable (boardOf (records (a .job .now))) (costOf (boardOf (records (a .job .now))) (byTable (a .figures .now))) (d .copy .ensures) (s .pre .0 .0 .few) (s .pre .1))
 
 same-length : tie.Need-same-length
 same-length c = search needs
@@ -30,7 +31,7 @@ returns c =
     let d = w .before .before .before .before in
     let s = d .before .before .before .before .before .before in
     let a = s .args in
-    page-walked (a .job .now) (byTable (a .figures .now)) (d .copy .ensures) (a .page .now) _ _ (w .walk .result) (w .walk .ensures)
+    page-walked (boardOf (records (a .job .now))) (costOf (boardOf (records (a .job .now))) (byTable (a .figures .now))) (d .copy .ensures) (a .page .now) _ _ (w .walk .result) (w .walk .ensures)
 
 pub page-on-spec : {M : Type 1} → statement M
 page-on-spec =

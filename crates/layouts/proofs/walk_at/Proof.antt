@@ -1,10 +1,14 @@
 -- `layouts::walk_at` meets its contract: the lists, then the walk over them, in the paper's words (`walks-on`). Assumes nothing.
 use borrow.Author.Needs.{needs}
 use mathlib.Core.Path.{refl}
+use mathlib.Core.Path.{_≡_}
+use Prim.Native.Nat.{_*_}
+use lib.ListN.{length}
+use Rattle.paper.specs.Job.{records}
 use Rattle.paper.specs.Layouts.{Board, boardOf}
 use Rattle.board.specs.Lists.{WorkOf}
-use Rattle.board.specs.Bridge.{proper}
-use Rattle.layouts.proofs.Translated.{working-on, startable-on, walks-on}
+use Rattle.board.specs.Bridge.{pads}
+use Rattle.layouts.proofs.Translated.{working-on, startable-on, walks-on, stacked-costs, stacked-right, stacked-least}
 use Rattle.layouts.proofs.walk_at.Statement.{statement}
 use Rattle.layouts.proofs.walk_at.Tie as tie
 
@@ -13,17 +17,20 @@ abbrev start : tie.After-prepare → tie.Start
 start p = p .before .before .before .before .before .before .before .before .before .before .before .before .before
 
 abbrev board : tie.After-prepare → Board
-board p = boardOf (start p .args .job .now)
+board p = boardOf (records (start p .args .job .now))
 
-work : (p : tie.After-prepare) → let l = p .prepare .last in WorkOf (board p) (l .1 .0) (l .1 .1 .0) (l .1 .1 .1 .0) (start p .args .figures .now)
+work : (p : tie.After-prepare) → let l = p .prepare .last in WorkOf (board p) (l .1 .1 .1 .0) (l .1 .1 .1 .1 .0) (l .1 .1 .1 .1 .1 .0)
 work p = let job = start p .pre .0 .0 in record {
   proper = job .proper;
-  even = refl;
   few = job .few;
+  slots-few = job .slots-few;
   listed = p .prepare .ensures .0;
   sides = p .prepare .ensures .1;
-  square = start p .pre .0 .1;
 }
+
+-- the figures are as many as the code's n times n
+square : (p : tie.After-prepare) → let n = length (p .prepare .last .1 .1 .1 .0) in length (start p .args .figures .now) ≡ n * n
+square p = rw (work p .listed .arranged .long) (start p .pre .0 .1)
 
 prepare-requires : tie.Need-prepare-requires
 prepare-requires c κs = search needs
@@ -31,16 +38,19 @@ prepare-requires c κs = search needs
 fill-requires : tie.Need-fill-requires
 fill-requires c κs =
     let p = c .before .before .before .before .before .before .before .before .before .before .before in
-    let proper = proper (work p) in
-    (proper .pads, (start p .pre .1 .1, start p .pre .1 .2, proper .square))
+    (pads (work p) refl, (start p .pre .1 .1, start p .pre .1 .2, square p))
 
 walk-requires : tie.Need-walk-requires
 walk-requires c κs =
     let f = c .before .before .before .before .before .before .before .before .before .before .before in
     let p = f .before .before .before .before .before .before .before .before .before .before .before .before in
-    let s = start p in (
-      working-on (board p) (work p) (s .args .start) (s .args .w .now) (s .pre .0 .0 .some) (f .fill .ensures .0) (s .pre .0 .2),
-      (f .fill .ensures .1, startable-on (board p) (work p) (s .args .start) (s .args .w .now) (s .pre .0 .2)),
+    let s = start p in
+    let costs = stacked-costs (board p) (work p) refl (f .fill .ensures .0) in (
+      working-on (board p) (work p) costs (stacked-right (board p) (work p) refl (f .fill .ensures .0)) (s .args .start) (s .args .w .now) (s .pre .0 .0 .some) (s .pre .0 .2),
+      (
+        stacked-least (board p) (work p) refl (f .fill .ensures .0) (f .fill .result) (f .fill .ensures .1),
+        startable-on (board p) (work p) costs (s .args .start) (s .args .w .now) (s .pre .0 .2),
+      ),
     )
 
 same-length : tie.Need-same-length
@@ -67,9 +77,10 @@ same-length-7 c = search needs
 returns : tie.Need-returns
 returns c =
     let d = c .before .before .before .before in
-    let p = d .before .before .before .before .before .before .before .before .before .before .before .before .before .before .before .before .before .before .before .before .before .before .before .before in
+    let f = d .before .before .before .before .before .before .before .before .before .before .before .before in
+    let p = f .before .before .before .before .before .before .before .before .before .before .before .before in
     let a = start p .args in
-    walks-on (board p) (work p) (a .start) (a .w .now) (a .page .now) _ _ (d .walk .result) (d .walk .ensures)
+    walks-on (board p) (work p) (stacked-costs (board p) (work p) refl (f .fill .ensures .0)) (a .start) (a .w .now) (a .page .now) _ _ (d .walk .result) (d .walk .ensures)
 
 pub walk-at-spec : {M : Type 1} → statement M
 walk-at-spec =

@@ -5,26 +5,25 @@ use denote.Ref.{now}
 use native.Mathlib.Omega.{arith}
 use borrow.Author.Needs.{needs}
 use Rattle.paper.specs.Job.{count}
-use Rattle.paper.specs.Layouts.{boardOf, held, costOf, sum as costs}
+use Rattle.paper.specs.Layouts.{boardFrom, held, costOf, sum as costs}
 use Rattle.paper.specs.laws.Totals.{sum-none, sum-more}
-use Rattle.paper.specs.laws.Accepted.{measure-facts, measure-entries}
 use Rattle.measure.specs.Given.{givenBy}
 use Rattle.measure.proofs.total.Statement.{statement}
 use Rattle.measure.proofs.total.Tie as tie
 
 -- Each cost has 32 bits, so that 64 of them do not wrap.
 abbrev Inv-loop : tie.InvT-loop
-Inv-loop bad job figures list n sum₀ i₀ sum i =
-    (i ≤ n) × (sum ≡ costs i (λ k. costOf (boardOf job) (givenBy bad figures) k (held list k))) × (sum ≤ i * 4294967295)
+Inv-loop bad form job ports figures list n sum₀ i₀ sum i =
+    (i ≤ n) × (sum ≡ costs i (λ k. costOf (boardFrom form job ports) (givenBy bad figures) k (held list k))) × (sum ≤ i * 4294967295)
 
 abbrev μ-loop : tie.MeasureT-loop
-μ-loop bad job figures list n sum₀ i₀ sum i = n - i
+μ-loop bad form job ports figures list n sum₀ i₀ sum i = n - i
+
+abbrev begin : tie.At-loop Inv-loop μ-loop → tie.Start Inv-loop μ-loop
+begin c = c .before .before .before .before .before .before
 
 records-requires : tie.Need-records-requires Inv-loop μ-loop
-records-requires c κs =
-    let s = c .before .before .before in
-    let a = s .args in
-    omega (arith, measure-facts (now (a .job)) (givenBy (a .bad) (now (a .figures))) (now (a .list)) (s .pre) .0 .size)
+records-requires c κs = omega (arith, c .before .before .before .before .pre .0 .0 .size)
 
 loop-holds : tie.Need-loop-holds Inv-loop μ-loop
 loop-holds c = (search needs, sum-none _, omega arith)
@@ -36,29 +35,20 @@ mul-q : tie.Need-mul-q Inv-loop μ-loop
 mul-q c = search needs
 
 shared-slice-read-q : tie.Need-shared-slice-read-q Inv-loop μ-loop
-shared-slice-read-q c =
-    let s = c .before .before .before .before .before .before .before in
-    let a = s .args in
-    omega (arith, measure-facts (now (a .job)) (givenBy (a .bad) (now (a .figures))) (now (a .list)) (s .pre) .2)
+shared-slice-read-q c = omega (arith, begin (c .before .before) .pre .1 .0)
 
 cost-requires : tie.Need-cost-requires Inv-loop μ-loop
 cost-requires c κs =
-    let s = c .before .before .before .before .before .before .before in
-    let a = s .args in
-    let bad = givenBy (a .bad) (now (a .figures)) in
+    let s = begin (c .before .before) in
     let i = c .before .before .loop .i in
-    let h : i < count (now (a .job)) = omega arith in
-    let f = measure-facts (now (a .job)) bad (now (a .list)) (s .pre) in
-    (f .0, f .1, h, measure-entries (now (a .job)) bad (now (a .list)) (s .pre) i h)
+    let h : i < count (now (s .args .job)) = omega arith in
+    (s .pre .0, (h, s .pre .1 .1 i h))
 
 cast-sum : tie.Need-cast-sum Inv-loop μ-loop
 cast-sum c = search needs
 
 add-sum : tie.Need-add-sum Inv-loop μ-loop
-add-sum c =
-    let s = c .before .before .before .before .before .before .before .before in
-    let a = s .args in
-    omega (arith, measure-facts (now (a .job)) (givenBy (a .bad) (now (a .figures))) (now (a .list)) (s .pre) .0 .few)
+add-sum c = omega (arith, begin (c .before .before .before) .pre .0 .0 .few)
 
 add-i : tie.Need-add-i Inv-loop μ-loop
 add-i c = omega arith
@@ -73,8 +63,7 @@ loop-again c =
 
 returns : tie.Need-returns Inv-loop μ-loop
 returns c =
-    let s = c .before .before .before .before .before .before in
-    let done : c .before .loop .i ≡ count (now (s .args .job)) = omega arith in
+    let done : c .before .loop .i ≡ count (now (begin (c .before) .args .job)) = omega arith in
     rw done at (c .before .loop .inv .1)
 
 pub total-spec : {M : Type 1} → statement M

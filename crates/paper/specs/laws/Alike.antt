@@ -16,12 +16,15 @@ use Rattle.paper.specs.declared.Answer.{Answer}
 use Rattle.paper.specs.declared.Answer.the-variants.{Total, End, Refused}
 use Rattle.paper.specs.declared.Paged.{Paged}
 use Rattle.paper.specs.declared.Paged.the-variants.{Wrote, Refused as NotPaged}
-use Rattle.paper.specs.Job.{count}
+use Rattle.paper.specs.declared.Work.{Work}
+use Rattle.paper.specs.declared.Work.the-variants.{Unlent}
+use Rattle.paper.specs.Job.{Job}
 use Rattle.paper.specs.Layouts.{Board, boardOf, held, Layout, Untouching, Badness, byWeights, byTable, weighted, costOf, TableOf, total}
 use Rattle.paper.specs.Problem.{Problem, Best, FirstBest, NextBest, LastBest, labelingOf}
-use Rattle.paper.specs.Refusals.{Trial, Clean, Passed, RefusedBy, BadSize, jobTrials, layoutTrials, ofWhole, badnessTrial, bestTrial}
+use Rattle.paper.specs.Refusals.{Trial, Clean, Passed, RefusedBy, sizeTrials, roomTrials, jobTrials, layoutTrials, ofWhole, badnessTrial, bestTrial}
 use Rattle.paper.specs.Refusals.{firstTrials, measureTrials, nextTrials}
 use Rattle.paper.specs.Promises.{Following, FirstAnswers, NextAnswers, PageAnswers, MeasureAnswers, FirstPromise, NextPromise, PagePromise, MeasurePromise}
+use Rattle.paper.specs.laws.Trials.{passed-append, append-passed, refused-left, refused-right, refused-append}
 use Rattle.paper.specs.laws.Totals.{sum-same}
 use Rattle.paper.specs.laws.Trying.{row, row-length, row-at}
 use Rattle.paper.specs.laws.Accepted.{Fair, fair-iff, measure-accepted}
@@ -85,6 +88,12 @@ after-all : (vs ts us : List Trial) → Follows ts us → Follows (vs ++ ts) (vs
 after-all [] ts us f = f
 after-all (v ∷ vs) ts us f = after-same v (vs ++ ts) (vs ++ us) (after-all vs ts us f)
 
+follows-append : (ts us vs ws : List Trial) → Follows ts us → Follows vs ws → Follows (ts ++ vs) (us ++ ws)
+follows-append ts us vs ws f g = (
+  (λ p. let (h, k) = append-passed ts vs p in passed-append us ws (f .0 h) (g .0 k)),
+  λ r a. ⊎-elim (λ h. refused-left us ws r (f .1 r h)) (λ (h, k). refused-right us ws r (f .0 h) (g .1 r k)) (refused-append ts vs r a),
+)
+
 -- One trial of the input as a whole, for the same fault.
 whole-follows : (r : ℕ) (P Q : Type 0) → P ↔ Q → Follows (ofWhole r P ∷ []) (ofWhole r Q ∷ [])
 whole-follows r P Q same = (
@@ -96,7 +105,7 @@ whole-follows r P Q same = (
 
 -- ---- calls
 
-module _ (job : List ℕ) where
+module _ (job : Job) where
   abbrev b : Board
   b = boardOf job
 
@@ -109,7 +118,7 @@ module _ (job : List ℕ) where
   best-on : (bad other : Badness) → AlikeOn bad other → (f : ℕ → ℕ) → Best (labelingOf job bad) f → Best (labelingOf job other) f
   best-on bad other same = best-alike b (Untouching b) (total b (costOf b bad)) (total b (costOf b other)) (same-value bad other same)
 
-  module _ (bad other : Badness) (fair : Fair job bad) (fair-other : Fair job other) (same : AlikeOn bad other) where
+  module _ (bad other : Badness) (fair : Fair b bad) (fair-other : Fair b other) (same : AlikeOn bad other) where
     abbrev v : (ℕ → ℕ) → ℕ
     v = total b (costOf b bad)
 
@@ -117,73 +126,70 @@ module _ (job : List ℕ) where
     w = total b (costOf b other)
 
     -- The trials but for 2 and 13, which both pass, and 10, which names the same layouts.
-    given : (ts us : List Trial) → Follows ts us → Follows (ofWhole 1 (BadSize job) ∷ badnessTrial job bad ∷ ts) (ofWhole 1 (BadSize job) ∷ badnessTrial job other ∷ us)
-    given ts us f =
-        after-same (ofWhole 1 (BadSize job)) (badnessTrial job bad ∷ ts) (badnessTrial job other ∷ us)
-        (after-clean (badnessTrial job bad) (badnessTrial job other) ts us (fair-iff job bad .1 fair) (fair-iff job other .1 fair-other) f)
+    pub first-follows : (work : Work) (room : ℕ) → Follows (firstTrials job bad work room) (firstTrials job other work room)
+    first-follows work room =
+        let rest = roomTrials job work room ++ jobTrials job in
+        after-all (sizeTrials job) (badnessTrial b bad ∷ rest) (badnessTrial b other ∷ rest)
+        (after-clean (badnessTrial b bad) (badnessTrial b other) rest rest (fair-iff b bad .1 fair) (fair-iff b other .1 fair-other) ((λ p. p), λ r a. a))
 
-    pub first-follows : (room : ℕ) → Follows (firstTrials job bad room) (firstTrials job other room)
-    first-follows room = given (ofWhole 3 (room < count job) ∷ jobTrials job) (ofWhole 3 (room < count job) ∷ jobTrials job) ((λ p. p), λ r a. a)
+    pub measure-follows : (work : Work) (list : List ℕ) → Follows (measureTrials job bad work list) (measureTrials job other work list)
+    measure-follows work list =
+        follows-append (firstTrials job bad work (length list)) (firstTrials job other work (length list)) (layoutTrials b list) (layoutTrials b list)
+        (first-follows work (length list)) ((λ p. p), λ r a. a)
 
-    abbrev sized : List ℕ → List Trial
-    sized list = ofWhole 3 (length list < count job) ∷ jobTrials job ++ layoutTrials b list
-
-    pub measure-follows : (list : List ℕ) → Follows (measureTrials job bad list) (measureTrials job other list)
-    measure-follows list = given (sized list) (sized list) ((λ p. p), λ r a. a)
-
-    next-follows : (list : List ℕ) → Follows (nextTrials job bad list) (nextTrials job other list)
-    next-follows list =
-        given (sized list ++ (bestTrial (labelingOf job bad) list ∷ [])) (sized list ++ (bestTrial (labelingOf job other) list ∷ []))
-        (after-all (sized list) (bestTrial (labelingOf job bad) list ∷ []) (bestTrial (labelingOf job other) list ∷ [])
+    next-follows : (work : Work) (list : List ℕ) → Follows (nextTrials job bad work list) (nextTrials job other work list)
+    next-follows work list =
+        follows-append (measureTrials job bad work list) (measureTrials job other work list)
+        (bestTrial (labelingOf job bad) list ∷ []) (bestTrial (labelingOf job other) list ∷ []) (measure-follows work list)
         (whole-follows 10 (Untouching b (held list) × ¬ Best (labelingOf job bad) (held list)) (Untouching b (held list) × ¬ Best (labelingOf job other) (held list)) (
           (λ (u, n). (u, λ s. n (best-on other bad (λ i q h k. sym (same i q h k)) (held list) s))),
           (λ (u, n). (u, λ s. n (best-on bad other same (held list) s))),
-        )))
+        ))
 
-    pub first-on : (before : List ℕ) (a : Answer) (after : List ℕ) → FirstAnswers job bad before a after → FirstAnswers job other before a after
-    first-on before (Total t) after (p, f, e, k) =
-        (first-follows (length before) .0 p, first-best-alike b (Untouching b) v w (same-value bad other same) (held after) f, e ∙ same-value bad other same (held after) (f .best .counts), k)
-    first-on before End after p = absurd p
-    first-on before (Refused r) after (a, e) = (first-follows (length before) .1 r a, e)
+    pub first-on : (work : Work) (before : List ℕ) (a : Answer) (after : List ℕ) → FirstAnswers job bad work before a after → FirstAnswers job other work before a after
+    first-on work before (Total t) after (p, f, e, k) =
+        (first-follows work (length before) .0 p, first-best-alike b (Untouching b) v w (same-value bad other same) (held after) f, e ∙ same-value bad other same (held after) (f .best .counts), k)
+    first-on work before End after p = absurd p
+    first-on work before (Refused r) after (a, e) = (first-follows work (length before) .1 r a, e)
 
-    pub next-on : (before : List ℕ) (a : Answer) (after : List ℕ) → NextAnswers job bad before a after → NextAnswers job other before a after
-    next-on before (Total t) after (p, f, e, k) = (
-      next-follows before .0 p,
+    pub next-on : (work : Work) (before : List ℕ) (a : Answer) (after : List ℕ) → NextAnswers job bad work before a after → NextAnswers job other work before a after
+    next-on work before (Total t) after (p, f, e, k) = (
+      next-follows work before .0 p,
       next-best-alike b (Untouching b) v w (same-value bad other same) (held before) (held after) f,
       e ∙ same-value bad other same (held after) (f .best .counts),
       k,
     )
-    next-on before End after (p, l, e) = (next-follows before .0 p, last-best-alike b (Untouching b) v w (same-value bad other same) (held before) l, e)
-    next-on before (Refused r) after (a, e) = (next-follows before .1 r a, e)
+    next-on work before End after (p, l, e) = (next-follows work before .0 p, last-best-alike b (Untouching b) v w (same-value bad other same) (held before) l, e)
+    next-on work before (Refused r) after (a, e) = (next-follows work before .1 r a, e)
 
-    pub page-on : (list before : List ℕ) (a : Paged) (after : List ℕ) → PageAnswers job bad list before a after → PageAnswers job other list before a after
-    page-on list before (Wrote k) after (p, f) = (next-follows list .0 p, following-alike b (Untouching b) v w (same-value bad other same) list before k after f)
-    page-on list before (NotPaged r) after (a, e) = (next-follows list .1 r a, e)
+    pub page-on : (work : Work) (list before : List ℕ) (a : Paged) (after : List ℕ) → PageAnswers job bad work list before a after → PageAnswers job other work list before a after
+    page-on work list before (Wrote k) after (p, f) = (next-follows work list .0 p, following-alike b (Untouching b) v w (same-value bad other same) list before k after f)
+    page-on work list before (NotPaged r) after (a, e) = (next-follows work list .1 r a, e)
 
     measure-on : (list : List ℕ) (a : Answer) → MeasureAnswers job bad list a → MeasureAnswers job other list a
-    measure-on list (Total t) (p, e) = (measure-follows list .0 p, e ∙ same-value bad other same (held list) (measure-accepted job bad list p .1))
+    measure-on list (Total t) (p, e) = (measure-follows Unlent list .0 p, e ∙ same-value bad other same (held list) (measure-accepted job bad Unlent list p .1))
     measure-on list End p = absurd p
-    measure-on list (Refused r) a = measure-follows list .1 r a
+    measure-on list (Refused r) a = measure-follows Unlent list .1 r a
 
   -- THEOREMS. By weights as by their table.
   module _ (lw bw : ℕ) (figures : List ℕ) (lengths : lw ≤ 1000) (bends : bw ≤ 1000) (t : TableOf b (weighted b lw bw) figures) where
-    pub first-by-table : (before : List ℕ) (m : ℤ) (after : List ℕ) → FirstPromise job (byWeights lw bw) before m after ↔ FirstPromise job (byTable figures) before m after
-    first-by-table before m after = (
-      (λ (a, p, e). (a, first-on (byWeights lw bw) (byTable figures) (lengths, bends) (t .long) (λ i q h k. sym (t .at i q h k)) before a after p, e)),
-      (λ (a, p, e). (a, first-on (byTable figures) (byWeights lw bw) (t .long) (lengths, bends) (t .at) before a after p, e)),
+    pub first-by-table : (work : Work) (before : List ℕ) (m : ℤ) (after : List ℕ) → FirstPromise job (byWeights lw bw) work before m after ↔ FirstPromise job (byTable figures) work before m after
+    first-by-table work before m after = (
+      (λ (a, p, e). (a, first-on (byWeights lw bw) (byTable figures) (lengths, bends) (t .long) (λ i q h k. sym (t .at i q h k)) work before a after p, e)),
+      (λ (a, p, e). (a, first-on (byTable figures) (byWeights lw bw) (t .long) (lengths, bends) (t .at) work before a after p, e)),
     )
 
-    pub next-by-table : (before : List ℕ) (m : ℤ) (after : List ℕ) → NextPromise job (byWeights lw bw) before m after ↔ NextPromise job (byTable figures) before m after
-    next-by-table before m after = (
-      (λ (a, p, e). (a, next-on (byWeights lw bw) (byTable figures) (lengths, bends) (t .long) (λ i q h k. sym (t .at i q h k)) before a after p, e)),
-      (λ (a, p, e). (a, next-on (byTable figures) (byWeights lw bw) (t .long) (lengths, bends) (t .at) before a after p, e)),
+    pub next-by-table : (work : Work) (before : List ℕ) (m : ℤ) (after : List ℕ) → NextPromise job (byWeights lw bw) work before m after ↔ NextPromise job (byTable figures) work before m after
+    next-by-table work before m after = (
+      (λ (a, p, e). (a, next-on (byWeights lw bw) (byTable figures) (lengths, bends) (t .long) (λ i q h k. sym (t .at i q h k)) work before a after p, e)),
+      (λ (a, p, e). (a, next-on (byTable figures) (byWeights lw bw) (t .long) (lengths, bends) (t .at) work before a after p, e)),
     )
 
-    pub page-by-table : (list before : List ℕ) (m : ℤ) (after : List ℕ)
-        → PagePromise job (byWeights lw bw) list before m after ↔ PagePromise job (byTable figures) list before m after
-    page-by-table list before m after = (
-      (λ (a, p, e). (a, page-on (byWeights lw bw) (byTable figures) (lengths, bends) (t .long) (λ i q h k. sym (t .at i q h k)) list before a after p, e)),
-      (λ (a, p, e). (a, page-on (byTable figures) (byWeights lw bw) (t .long) (lengths, bends) (t .at) list before a after p, e)),
+    pub page-by-table : (work : Work) (list before : List ℕ) (m : ℤ) (after : List ℕ)
+        → PagePromise job (byWeights lw bw) work list before m after ↔ PagePromise job (byTable figures) work list before m after
+    page-by-table work list before m after = (
+      (λ (a, p, e). (a, page-on (byWeights lw bw) (byTable figures) (lengths, bends) (t .long) (λ i q h k. sym (t .at i q h k)) work list before a after p, e)),
+      (λ (a, p, e). (a, page-on (byTable figures) (byWeights lw bw) (t .long) (lengths, bends) (t .at) work list before a after p, e)),
     )
 
     pub measure-by-table : (list : List ℕ) (m : ℤ) → MeasurePromise job (byWeights lw bw) list m ↔ MeasurePromise job (byTable figures) list m

@@ -10,7 +10,9 @@ use Rattle.paper.specs.declared.Answer.{Answer}
 use Rattle.paper.specs.declared.Answer.the-variants.{Total, End, Refused}
 use Rattle.paper.specs.declared.Paged.{Paged}
 use Rattle.paper.specs.declared.Paged.the-variants.{Wrote, Refused as NotPaged}
-use Rattle.paper.specs.Job.{count}
+use Rattle.paper.specs.declared.Work.{Work}
+use Rattle.paper.specs.declared.Work.the-variants.{Unlent}
+use Rattle.paper.specs.Job.{Job}
 use Rattle.paper.specs.Layouts.{boardOf, held, Badness, Layout}
 use Rattle.paper.specs.Refusals.{Passed, firstTrials}
 use Rattle.paper.specs.Promises.{FirstAnswers, NextAnswers, PageAnswers, MeasureAnswers}
@@ -22,27 +24,27 @@ Bounded (Total t) = t ≤ 274877906880
 Bounded End = Unit {0}
 Bounded (Refused r) = Unit {0}
 
-total-bounded : (job : List ℕ) (bad : Badness) (room t : ℕ) (list : List ℕ) → Narrow bad → Passed (firstTrials job bad room) → Layout (boardOf job) (held list)
-    → t ≡ totalOf job bad list → t ≤ 274877906880
-total-bounded job bad room t list narrow p l e = let a = first-accepted job bad room p in rw e (total-most job (a .0) bad (a .1) narrow (held list) l)
+total-bounded : (job : Job) (bad : Badness) (work : Work) (room t : ℕ) (list : List ℕ) → Narrow bad → Passed (firstTrials job bad work room) → Layout (boardOf job) (held list)
+    → t ≡ totalOf (boardOf job) bad list → t ≤ 274877906880
+total-bounded job bad work room t list narrow p l e = let a = first-accepted job bad work room p in rw e (total-most (a .0) bad (a .1) narrow (held list) l)
 
-module _ (job : List ℕ) (bad : Badness) (narrow : Narrow bad) (before : List ℕ) where
-  pub first-bounded : (a : Answer) (after : List ℕ) → FirstAnswers job bad before a after → Bounded a
-  first-bounded (Total t) after f = total-bounded job bad (length before) t after narrow (f .0) (f .1 .best .counts .layout) (f .2)
+module _ (job : Job) (bad : Badness) (work : Work) (narrow : Narrow bad) (before : List ℕ) where
+  pub first-bounded : (a : Answer) (after : List ℕ) → FirstAnswers job bad work before a after → Bounded a
+  first-bounded (Total t) after f = total-bounded job bad work (length before) t after narrow (f .0) (f .1 .best .counts .layout) (f .2)
   first-bounded End after f = tt
   first-bounded (Refused r) after f = tt
 
-  pub next-bounded : (a : Answer) (after : List ℕ) → NextAnswers job bad before a after → Bounded a
+  pub next-bounded : (a : Answer) (after : List ℕ) → NextAnswers job bad work before a after → Bounded a
   next-bounded (Total t) after n =
-      let p = measure-accepted job bad before (next-measured job bad before (n .0)) .0 in
-      total-bounded job bad (length before) t after narrow p (n .1 .best .counts .layout) (n .2)
+      let p = measure-accepted job bad work before (next-measured job bad work before (n .0)) .0 in
+      total-bounded job bad work (length before) t after narrow p (n .1 .best .counts .layout) (n .2)
   next-bounded End after n = tt
   next-bounded (Refused r) after n = tt
 
   pub measure-bounded : (a : Answer) → MeasureAnswers job bad before a → Bounded a
   measure-bounded (Total t) m =
-      let p = measure-accepted job bad before (m .0) in
-      total-bounded job bad (length before) t before narrow (p .0) (p .1 .layout) (m .1)
+      let p = measure-accepted job bad Unlent before (m .0) in
+      total-bounded job bad Unlent (length before) t before narrow (p .0) (p .1 .layout) (m .1)
   measure-bounded End m = tt
   measure-bounded (Refused r) m = tt
 
@@ -51,9 +53,9 @@ Counted (Wrote k) = k < 2 ^ 63
 Counted (NotPaged r) = Unit {0}
 
 -- A layout has an entry at least: a page that is in memory has no more layouts than entries.
-pub page-counted : (job : List ℕ) (bad : Badness) (given before : List ℕ) (a : Paged) (after : List ℕ) → length before < 2 ^ 63
-    → PageAnswers job bad given before a after → Counted a
-page-counted job bad given before (Wrote k) after h n =
-    let some = measure-facts job bad given (next-measured job bad given (n .0)) .0 .some in
-    omega (arith, n .1 .fit, mul-le-mul-left {m = 1} {n = count job} k some)
-page-counted job bad given before (NotPaged r) after h n = tt
+pub page-counted : (job : Job) (bad : Badness) (work : Work) (given before : List ℕ) (a : Paged) (after : List ℕ) → length before < 2 ^ 63
+    → PageAnswers job bad work given before a after → Counted a
+page-counted job bad work given before (Wrote k) after h n =
+    let some = measure-facts job bad work given (next-measured job bad work given (n .0)) .0 .some in
+    omega (arith, n .1 .fit, mul-le-mul-left {m = 1} {n = boardOf job .pads} k some)
+page-counted job bad work given before (NotPaged r) after h n = tt

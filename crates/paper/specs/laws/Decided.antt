@@ -11,17 +11,22 @@ use lib.Dec.{T, eqb, eqb→eq, ltb, ltb→lt}
 use lib.ListN.{length}
 use Rattle.numbers.specs.Tests.{both, either, dec-iff, not-iff, ltb-iff, eqb-iff}
 use Rattle.paper.specs.declared.Refusal.{Refusal}
-use Rattle.paper.specs.Job.{count}
+use Rattle.paper.specs.declared.Form.the-variants.{Records, Slots}
+use Rattle.paper.specs.declared.Work.{Work}
+use Rattle.paper.specs.declared.Work.the-variants.{Unlent, Lent}
+use Rattle.paper.specs.Job.{Job, records, slots, formOf, padsOf, portsOf, count, portCount, portOf}
 use Rattle.paper.specs.Layouts.{Board, boardOf, held, leader, Touching, Badness, byWeights, byTable}
 use Rattle.paper.specs.Refusals.{Trial, Smallest, Clean, FirstFault, Passed, RefusedBy, ofEach, ofWhole, ofPairs}
-use Rattle.paper.specs.Refusals.{BadSize, BadWeight, SameName, SameX, jobTrials, layoutTrials, badnessTrial, firstTrials, measureTrials, drawTrials}
+use Rattle.paper.specs.Refusals.{BadSize, BadPortSize, BadWeight, BadField, Outside, SameName, SameX, workNeeded}
+use Rattle.paper.specs.Refusals.{sizeTrials, enoughTrials, workTrials, roomTrials, fieldTrials, placeTrials, jobTrials, layoutTrials, badnessTrial, firstTrials, measureTrials, drawTrials}
 use Rattle.paper.specs.Layouts.{Differ}
 use Rattle.paper.specs.laws.Tests.{Test, atEach, atPairs, atWhole, somewhere, withEarlier, somewhere-iff, with-earlier-iff}
-use Rattle.paper.specs.laws.Tests.{badSize, badWeight, badTable, badField, notAbove, tooClose, sameName, sameX, badEntry, meetAt, badNumber}
-use Rattle.paper.specs.laws.Tests.{bad-size-iff, bad-weight-iff, bad-table-iff, bad-field-iff, not-above-iff, too-close-iff}
+use Rattle.paper.specs.laws.Tests.{badSize, badPortSize, badWeight, badTable, badField, badHeight, notAbove, tooClose, sameName, sameX, badEntry, meetAt, badNumber}
+use Rattle.paper.specs.laws.Tests.{bad-size-iff, bad-port-size-iff, bad-weight-iff, bad-table-iff, outside-iff, bad-field-iff, not-above-iff, too-close-iff}
 use Rattle.paper.specs.laws.Tests.{same-name-iff, same-x-iff, bad-entry-iff, bad-number-iff}
-use Rattle.paper.specs.laws.Tests.{jobTests, layoutTests, badnessTest, firstTests, measureTests, drawTests}
+use Rattle.paper.specs.laws.Tests.{sizeTests, enoughTests, workTests, roomTests, fieldTests, placeTests, jobTests, layoutTests, badnessTest, firstTests, measureTests, drawTests}
 use Rattle.paper.specs.laws.Touching.{meet-iff}
+use Rattle.paper.specs.laws.Trials.{append-passed, passed-append}
 
 -- The trials are passed, or one of them refuses.
 abbrev pub Decided : List Trial → Type 0
@@ -189,40 +194,94 @@ tests-refuse (s ∷ ss) (t ∷ ts) r (a, k) h =
 
 -- ---- each call's
 
-job-tests : (job : List ℕ) → TestsOf (jobTests job) (jobTrials job)
-unfolding jobTests
-job-tests job = (
-  each-test 4 _ _ (badField job) (λ i l. bad-field-iff job i),
+size-tests : (job : Job) → TestsOf (sizeTests (formOf job) (padsOf job) (portsOf job)) (sizeTrials job)
+size-tests (records bytes) = (whole-test 1 (BadSize bytes) (badSize bytes) (bad-size-iff bytes), λ _. tt)
+size-tests (slots pads ports) =
+    (whole-test 1 (BadSize pads) (badSize pads) (bad-size-iff pads), λ _. (whole-test 1 (BadPortSize ports) (badPortSize ports) (bad-port-size-iff ports), λ _. tt))
+
+enough-tests : (job : Job) → TestsOf (enoughTests (formOf job) (padsOf job) (portsOf job)) (enoughTrials job)
+enough-tests (records bytes) = tt
+enough-tests (slots pads ports) =
+    (whole-test 14 (portCount Slots ports < count pads) (ltb (portCount Slots ports) (count pads)) (ltb-iff (portCount Slots ports) (count pads)), λ _. tt)
+
+work-tests : (b : Board) (work : Work) → TestsOf (workTests (b .pads) (b .ports) work) (workTrials b work)
+work-tests b Unlent = tt
+work-tests b (Lent k) =
+    let needed = workNeeded (b .pads) (b .ports) in
+    (whole-test 24 (k < needed) (ltb k needed) (ltb-iff k needed), λ _. tt)
+
+field-tests : (job : Job) → TestsOf (fieldTests (formOf job) (padsOf job) (portsOf job)) (fieldTrials job)
+field-tests (records bytes) = (each-test 4 _ (BadField Records bytes) (badField Records bytes) (λ i l. bad-field-iff Records bytes i), λ _. tt)
+field-tests (slots pads ports) = (
+  each-test 4 _ (BadField Slots pads) (badField Slots pads) (λ i l. bad-field-iff Slots pads i),
+  λ _. (each-test 4 _ (λ q. Outside (portOf Slots ports q)) (badHeight Slots ports) (λ q l. outside-iff (portOf Slots ports q)), λ _. tt),
+)
+
+place-tests : (job : Job) → TestsOf (placeTests (formOf job) (padsOf job) (portsOf job)) (placeTrials job)
+place-tests job = (
+  each-test 5 _ _ (notAbove (formOf job) (portsOf job)) (λ q l. not-above-iff (formOf job) (portsOf job) q),
   λ _. (
-    each-test 5 _ _ (notAbove job) (λ i l. not-above-iff job i),
+    each-test 12 _ _ (tooClose (formOf job) (portsOf job)) (λ q l. too-close-iff (formOf job) (portsOf job) q),
     λ _. (
-      each-test 12 _ _ (tooClose job) (λ i l. too-close-iff job i),
-      λ _. (
-        each-test 6 _ _ (withEarlier (sameName job)) (λ i l. with-earlier-iff (sameName job) (SameName job) i (λ j k. same-name-iff job i j)),
-        λ _. (each-test 7 _ _ (withEarlier (sameX job)) (λ i l. with-earlier-iff (sameX job) (SameX job) i (λ j k. same-x-iff job i j)), λ _. tt),
-      ),
+      each-test 6 _ _ (withEarlier (sameName (padsOf job))) (λ i l. with-earlier-iff (sameName (padsOf job)) (SameName (padsOf job)) i (λ j k. same-name-iff (padsOf job) i j)),
+      λ _. (each-test 7 _ _ (withEarlier (sameX (padsOf job))) (λ i l. with-earlier-iff (sameX (padsOf job)) (SameX (padsOf job)) i (λ j k. same-x-iff (padsOf job) i j)), λ _. tt),
     ),
   ),
 )
 
-badness-test : (job : List ℕ) (bad : Badness) → TestOf (badnessTest job bad) (badnessTrial job bad)
-badness-test job (byWeights lw bw) = whole-test 2 (BadWeight lw bw) (badWeight lw bw) (bad-weight-iff lw bw)
-badness-test job (byTable figures) =
-    whole-test 13 (length figures ≢ count job * count job) (badTable (count job) (length figures)) (bad-table-iff (count job) (length figures))
+job-tests : (job : Job) → TestsOf (jobTests (formOf job) (padsOf job) (portsOf job)) (jobTrials job)
+unfolding jobTests
+job-tests job =
+    tests-append (fieldTests (formOf job) (padsOf job) (portsOf job)) (placeTests (formOf job) (padsOf job) (portsOf job)) (fieldTrials job) (placeTrials job)
+    (field-tests job) (λ _. place-tests job)
 
-pub first-tests : (job : List ℕ) (bad : Badness) (room : ℕ) → TestsOf (firstTests job (badnessTest job bad) room) (firstTrials job bad room)
-unfolding firstTests
-first-tests job bad room = (
-  whole-test 1 (BadSize job) (badSize job) (bad-size-iff job),
-  λ _. (
-    badness-test job bad,
-    λ _. (whole-test 3 (room < count job) (ltb room (count job)) (ltb-iff room (count job)), λ _. job-tests job),
-  ),
+room-tests : (job : Job) (work : Work) (room : ℕ) → TestsOf (roomTests (formOf job) (padsOf job) (portsOf job) work room) (roomTrials job work room)
+room-tests job work room = (
+  whole-test 3 (room < count (padsOf job)) (ltb room (count (padsOf job))) (ltb-iff room (count (padsOf job))),
+  λ _. tests-append (enoughTests (formOf job) (padsOf job) (portsOf job)) (workTests (boardOf job .pads) (boardOf job .ports) work)
+      (enoughTrials job) (workTrials (boardOf job) work) (enough-tests job) (λ _. work-tests (boardOf job) work),
 )
 
+badness-test : (b : Board) (bad : Badness) → TestOf (badnessTest b bad) (badnessTrial b bad)
+badness-test b (byWeights lw bw) = whole-test 2 (BadWeight lw bw) (badWeight lw bw) (bad-weight-iff lw bw)
+badness-test b (byTable figures) =
+    whole-test 13 (length figures ≢ b .pads * b .ports) (badTable (b .pads) (b .ports) (length figures)) (bad-table-iff (b .pads) (b .ports) (length figures))
+
+-- First's tests and Measure's, of a job that is given by weights or a table.
+abbrev pub firstTestsOf : Job → Badness → Work → ℕ → List Test
+firstTestsOf job bad = firstTests (formOf job) (padsOf job) (portsOf job) (badnessTest (boardOf job) bad)
+
+abbrev pub measureTestsOf : Job → Badness → Work → List ℕ → List Test
+measureTestsOf job bad = measureTests (formOf job) (padsOf job) (portsOf job) (badnessTest (boardOf job) bad)
+
+pub first-tests : (job : Job) (bad : Badness) (work : Work) (room : ℕ) → TestsOf (firstTestsOf job bad work room) (firstTrials job bad work room)
+unfolding firstTests
+first-tests job bad work room =
+    tests-append (sizeTests (formOf job) (padsOf job) (portsOf job))
+    (badnessTest (boardOf job) bad ∷ roomTests (formOf job) (padsOf job) (portsOf job) work room ++ jobTests (formOf job) (padsOf job) (portsOf job))
+    (sizeTrials job) (badnessTrial (boardOf job) bad ∷ roomTrials job work room ++ jobTrials job)
+    (size-tests job) (λ _. (
+      badness-test (boardOf job) bad,
+      λ _. tests-append (roomTests (formOf job) (padsOf job) (portsOf job) work room) (jobTests (formOf job) (padsOf job) (portsOf job))
+          (roomTrials job work room) (jobTrials job) (room-tests job work room) (λ _. job-tests job),
+    ))
+
 -- 7 is passed: the x of all pads differ.
-pub passed-differ : (job : List ℕ) → Passed (jobTrials job) → Differ (boardOf job)
-passed-differ job passed i j k l e = passed .1 .1 .1 .1 .0 i l (j, k, e)
+pub passed-differ : (job : Job) → Passed (jobTrials job) → Differ (boardOf job)
+passed-differ job passed i j k l e = append-passed (fieldTrials job) (placeTrials job) passed .1 .1 .1 .1 .0 i l (j, k, e)
+
+-- First's trials are passed exactly if their parts are.
+pub first-parts : (job : Job) (bad : Badness) (work : Work) (room : ℕ) → Passed (firstTrials job bad work room)
+    ↔ (Passed (sizeTrials job) × Clean (badnessTrial (boardOf job) bad) × Passed (roomTrials job work room) × Passed (jobTrials job))
+first-parts job bad work room = (
+  (λ p.
+      let (sizes, (given, rest)) = append-passed (sizeTrials job) (badnessTrial (boardOf job) bad ∷ roomTrials job work room ++ jobTrials job) p in
+      let (roomy, passed) = append-passed (roomTrials job work room) (jobTrials job) rest in
+      (sizes, given, roomy, passed)),
+  (λ (sizes, given, roomy, passed).
+      passed-append (sizeTrials job) (badnessTrial (boardOf job) bad ∷ roomTrials job work room ++ jobTrials job) sizes
+      (given, passed-append (roomTrials job work room) (jobTrials job) roomy passed)),
+)
 
 layout-tests : (b : Board) → Differ b → (list : List ℕ) → TestsOf (layoutTests b list) (layoutTrials b list)
 unfolding layoutTests
@@ -235,31 +294,32 @@ layout-tests b differ list = (
   ),
 )
 
-pub measure-tests : (job : List ℕ) (bad : Badness) (list : List ℕ) → TestsOf (measureTests job (badnessTest job bad) list) (measureTrials job bad list)
+pub measure-tests : (job : Job) (bad : Badness) (work : Work) (list : List ℕ) → TestsOf (measureTestsOf job bad work list) (measureTrials job bad work list)
 unfolding measureTests
-measure-tests job bad list =
-    tests-append (firstTests job (badnessTest job bad) (length list)) (layoutTests (boardOf job) list) (firstTrials job bad (length list)) _
-    (first-tests job bad (length list)) (λ passed. layout-tests (boardOf job) (passed-differ job (passed .1 .1 .1)) list)
+measure-tests job bad work list =
+    tests-append (firstTestsOf job bad work (length list)) (layoutTests (boardOf job) list) (firstTrials job bad work (length list)) _
+    (first-tests job bad work (length list))
+    (λ passed. layout-tests (boardOf job) (passed-differ job (first-parts job bad work (length list) .0 passed .3)) list)
 
-pub draw-tests : (job : List ℕ) (i q room : ℕ) → TestsOf (drawTests job i q room) (drawTrials job i q room)
+pub draw-tests : (bytes : List ℕ) (i q room : ℕ) → TestsOf (drawTests bytes i q room) (drawTrials bytes i q room)
 unfolding drawTests
-draw-tests job i q room = (
-  whole-test 1 (BadSize job) (badSize job) (bad-size-iff job),
+draw-tests bytes i q room = (
+  whole-test 1 (BadSize bytes) (badSize bytes) (bad-size-iff bytes),
   λ _. (
     whole-test 3 (room < 6) (ltb room 6) (ltb-iff room 6),
-    λ _. tests-append (jobTests job) _ (jobTrials job) _ (job-tests job) (λ _. (
-      whole-test 11 ((count job ≤ i) ⊎ (count job ≤ q)) (badNumber (count job) i q) (bad-number-iff (count job) i q),
+    λ _. tests-append (jobTests Records bytes bytes) _ (jobTrials (records bytes)) _ (job-tests (records bytes)) (λ _. (
+      whole-test 11 ((count bytes ≤ i) ⊎ (count bytes ≤ q)) (badNumber (count bytes) i q) (bad-number-iff (count bytes) i q),
       λ _. tt,
     )),
   ),
 )
 
 -- THEOREM: for every input, a call's trials are passed or one of them refuses.
-pub first-decided : (job : List ℕ) (bad : Badness) (room : ℕ) → Decided (firstTrials job bad room)
-first-decided job bad room = tests-decide (firstTests job (badnessTest job bad) room) (firstTrials job bad room) (first-tests job bad room)
+pub first-decided : (job : Job) (bad : Badness) (work : Work) (room : ℕ) → Decided (firstTrials job bad work room)
+first-decided job bad work room = tests-decide (firstTestsOf job bad work room) (firstTrials job bad work room) (first-tests job bad work room)
 
-pub measure-decided : (job : List ℕ) (bad : Badness) (list : List ℕ) → Decided (measureTrials job bad list)
-measure-decided job bad list = tests-decide (measureTests job (badnessTest job bad) list) (measureTrials job bad list) (measure-tests job bad list)
+pub measure-decided : (job : Job) (bad : Badness) (work : Work) (list : List ℕ) → Decided (measureTrials job bad work list)
+measure-decided job bad work list = tests-decide (measureTestsOf job bad work list) (measureTrials job bad work list) (measure-tests job bad work list)
 
-pub draw-decided : (job : List ℕ) (i q room : ℕ) → Decided (drawTrials job i q room)
-draw-decided job i q room = tests-decide (drawTests job i q room) (drawTrials job i q room) (draw-tests job i q room)
+pub draw-decided : (bytes : List ℕ) (i q room : ℕ) → Decided (drawTrials bytes i q room)
+draw-decided bytes i q room = tests-decide (drawTests bytes i q room) (drawTrials bytes i q room) (draw-tests bytes i q room)

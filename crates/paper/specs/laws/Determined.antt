@@ -12,6 +12,7 @@ use Rattle.paper.specs.declared.Paged.{Paged}
 use Rattle.paper.specs.declared.Paged.the-variants.{Wrote, Refused as NotPaged}
 use Rattle.paper.specs.declared.Drawn.{Drawn}
 use Rattle.paper.specs.declared.Drawn.the-variants.{Straight, Bent, Refused as NotDrawn}
+use Rattle.paper.specs.Job.{records}
 use Rattle.paper.specs.Layouts.{boardOf, held, leader}
 use Rattle.paper.specs.Refusals.{Calls, entries, drawTrials}
 use Rattle.paper.specs.Promises.{number, pagedNumber, drawnNumber, coordinates, overwritten}
@@ -83,13 +84,13 @@ module _ (c : Calls) (given before : List ℕ) where
 module _ (job : List ℕ) (i q : ℕ) (before : List Float) where
   pub draw-answer : (d e : Drawn) (l m : List Float) → DrawAnswers job i q before d l → DrawAnswers job i q before e m → (d ≡ e) × (l ≡ m)
   draw-answer (Straight d) (Straight e) l m x y =
-      let s = ap Straight (straight-one (leader (boardOf job) i q) (x .1) (y .1)) in
+      let s = ap Straight (straight-one (leader (boardOf (records job)) i q) (x .1) (y .1)) in
       (s, x .2 ∙ ap (λ (c : Drawn). overwritten (coordinates c) before) s ∙ sym (y .2))
   draw-answer (Straight d) (Bent e) l m x y = absurd (y .1 .bends (x .1 .level))
   draw-answer (Straight d) (NotDrawn r) l m x y = absurd (not-both (drawTrials job i q (length before)) r (x .0) (y .0))
   draw-answer (Bent d) (Straight e) l m x y = absurd (x .1 .bends (y .1 .level))
   draw-answer (Bent d) (Bent e) l m x y =
-      let s = ap Bent (bent-one (leader (boardOf job) i q) (x .1) (y .1)) in
+      let s = ap Bent (bent-one (leader (boardOf (records job)) i q) (x .1) (y .1)) in
       (s, x .2 ∙ ap (λ (c : Drawn). overwritten (coordinates c) before) s ∙ sym (y .2))
   draw-answer (Bent d) (NotDrawn r) l m x y = absurd (not-both (drawTrials job i q (length before)) r (x .0) (y .0))
   draw-answer (NotDrawn r) (Straight e) l m x y = absurd (not-both (drawTrials job i q (length before)) r (y .0) (x .0))

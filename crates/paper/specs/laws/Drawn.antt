@@ -18,7 +18,7 @@ use Rattle.paper.specs.declared.Two.{Two}
 use Rattle.paper.specs.declared.Three.{Three}
 use Rattle.paper.specs.declared.Drawn.{Drawn}
 use Rattle.paper.specs.declared.Drawn.the-variants.{Straight, Bent, Refused as NotDrawn}
-use Rattle.paper.specs.Job.{xOf, yOf, portOf, twos}
+use Rattle.paper.specs.Job.{records, xOf, yOf, portOf, twos}
 use Rattle.paper.specs.Leaders.{Leader, distance}
 use Rattle.paper.specs.Layouts.{boardOf, leader}
 use Rattle.paper.specs.Refusals.{Passed, drawTrials}
@@ -114,7 +114,7 @@ bent-one l p q =
 -- ---- the call Draw
 
 -- A Draw that passes its trials has a leader within the ranges.
-pub passed-on-sheet : (job : List ℕ) (i q room : ℕ) → Passed (drawTrials job i q room) → OnSheet (leader (boardOf job) i q)
+pub passed-on-sheet : (job : List ℕ) (i q room : ℕ) → Passed (drawTrials job i q room) → OnSheet (leader (boardOf (records job)) i q)
 passed-on-sheet job i q room p =
     let a = draw-accepted job i q room p in
     record { right = a .0 .width i (a .2); pad = a .0 .pad i (a .2); port = a .0 .port q (a .3) }
@@ -138,7 +138,7 @@ coordinates-few (NotDrawn r) = omega arith
 
 -- What draws the leader is Draw's answer, with its coordinates in the lent list.
 pub draw-answers : (job : List ℕ) (i q : ℕ) (before : List Float) (d : Drawn) → Passed (drawTrials job i q (length before))
-    → Draws (leader (boardOf job) i q) d → DrawAnswers job i q before d (overwritten (coordinates d) before)
+    → Draws (leader (boardOf (records job)) i q) d → DrawAnswers job i q before d (overwritten (coordinates d) before)
 draw-answers job i q before (Straight d) p w = (p, w, refl)
 draw-answers job i q before (Bent d) p w = (p, w, refl)
 
@@ -155,13 +155,13 @@ abbrev halves : Bool → ℕ → Float
 halves s n = fin s n (negsuc 0)
 
 -- J5, record 2 to port 0: (7.5, -7.5), (7.5, 0), (0, 0)
-pub bent-sheet : leaderDrawn (leader (boardOf J5) 2 0)
+pub bent-sheet : leaderDrawn (leader (boardOf (records J5)) 2 0)
     ≡ Bent (record { pad = at (halves false 15) (halves true 15); bend = at (halves false 15) nought; port = at nought nought })
 unfolding leaderDrawn canvas quarter round xOf yOf portOf twos
 bent-sheet = refl
 
 -- J5, record 0 to port 1: (2.5, -2.5), (0, -2.5)
-pub straight-sheet : leaderDrawn (leader (boardOf J5) 0 1)
+pub straight-sheet : leaderDrawn (leader (boardOf (records J5)) 0 1)
     ≡ Straight (record { pad = at (halves false 5) (halves true 5); port = at nought (halves true 5) })
 unfolding leaderDrawn canvas quarter round xOf yOf portOf twos
 straight-sheet = refl

@@ -10,6 +10,7 @@ use lib.Ieee.{Float}
 use Rattle.paper.specs.declared.Answer.the-variants.{Total, End, Refused}
 use Rattle.paper.specs.declared.Paged.the-variants.{Wrote, Refused as NotPaged}
 use Rattle.paper.specs.declared.Drawn.the-variants.{Refused as NotDrawn}
+use Rattle.paper.specs.Job.{records}
 use Rattle.paper.specs.Layouts.{boardOf, held, leader}
 use Rattle.paper.specs.Problem.{Best, NextBest, LastBest}
 use Rattle.paper.specs.Refusals.{Passed, drawTrials, Calls, entries}
@@ -93,7 +94,7 @@ module _ (job : List ℕ) (i q : ℕ) (before : List Float) where
     where
       go : Decided (drawTrials job i q (length before)) → (m : ℤ) × (after : List Float) × DrawPromise job i q before m after
       go (inl p) =
-          let d = leaderDrawn (leader (boardOf job) i q) in
-          let is = drawn-is (leader (boardOf job) i q) (passed-on-sheet job i q (length before) p) in
+          let d = leaderDrawn (leader (boardOf (records job)) i q) in
+          let is = drawn-is (leader (boardOf (records job)) i q) (passed-on-sheet job i q (length before) p) in
           (drawnNumber d, overwritten (coordinates d) before, (d, draw-answers job i q before d p is, refl))
       go (inr (r, a)) = (drawnNumber (NotDrawn r), before, (NotDrawn r, (a, refl), refl))

@@ -2,18 +2,22 @@
 --
 --     first-pair;  measure-named, next-named, first-named, draw-named;  alone-number
 use mathlib.Core.Path.{_≡_, refl, sym, subst}
-use mathlib.Core.Logic.{_≢_, inl, inr, _↔_}
+use mathlib.Core.Logic.{_≢_, inl, inr, ⊎-elim, _↔_}
 use mathlib.Core.List.{List, [], _∷_, _++_}
 use Prim.Native.Nat.{ℕ, _+_, _*_}
 use native.Mathlib.Omega.{arith}
 use lib.ListN.{length}
 use lib.IntN.{pos, negℤ}
 use Rattle.paper.specs.declared.Refusal.{Refusal}
+use Rattle.paper.specs.declared.Work.{Work}
+use Rattle.paper.specs.declared.Work.the-variants.{Unlent, Lent}
+use Rattle.paper.specs.Job.{Job, records, slots}
 use Rattle.paper.specs.Layouts.{Board, boardOf, held, Touching, Badness, byWeights, byTable}
 use Rattle.paper.specs.Problem.{labelingOf}
-use Rattle.paper.specs.Refusals.{Trial, FirstFault, RefusedBy, refusal, ofEach, ofPairs, jobTrials, layoutTrials, bestTrial, numberTrial}
+use Rattle.paper.specs.Refusals.{Trial, FirstFault, Passed, RefusedBy, refusal, ofEach, ofPairs, sizeTrials, enoughTrials, workTrials, roomTrials, fieldTrials, placeTrials, jobTrials, layoutTrials, bestTrial, numberTrial}
 use Rattle.paper.specs.Refusals.{badnessTrial, firstTrials, measureTrials, nextTrials, drawTrials, Alone, FirstPair, Named}
 use Rattle.paper.specs.Promises.{refusalNumber}
+use Rattle.paper.specs.laws.Trials.{refused-append}
 
 -- ---- a refusal by some trial
 
@@ -36,41 +40,61 @@ refused-is P (t ∷ ts) r e (inr a) = refused-is P ts r (e .1) (a .1)
 
 -- ---- one record, or the first touching pair
 
--- A refusal by a trial of each record, or of the whole input, names one record.
-module _ (P : Refusal → Type 0) (says : (r : Refusal) → Alone r → P r) where
-  one : (r n : ℕ) (fault : ℕ → Type 0) → r ≢ 9 → (i j : ℕ) → FirstFault (ofEach r n fault) i j → P (refusal r i j)
-  one r n fault other i j a = says (refusal r i j) (other, a .named .here)
+-- A refusal by a trial of each record, or of the whole input, names one record; and but for Next's last, none is 10.
+module _ (P : Refusal → Type 0) (says : (r : Refusal) → Alone r → r .reason ≢ 10 → P r) where
+  one : (r n : ℕ) (fault : ℕ → Type 0) → (r ≢ 9) × (r ≢ 10) → (i j : ℕ) → FirstFault (ofEach r n fault) i j → P (refusal r i j)
+  one r n fault other i j a = says (refusal r i j) (other .0, a .named .here) (other .1)
 
-  of-job : (job : List ℕ) → OfEach P (jobTrials job)
-  of-job job = (
-    one 4 _ _ (λ e. omega arith),
-    (
-      one 5 _ _ (λ e. omega arith),
-      (
-        one 12 _ _ (λ e. omega arith),
-        (one 6 _ _ (λ e. omega arith), (one 7 _ _ (λ e. omega arith), tt)),
-      ),
-    ),
-  )
+  of-size : (job : Job) → OfEach P (sizeTrials job)
+  of-size (records bytes) = (one 1 _ _ (omega arith, omega arith), tt)
+  of-size (slots pads ports) = (one 1 _ _ (omega arith, omega arith), (one 1 _ _ (omega arith, omega arith), tt))
 
-  of-badness : (job : List ℕ) (bad : Badness) (i j : ℕ) → FirstFault (badnessTrial job bad) i j → P (refusal (badnessTrial job bad .reason) i j)
-  of-badness job (byWeights lw bw) = one 2 _ _ (λ e. omega arith)
-  of-badness job (byTable figures) = one 13 _ _ (λ e. omega arith)
+  of-enough : (job : Job) → OfEach P (enoughTrials job)
+  of-enough (records bytes) = tt
+  of-enough (slots pads ports) = (one 14 _ _ (omega arith, omega arith), tt)
 
-  of-first : (job : List ℕ) (bad : Badness) (room : ℕ) → OfEach P (firstTrials job bad room)
-  of-first job bad room = (one 1 _ _ (λ e. omega arith), (of-badness job bad, (one 3 _ _ (λ e. omega arith), of-job job)))
+  of-work : (b : Board) (work : Work) → OfEach P (workTrials b work)
+  of-work b Unlent = tt
+  of-work b (Lent numbers) = (one 24 _ _ (omega arith, omega arith), tt)
+
+  of-field : (job : Job) → OfEach P (fieldTrials job)
+  of-field (records bytes) = (one 4 _ _ (omega arith, omega arith), tt)
+  of-field (slots pads ports) = (one 4 _ _ (omega arith, omega arith), (one 4 _ _ (omega arith, omega arith), tt))
+
+  of-job : (job : Job) → OfEach P (jobTrials job)
+  of-job job =
+      each-append P (fieldTrials job) (placeTrials job) (of-field job) (
+        one 5 _ _ (omega arith, omega arith),
+        (
+          one 12 _ _ (omega arith, omega arith),
+          (one 6 _ _ (omega arith, omega arith), (one 7 _ _ (omega arith, omega arith), tt)),
+        ),
+      )
+
+  of-badness : (b : Board) (bad : Badness) (i j : ℕ) → FirstFault (badnessTrial b bad) i j → P (refusal (badnessTrial b bad .reason) i j)
+  of-badness b (byWeights lw bw) = one 2 _ _ (omega arith, omega arith)
+  of-badness b (byTable figures) = one 13 _ _ (omega arith, omega arith)
+
+  of-room : (job : Job) (work : Work) (room : ℕ) → OfEach P (roomTrials job work room)
+  of-room job work room = (one 3 _ _ (omega arith, omega arith), each-append P (enoughTrials job) (workTrials (boardOf job) work) (of-enough job) (of-work (boardOf job) work))
+
+  of-first : (job : Job) (bad : Badness) (work : Work) (room : ℕ) → OfEach P (firstTrials job bad work room)
+  of-first job bad work room =
+      each-append P (sizeTrials job) (badnessTrial (boardOf job) bad ∷ roomTrials job work room ++ jobTrials job) (of-size job)
+      (of-badness (boardOf job) bad, each-append P (roomTrials job work room) (jobTrials job) (of-room job work room) (of-job job))
 
 -- THEOREM. First and Draw name one record.
-pub first-named : (job : List ℕ) (bad : Badness) (room : ℕ) (r : Refusal) → RefusedBy (firstTrials job bad room) r → Alone r
-first-named job bad room r = refused-is Alone (firstTrials job bad room) r (of-first Alone (λ r a. a) job bad room)
+pub first-named : (job : Job) (bad : Badness) (work : Work) (room : ℕ) (r : Refusal) → RefusedBy (firstTrials job bad work room) r → Alone r
+first-named job bad work room r = refused-is Alone (firstTrials job bad work room) r (of-first Alone (λ r a n. a) job bad work room)
 
-pub draw-named : (job : List ℕ) (i q room : ℕ) (r : Refusal) → RefusedBy (drawTrials job i q room) r → Alone r
-draw-named job i q room r =
-    refused-is Alone (drawTrials job i q room) r (
-      one Alone (λ r a. a) 1 _ _ (λ e. omega arith),
+pub draw-named : (bytes : List ℕ) (i q room : ℕ) (r : Refusal) → RefusedBy (drawTrials bytes i q room) r → Alone r
+draw-named bytes i q room r =
+    refused-is Alone (drawTrials bytes i q room) r (
+      one Alone (λ r a n. a) 1 _ _ (omega arith, omega arith),
       (
-        one Alone (λ r a. a) 3 _ _ (λ e. omega arith),
-        each-append Alone (jobTrials job) (numberTrial job i q ∷ []) (of-job Alone (λ r a. a) job) (one Alone (λ r a. a) 11 _ _ (λ e. omega arith), tt),
+        one Alone (λ r a n. a) 3 _ _ (omega arith, omega arith),
+        each-append Alone (jobTrials (records bytes)) (numberTrial bytes i q ∷ []) (of-job Alone (λ r a n. a) (records bytes))
+            (one Alone (λ r a n. a) 11 _ _ (omega arith, omega arith), tt),
       ),
     )
 
@@ -91,24 +115,38 @@ first-pair b f i j = (
   }),
 )
 
-module _ (job : List ℕ) (bad : Badness) (list : List ℕ) where
+module _ (job : Job) (bad : Badness) (work : Work) (list : List ℕ) where
   abbrev Told : Refusal → Type 0
   Told = Named (boardOf job) (held list)
 
-  of-measure : OfEach Told (measureTrials job bad list)
+  of-measure : OfEach Told (measureTrials job bad work list)
   of-measure =
-      each-append Told (firstTrials job bad (length list)) (layoutTrials (boardOf job) list) (of-first Told (λ r a. inl a) job bad (length list))
-      (one Told (λ r a. inl a) 8 _ _ (λ e. omega arith), ((λ i j a. inr (refl, first-pair (boardOf job) (held list) i j .0 a)), tt))
+      each-append Told (firstTrials job bad work (length list)) (layoutTrials (boardOf job) list) (of-first Told (λ r a n. inl a) job bad work (length list))
+      (one Told (λ r a n. inl a) 8 _ _ (omega arith, omega arith), ((λ i j a. inr (refl, first-pair (boardOf job) (held list) i j .0 a)), tt))
 
   -- THEOREM. Measure names one record, or by 9 the first touching pair; so does Next, and so Page, whose trials are Next's.
-  pub measure-named : (r : Refusal) → RefusedBy (measureTrials job bad list) r → Told r
-  measure-named r = refused-is Told (measureTrials job bad list) r of-measure
+  pub measure-named : (r : Refusal) → RefusedBy (measureTrials job bad work list) r → Told r
+  measure-named r = refused-is Told (measureTrials job bad work list) r of-measure
 
-  pub next-named : (r : Refusal) → RefusedBy (nextTrials job bad list) r → Told r
+  pub next-named : (r : Refusal) → RefusedBy (nextTrials job bad work list) r → Told r
   next-named r =
-      refused-is Told (nextTrials job bad list) r
-      (each-append Told (measureTrials job bad list) (bestTrial (labelingOf job bad) list ∷ []) of-measure
-      (one Told (λ r a. inl a) 10 _ _ (λ e. omega arith), tt))
+      refused-is Told (nextTrials job bad work list) r
+      (each-append Told (measureTrials job bad work list) (bestTrial (labelingOf job bad) list ∷ []) of-measure
+      ((λ i j a. inl ((λ e. omega arith), a .named .here)), tt))
+
+  -- What Measure's trials refuse is not refused by 10; nor is what First's do.
+  pub measure-not-ten : (r : Refusal) → RefusedBy (measureTrials job bad work list) r → r .reason ≢ 10
+  measure-not-ten r =
+      refused-is (λ s. s .reason ≢ 10) (measureTrials job bad work list) r
+      (each-append (λ s. s .reason ≢ 10) (firstTrials job bad work (length list)) (layoutTrials (boardOf job) list) (of-first (λ s. s .reason ≢ 10) (λ s a n. n) job bad work (length list))
+      (one (λ s. s .reason ≢ 10) (λ s a n. n) 8 _ _ (omega arith, omega arith), ((λ i j a e. omega arith), tt)))
+
+  -- Where Measure's are not passed, what Next refuses they refuse.
+  pub not-by-ten : (r : Refusal) → ¬ Passed (measureTrials job bad work list) → RefusedBy (nextTrials job bad work list) r → RefusedBy (measureTrials job bad work list) r
+  not-by-ten r n a = ⊎-elim (λ b. b) (λ (p, b). absurd (n p)) (refused-append (measureTrials job bad work list) (bestTrial (labelingOf job bad) list ∷ []) r a)
+
+pub first-not-ten : (job : Job) (bad : Badness) (work : Work) (room : ℕ) (r : Refusal) → RefusedBy (firstTrials job bad work room) r → r .reason ≢ 10
+first-not-ten job bad work room r = refused-is (λ s. s .reason ≢ 10) (firstTrials job bad work room) r (of-first (λ s. s .reason ≢ 10) (λ s a n. n) job bad work room)
 
 -- ---- C's number
 

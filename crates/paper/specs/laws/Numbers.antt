@@ -3,7 +3,7 @@
 --     total-told, next-total-told, end-told, wrote-told, measure-told, straight-told, bent-told: what every other number tells
 use mathlib.Core.Path.{_≡_, refl, sym, ap, subst, _∙_}
 use mathlib.Core.Logic.{_⊎_, inl, inr}
-use mathlib.Core.List.{List, [], _∷_}
+use mathlib.Core.List.{List, [], _∷_, _++_}
 use Prim.Native.Nat.{ℕ, zero, suc, _+_, _*_, _/_, _%_, _≤_, _<_}
 use native.Mathlib.Omega.{arith}
 use lib.ListN.{length}
@@ -20,13 +20,18 @@ use Rattle.paper.specs.declared.Two.{Two}
 use Rattle.paper.specs.declared.Three.{Three}
 use Rattle.paper.specs.declared.Drawn.{Drawn}
 use Rattle.paper.specs.declared.Drawn.the-variants.{Straight, Bent, Refused as NotDrawn}
-use Rattle.paper.specs.Layouts.{Badness, byWeights, byTable}
+use Rattle.paper.specs.declared.Work.{Work}
+use Rattle.paper.specs.declared.Work.the-variants.{Unlent, Lent}
+use Rattle.paper.specs.Job.{Job, records, slots}
+use Rattle.paper.specs.Layouts.{Board, boardOf, Badness, byWeights, byTable}
 use Rattle.paper.specs.Problem.{labelingOf}
+use Rattle.paper.specs.Refusals.{sizeTrials, enoughTrials, workTrials, roomTrials, fieldTrials, placeTrials, jobTrials, layoutTrials, numberTrial}
 use Rattle.paper.specs.Refusals.{Trial, Clean, Passed, RefusedBy, firstTrials, measureTrials, nextTrials, drawTrials, badnessTrial, bestTrial, Calls, callsOf}
 use Rattle.paper.specs.Promises.{refusalNumber, refusalIn, number, pagedNumber, drawnNumber, FirstOver, NextOver, PageOver, MeasureOver, DrawAnswers}
-use Rattle.paper.specs.Promises.{FirstReplies, NextReplies, PageReplies, MeasureReplies, DrawPromise, RefusesBy}
+use Rattle.paper.specs.Promises.{WorkAfter, WorkPromise, FirstReplies, NextReplies, PageReplies, MeasureReplies, DrawPromise, RefusesBy}
 use Rattle.paper.specs.laws.Trials.{not-both, refused-left}
-use Rattle.paper.specs.laws.Accepted.{few-records}
+use Rattle.paper.specs.laws.Decided.{first-parts}
+use Rattle.paper.specs.laws.Accepted.{sized, pads-sized, ports-sized}
 
 -- ---- a refusal's number
 
@@ -65,6 +70,12 @@ refusal-back r s = λ i. record { reason = reason i; at = at i; earlier = earlie
 
     earlier : natAbs (refusalNumber r) / 4294967296 ≡ r .earlier
     earlier = rw size (omega arith)
+
+-- So what is said of the work list by an answer is said by C's number of it.
+work-told : (a : Answer) → ((r : Refusal) → a ≡ Refused r → SmallRefusal r) → (before after : List ℕ) → WorkAfter a before after → WorkPromise (number a) before after
+work-told (Total t) small before after w l n = absurd (omega (whole, neg-nums (pos 65536)))
+work-told End small before after w l n = absurd (omega (whole, neg-nums (pos 65536)))
+work-told (Refused r) small before after w l n = w (λ e. n (ap (λ (s : Refusal). s .reason) (refusal-back r (small r refl)) ∙ e))
 
 -- ---- refusals by trials are such
 
@@ -121,8 +132,14 @@ module _ (c : Calls) (N : Numbered c) where
         says End p = absurd p
         says (Refused r) p = inl (r, p .0, p .1, refl)
 
+    pub first-work : (a : Answer) → FirstOver c before a after → (held left : List ℕ) → WorkAfter a held left → WorkPromise (number a) held left
+    first-work a p = work-told a (λ r e. N .first (length before) r ((rw e at p) .0))
+
   -- Next: the same, and -1 is the end.
   module _ (before after : List ℕ) where
+    pub next-work : (a : Answer) → NextOver c before a after → (held left : List ℕ) → WorkAfter a held left → WorkPromise (number a) held left
+    next-work a p = work-told a (λ r e. N .next before r ((rw e at p) .0))
+
     pub next-total-told : (t : ℕ) → NextReplies c before (pos t) after → NextOver c before (Total t) after
     next-total-told t (Total u, p, e) = let n : u ≡ t = cc in rw n at p
     next-total-told t (End, p, e) = absurd (omega (whole, eq-num (pos t) (negsuc 0) e))
@@ -171,28 +188,82 @@ module _ (c : Calls) (N : Numbered c) where
 
 -- ---- those on a job
 
--- So is the number of the weights' trial, and of the table's.
-badness-small : (job : List ℕ) (bad : Badness) → (1 ≤ badnessTrial job bad .reason) × (badnessTrial job bad .reason < 65536) × (badnessTrial job bad .among ≤ 65536)
-badness-small job (byWeights lw bw) = omega arith
-badness-small job (byTable figures) = omega arith
+-- One list of trials after another.
+numbering-append : (ts us : List Trial) → Numbering ts → (Passed ts → Numbering us) → Numbering (ts ++ us)
+numbering-append [] us n k = k tt
+numbering-append (t ∷ ts) us n k = (n .0, n .1, n .2, λ c. numbering-append ts us (n .3 c) (λ p. k (c, p)))
 
-pub numbered : (job : List ℕ) (bad : Badness) → Numbered (callsOf job bad)
-numbered job bad = record {
-  first = λ room r. refused-small (firstTrials job bad room) r (omega arith, omega arith, omega arith, λ c. let few = few-records job (c 0 (omega arith)) in omega (arith, badness-small job bad));
-  measure = λ list r a. next list r (refused-left (measureTrials job bad list) (bestTrial (labelingOf job bad) list ∷ []) r a);
-  next = next;
+size-small : (job : Job) → Numbering (sizeTrials job)
+size-small (records bytes) = omega arith
+size-small (slots pads ports) = omega arith
+
+badness-small : (b : Board) (bad : Badness) → (1 ≤ badnessTrial b bad .reason) × (badnessTrial b bad .reason < 65536) × (badnessTrial b bad .among ≤ 65536)
+badness-small b (byWeights lw bw) = omega arith
+badness-small b (byTable figures) = omega arith
+
+room-small : (job : Job) (work : Work) (room : ℕ) → Numbering (roomTrials job work room)
+room-small job work room = (omega arith, omega arith, omega arith, λ _. numbering-append (enoughTrials job) (workTrials (boardOf job) work) (enough job) (λ _. lent work))
+  where
+    enough : (job : Job) → Numbering (enoughTrials job)
+    enough (records bytes) = tt
+    enough (slots pads ports) = omega arith
+
+    lent : (work : Work) → Numbering (workTrials (boardOf job) work)
+    lent Unlent = tt
+    lent (Lent numbers) = omega arith
+
+job-small : (job : Job) → boardOf job .pads ≤ 64 → boardOf job .ports ≤ 128 → Numbering (jobTrials job)
+job-small job few slots-few = numbering-append (fieldTrials job) (placeTrials job) (fields job few slots-few) (λ _. omega arith)
+  where
+    fields : (job : Job) → boardOf job .pads ≤ 64 → boardOf job .ports ≤ 128 → Numbering (fieldTrials job)
+    fields (records bytes) h k = omega arith
+    fields (slots pads ports) h k = omega arith
+
+first-small : (job : Job) (bad : Badness) (work : Work) (room : ℕ) → Numbering (firstTrials job bad work room)
+first-small job bad work room =
+    numbering-append (sizeTrials job) (badnessTrial (boardOf job) bad ∷ roomTrials job work room ++ jobTrials job) (size-small job) (λ sizes.
+    let small = badness-small (boardOf job) bad in (
+      small .0,
+      small .1,
+      small .2,
+      λ _. numbering-append (roomTrials job work room) (jobTrials job) (room-small job work room)
+          (λ _. job-small job (pads-sized job sizes .few) (ports-sized job sizes .1)),
+    ))
+
+next-small : (job : Job) (bad : Badness) (work : Work) (list : List ℕ) → Numbering (nextTrials job bad work list)
+next-small job bad work list =
+    numbering-append (measureTrials job bad work list) (bestTrial (labelingOf job bad) list ∷ [])
+    (numbering-append (firstTrials job bad work (length list)) (layoutTrials (boardOf job) list) (first-small job bad work (length list)) (λ p.
+    let few = pads-sized job (first-parts job bad work (length list) .0 p .0) .few in omega arith))
+    (λ _. omega arith)
+
+pub numbered : (job : Job) (bad : Badness) (work : Work) → Numbered (callsOf job bad work)
+numbered job bad work = record {
+  first = λ room r. refused-small (firstTrials job bad work room) r (first-small job bad work room);
+  measure = λ list r a. next Unlent list r (refused-left (measureTrials job bad Unlent list) (bestTrial (labelingOf job bad) list ∷ []) r a);
+  next = next work;
 }
   where
-    next : (list : List ℕ) (r : Refusal) → RefusedBy (nextTrials job bad list) r → SmallRefusal r
-    next list r = refused-small (nextTrials job bad list) r (omega arith, omega arith, omega arith, λ c. let few = few-records job (c 0 (omega arith)) in omega (arith, badness-small job bad))
+    next : (work : Work) (list : List ℕ) (r : Refusal) → RefusedBy (nextTrials job bad work list) r → SmallRefusal r
+    next work list r = refused-small (nextTrials job bad work list) r (next-small job bad work list)
 
 -- ---- Draw
 
 module _ (job : List ℕ) (i q : ℕ) (before after : List Float) where
   narrow : (r : Refusal) → RefusedBy (drawTrials job i q (length before)) r → SmallRefusal r
   narrow r =
-      refused-small (drawTrials job i q (length before)) r
-      (omega arith, omega arith, omega arith, λ c. let few = few-records job (c 0 (omega arith)) in omega arith)
+      refused-small (drawTrials job i q (length before)) r (
+        omega arith,
+        omega arith,
+        omega arith,
+        λ c.
+            let few = sized job (c 0 (omega arith)) .few in (
+              omega arith,
+              omega arith,
+              omega arith,
+              λ _. numbering-append (jobTrials (records job)) (numberTrial job i q ∷ []) (job-small (records job) few (omega arith)) (λ _. omega arith),
+            ),
+      )
 
   -- 2 points are a leader without a bend,
   pub straight-told : DrawPromise job i q before (pos 2) after → (d : Two) × DrawAnswers job i q before (Straight d) after

@@ -6,14 +6,14 @@ use Prim.Native.Nat.{ℕ, zero, suc, _<_}
 use native.Mathlib.Decide.{decLt, ℕ-discrete}
 use native.Mathlib.Omega.{arith}
 use mathlib.Core.List.{[], _∷_}
-use Rattle.paper.specs.Job.{xOf}
+use Rattle.paper.specs.Job.{records, xOf}
 use Rattle.paper.specs.Layouts.{Board, boardOf, held, Differ, Same}
 use Rattle.paper.specs.Problem.{Problem, Best, Before, FirstBest, NextBest, LastBest}
 use Rattle.paper.specs.Sheets.{J3}
 use Rattle.paper.specs.laws.Boards.{own-number}
 
 -- Of two layouts the one with the smaller port number at the rightmost pad where they differ comes first: on the board of J3, [1, 0] before [0, 1].
-right-first : Before (boardOf J3) (held (1 ∷ 0 ∷ [])) (held (0 ∷ 1 ∷ []))
+right-first : Before (boardOf (records J3)) (held (1 ∷ 0 ∷ [])) (held (0 ∷ 1 ∷ []))
 unfolding xOf
 right-first = record { pad = 1; inside = omega arith; smaller = omega arith; alike = λ j l k. absurd (none j l k) }
   where

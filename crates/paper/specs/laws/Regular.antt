@@ -5,19 +5,21 @@ use mathlib.Core.Logic.{_↔_}
 use mathlib.Core.Bool.{not}
 use mathlib.Core.List.{List, [], _∷_, _++_}
 use Prim.Native.Nat.{ℕ, _≤_, _<_}
-use native.Mathlib.Omega.{arith}
 use lib.Dec.{T}
 use lib.ListN.{length}
 use Rattle.numbers.specs.Tests.{not-iff}
+use Rattle.paper.specs.declared.Work.{Work}
+use Rattle.paper.specs.declared.Work.the-variants.{Unlent}
+use Rattle.paper.specs.Job.{Job}
 use Rattle.paper.specs.Layouts.{boardOf, held, Badness, costOf, Untouching}
 use Rattle.paper.specs.Problem.{Best, labelingOf}
 use Rattle.paper.specs.Refusals.{Passed, refusal, firstTrials, measureTrials, nextTrials, Calls, entries, callsOf}
 use Rattle.paper.specs.laws.Trials.{not-both}
-use Rattle.paper.specs.laws.Tests.{Test, atWhole, badnessTest, measureTests}
-use Rattle.paper.specs.laws.Decided.{Decided, TestsOf, tests-append, whole-test, tests-decide, measure-tests, first-decided, measure-decided}
+use Rattle.paper.specs.laws.Tests.{Test, atWhole}
+use Rattle.paper.specs.laws.Decided.{Decided, TestsOf, tests-append, whole-test, tests-decide, measureTestsOf, measure-tests, first-decided, measure-decided}
 use Rattle.paper.specs.laws.Trying.{Searchable, bestTest, untouchingTest, best-iff, best-dec, labeling-searchable}
 use Rattle.paper.specs.laws.Existence.{untouching-exists}
-use Rattle.paper.specs.laws.Accepted.{Accepted, first-accepted, measure-accepted, untouching-passed, next-measured, best-passed, not-best-refused}
+use Rattle.paper.specs.laws.Accepted.{AcceptedJob, first-accepted, first-other-room, measure-accepted, untouching-passed, next-measured, best-passed, not-best-refused}
 use Rattle.paper.specs.laws.Numbers.{Numbered, numbered}
 
 pub record Regular (c : Calls) : Type 0 where
@@ -37,50 +39,50 @@ pub record Regular (c : Calls) : Type 0 where
 
 -- ---- those on a job
 
-unfoldable pub nextTests : List ℕ → Badness → List ℕ → List Test
-nextTests job bad list = measureTests job (badnessTest job bad) list ++ (atWhole 10 (not (bestTest (labelingOf job bad) (untouchingTest (boardOf job)) (held list))) ∷ [])
+unfoldable pub nextTests : Job → Badness → Work → List ℕ → List Test
+nextTests job bad work list = measureTestsOf job bad work list ++ (atWhole 10 (not (bestTest (labelingOf job bad) (untouchingTest (boardOf job)) (held list))) ∷ [])
 
-module _ (job : List ℕ) (bad : Badness) where
-  accepted : (room : ℕ) → Passed (firstTrials job bad room) → Accepted job
-  accepted room p = first-accepted job bad room p .0
+module _ (job : Job) (bad : Badness) (work : Work) where
+  accepted : (room : ℕ) → Passed (firstTrials job bad work room) → AcceptedJob job
+  accepted room p = first-accepted job bad work room p .0
 
-  abbrev searchable : (room : ℕ) → Passed (firstTrials job bad room) → Searchable (labelingOf job bad)
+  abbrev searchable : (room : ℕ) → Passed (firstTrials job bad work room) → Searchable (labelingOf job bad)
   searchable room p = labeling-searchable (boardOf job) (costOf (boardOf job) bad) (accepted room p .proper .differ)
 
   -- 10 is told by trying every assignment.
-  pub next-tests : (list : List ℕ) → TestsOf (nextTests job bad list) (nextTrials job bad list)
+  pub next-tests : (list : List ℕ) → TestsOf (nextTests job bad work list) (nextTrials job bad work list)
   unfolding nextTests
   next-tests list =
-      tests-append (measureTests job (badnessTest job bad) list) _ (measureTrials job bad list) _ (measure-tests job bad list)
+      tests-append (measureTestsOf job bad work list) _ (measureTrials job bad work list) _ (measure-tests job bad work list)
       (λ p. (whole-test 10 _ (not (bestTest (labelingOf job bad) (untouchingTest (boardOf job)) (held list))) (says p), λ _. tt))
     where
-      says : Passed (measureTrials job bad list) → T (not (bestTest (labelingOf job bad) (untouchingTest (boardOf job)) (held list)))
+      says : Passed (measureTrials job bad work list) → T (not (bestTest (labelingOf job bad) (untouchingTest (boardOf job)) (held list)))
           ↔ (Untouching (boardOf job) (held list) × ¬ Best (labelingOf job bad) (held list))
       says p =
-          let (q, u) = measure-accepted job bad list p in
+          let (q, u) = measure-accepted job bad work list p in
           let none = not-iff (bestTest (labelingOf job bad) (untouchingTest (boardOf job)) (held list)) (best-iff (labelingOf job bad) (searchable (length list) q) (held list)) in
           ((λ t. (u, none .0 t)), (λ (v, n). none .1 n))
 
-  pub regular : Regular (callsOf job bad)
+  pub regular : Regular (callsOf job bad work)
   regular = record {
-    numbered = numbered job bad;
-    first-decided = first-decided job bad;
-    measure-decided = measure-decided job bad;
-    next-decided = λ list. tests-decide (nextTests job bad list) (nextTrials job bad list) (next-tests list);
+    numbered = numbered job bad work;
+    first-decided = first-decided job bad work;
+    measure-decided = measure-decided job bad Unlent;
+    next-decided = λ list. tests-decide (nextTests job bad work list) (nextTrials job bad work list) (next-tests list);
     searchable = searchable;
     some = λ room p. accepted room p .some;
     exists = λ room p. untouching-exists (boardOf job) (accepted room p .proper);
-    room = λ room p. first-accepted job bad room p .2;
-    other-room = λ room other (c1, (c2, (c3, rest))) l. (c1, (c2, ((λ i h s. omega arith), rest)));
-    next-is = λ list. (next-best list, λ (p, best). best-passed job bad list (untouching-passed job bad list p (best .counts)) best);
+    room = λ room p. first-accepted job bad work room p .2;
+    other-room = first-other-room job bad work;
+    next-is = λ list. (next-best list, λ (p, best). best-passed job bad work list (untouching-passed job bad work list p (best .counts)) best);
   }
     where
-      next-best : (list : List ℕ) → Passed (nextTrials job bad list) → Passed (firstTrials job bad (length list)) × Best (labelingOf job bad) (held list)
+      next-best : (list : List ℕ) → Passed (nextTrials job bad work list) → Passed (firstTrials job bad work (length list)) × Best (labelingOf job bad) (held list)
       next-best list p = go (best-dec (labelingOf job bad) (searchable (length list) (m .0)) (held list))
         where
-          m : Passed (firstTrials job bad (length list)) × Untouching (boardOf job) (held list)
-          m = measure-accepted job bad list (next-measured job bad list p)
+          m : Passed (firstTrials job bad work (length list)) × Untouching (boardOf job) (held list)
+          m = measure-accepted job bad work list (next-measured job bad work list p)
 
-          go : Dec (Best (labelingOf job bad) (held list)) → Passed (firstTrials job bad (length list)) × Best (labelingOf job bad) (held list)
+          go : Dec (Best (labelingOf job bad) (held list)) → Passed (firstTrials job bad work (length list)) × Best (labelingOf job bad) (held list)
           go (yes best) = (m .0, best)
-          go (no worse) = absurd (not-both (nextTrials job bad list) (refusal 10 0 0) p (not-best-refused job bad list (next-measured job bad list p) worse))
+          go (no worse) = absurd (not-both (nextTrials job bad work list) (refusal 10 0 0) p (not-best-refused job bad work list (next-measured job bad work list p) worse))

@@ -12,17 +12,19 @@ use lib.ListN.{length}
 use lib.IntN.{pos}
 use Rattle.numbers.specs.Whole.{whole}
 use Rattle.paper.specs.declared.Answer.the-variants.{Total}
-use Rattle.paper.specs.Job.{twos, nameOf, reservedOf, xOf, yOf, portOf}
+use Rattle.paper.specs.declared.Work.{Work}
+use Rattle.paper.specs.declared.Work.the-variants.{Unlent}
+use Rattle.paper.specs.Job.{Job, records, lastOf, twos, nameOf, reservedOf, xOf, yOf, portOf}
 use Rattle.paper.specs.Leaders.{lengthOf, bendsOf}
 use Rattle.paper.specs.Layouts.{Board, boardOf, held, Touching, EachOnce, Untouching, sum, Badness, byWeights, byTable, weighted, costOf, total, Proper, Same}
 use Rattle.paper.specs.Problem.{Best, labeling}
 use Rattle.paper.specs.Refusals.{Passed, firstTrials, callsOf}
 use Rattle.paper.specs.Sheets.{levelPad, crossingPays}
 use Rattle.paper.specs.Straightening.{LeastOfAll, CostsNothing, Costs, BendsCanCost, TablesCanCost}
-use Rattle.paper.specs.laws.Tests.{somewhere, outside, jobTests, badnessTest, firstTests}
+use Rattle.paper.specs.laws.Tests.{somewhere, outside, jobTests, firstTests}
 use Rattle.paper.specs.laws.Totals.{totalOf, total-is}
 use Rattle.paper.specs.laws.Boards.{layout-iff, layout-same, untouching-same, total-same}
-use Rattle.paper.specs.laws.Decided.{tests-pass, first-tests}
+use Rattle.paper.specs.laws.Decided.{tests-pass, firstTestsOf, first-tests}
 use Rattle.paper.specs.laws.Existence.{straight-total}
 use Rattle.paper.specs.laws.Accepted.{Fair, fair-iff, first-accepted}
 use Rattle.paper.specs.laws.Numbers.{total-told, numbered}
@@ -37,18 +39,19 @@ best-of-all b proper lw f best g layout =
     let (h, untouching, shorter) = straight-total b proper g layout in
     omega (arith, best .least h untouching, total-is b lw 0 h, total-is b lw 0 g, mul-le-mul-left lw shorter)
 
--- THEOREM. For every accepted job and length weight, with bend weight 0, no list in which each port number stands once has a smaller total than First answers.
-pub straightening-costs-no-length : (job : List ℕ) (lw : ℕ) → CostsNothing job (byWeights lw 0)
-straightening-costs-no-length job lw before after t promise list once =
-    let (passed, first, is, kept) = total-told (callsOf job (byWeights lw 0)) (numbered job (byWeights lw 0)) before after t promise in
-    let accepted = first-accepted job (byWeights lw 0) (length before) passed .0 in
-    omega (arith, is, best-of-all (boardOf job) (accepted .proper) lw (held after) (first .best) (held list) (layout-iff (boardOf job) (held list) refl .1 once))
+-- THEOREM. For every accepted job of either form and every length weight, with bend weight 0, no layout at all has a smaller total than First answers.
+pub straightening-costs-no-length : (job : Job) (lw : ℕ) (work : Work) → CostsNothing job (byWeights lw 0) work
+straightening-costs-no-length job lw work before after t promise list layout =
+    let bad = byWeights lw 0 in
+    let (passed, first, is, kept) = total-told (callsOf job bad work) (numbered job bad work) before after t promise in
+    let accepted = first-accepted job bad work (length before) passed .0 in
+    omega (arith, is, best-of-all (boardOf job) (accepted .proper) lw (held after) (first .best) list layout)
 
 -- ---- with a bend weight
 
 -- The example's board, the layout whose leaders touch, and the other one.
 abbrev b : Board
-b = boardOf levelPad
+b = boardOf (records levelPad)
 
 abbrev crossed : List ℕ
 crossed = 0 ∷ 1 ∷ []
@@ -92,16 +95,18 @@ only-uncrossed f u = go (ℕ-discrete (f 0) 0) (u .layout .inside 0 (omega arith
     go (no e) h k n = pair uncrossed (omega arith) (omega arith)
 
 -- The job is accepted, whatever fair weights or table are given.
-sound : Passed (firstTrials levelPad (byWeights 0 0) 2)
-unfolding somewhere outside jobTests firstTests twos nameOf reservedOf xOf yOf portOf
-sound = tests-pass (firstTests levelPad (badnessTest levelPad (byWeights 0 0)) 2) (firstTrials levelPad (byWeights 0 0) 2) (first-tests levelPad (byWeights 0 0) 2) tt
+sound : Passed (firstTrials (records levelPad) (byWeights 0 0) Unlent 2)
+unfolding somewhere outside jobTests firstTests twos nameOf reservedOf xOf yOf lastOf portOf
+sound =
+    let job = records levelPad in
+    tests-pass (firstTestsOf job (byWeights 0 0) Unlent 2) (firstTrials job (byWeights 0 0) Unlent 2) (first-tests job (byWeights 0 0) Unlent 2) tt
 
 -- So First answers the total of the layout that does not touch.
-costs-more : (bad : Badness) → Fair levelPad bad → (t u : ℕ) → t ≡ totalOf levelPad bad uncrossed → u ≡ totalOf levelPad bad crossed → u < t
+costs-more : (bad : Badness) → Fair b bad → (t u : ℕ) → t ≡ totalOf b bad uncrossed → u ≡ totalOf b bad crossed → u < t
     → Costs levelPad bad t crossed u
 costs-more bad fair t u is sums less =
-    let passed : Passed (firstTrials levelPad bad 2) = (sound .0, (fair-iff levelPad bad .1 fair, sound .1 .1)) in
-    let (v, after, answers) = first-made (callsOf levelPad bad) (regular levelPad bad) (9 ∷ 9 ∷ []) passed in
+    let passed : Passed (firstTrials (records levelPad) bad Unlent 2) = (sound .0, (fair-iff b bad .1 fair, sound .1 .1)) in
+    let (v, after, answers) = first-made (callsOf (records levelPad) bad Unlent) (regular (records levelPad) bad Unlent) (9 ∷ 9 ∷ []) passed in
     let same = answers .2 ∙ total-same b (costOf b bad) (held after) (held uncrossed) (only-uncrossed (held after) (answers .1 .best .counts)) in
     record {
       first = (9 ∷ 9 ∷ [], after, (Total v, answers, ap pos (is ∙ sym same)));

@@ -1,5 +1,5 @@
 -- The tests that the code computes for each fault of Refusals.antt, that each says what its fault says, and each call's tests in order.
---     bad-size-iff, bad-weight-iff, bad-table-iff, bad-field-iff, not-above-iff, too-close-iff, same-name-iff, same-x-iff, bad-entry-iff, bad-number-iff
+--     bad-size-iff, bad-port-size-iff, bad-weight-iff, bad-table-iff, bad-field-iff, not-above-iff, too-close-iff, same-name-iff, same-x-iff, bad-entry-iff, bad-number-iff
 use mathlib.Core.Path.{_≡_, subst}
 use mathlib.Core.Logic.{_≢_, _⊎_, inl, inr, ⊎-elim, _↔_, Iff·trans}
 use mathlib.Core.Bool.{Bool, false, not, _&&_, _||_, or-assoc}
@@ -13,10 +13,14 @@ use lib.IntN.{ℤ, pos, negsuc, negℤ, _-ℤ_}
 use lib.Signed.{leZ, ltZ, _<ℤ_}
 use Rattle.numbers.specs.Whole.{whole}
 use Rattle.numbers.specs.Tests.{and-iff, or-iff, not-iff, leb-iff, ltb-iff, le-iff, eqb-iff, lt-iff}
-use Rattle.paper.specs.Job.{count, nameOf, reservedOf, xOf, yOf, portOf}
+use Rattle.paper.specs.declared.Form.{Form}
+use Rattle.paper.specs.declared.Form.the-variants.{Records, Slots}
+use Rattle.paper.specs.declared.Work.{Work}
+use Rattle.paper.specs.declared.Work.the-variants.{Unlent, Lent}
+use Rattle.paper.specs.Job.{twos, count, nameOf, reservedOf, xOf, yOf, lastOf, portCount, portOf}
 use Rattle.paper.specs.Leaders.{Leader}
-use Rattle.paper.specs.Layouts.{Board, boardOf, held, leader, Badness, byWeights, byTable}
-use Rattle.paper.specs.Refusals.{Earlier, BadSize, BadWeight, Outside, BadField, NotAbove, TooClose, SameName, SameX, BadEntry}
+use Rattle.paper.specs.Layouts.{Board, boardFrom, held, leader, Badness, byWeights, byTable}
+use Rattle.paper.specs.Refusals.{workNeeded, Earlier, BadSize, BadPortSize, BadWeight, Outside, BadLast, BadField, NotAbove, TooClose, SameName, SameX, BadEntry}
 
 -- p holds at some number below n; q holds of i and a number below i
 unfoldable pub somewhere : (ℕ → Bool) → ℕ → Bool
@@ -28,36 +32,46 @@ withEarlier q i = somewhere (q i) i
 
 -- 1, 2, 13
 abbrev pub badSize : List ℕ → Bool
-badSize job = eqb (length job) 0 || not (eqb (length job % 16) 0) || ltb 1024 (length job)
+badSize pads = eqb (length pads) 0 || not (eqb (length pads % 16) 0) || ltb 1024 (length pads)
+
+abbrev pub badPortSize : List ℕ → Bool
+badPortSize ports = eqb (length ports) 0 || not (eqb (length ports % 4) 0) || ltb 512 (length ports)
 
 abbrev pub badWeight : ℕ → ℕ → Bool
 badWeight lw bw = ltb 1000 lw || ltb 1000 bw
 
-abbrev pub badTable : ℕ → ℕ → Bool
-badTable n figures = not (eqb figures (n * n))
+abbrev pub badTable : ℕ → ℕ → ℕ → Bool
+badTable n p figures = not (eqb figures (n * p))
 
 -- 4
 unfoldable pub outside : ℤ → Bool
 outside h = ltZ h (negℤ (pos 1000000)) || ltZ (pos 1000000) h
 
-abbrev pub badField : List ℕ → ℕ → Bool
-badField job i =
-    not (eqb (reservedOf job i) 0) || ltb (xOf job i) 1 || ltb 1000000 (xOf job i) || outside (yOf job i) || outside (portOf job i)
+abbrev pub badLast : Form → ℕ → Bool
+badLast Records n = outside (twos n)
+badLast Slots n = not (eqb n 0)
+
+abbrev pub badField : Form → List ℕ → ℕ → Bool
+badField form pads i =
+    not (eqb (reservedOf pads i) 0) || ltb (xOf pads i) 1 || ltb 1000000 (xOf pads i) || outside (yOf pads i) || badLast form (lastOf pads i)
+
+abbrev pub badHeight : Form → List ℕ → ℕ → Bool
+badHeight form ports q = outside (portOf form ports q)
 
 -- 5
-abbrev pub notAbove : List ℕ → ℕ → Bool
-notAbove job i = ltb 0 i && leZ (portOf job i) (portOf job (i - 1))
+abbrev pub notAbove : Form → List ℕ → ℕ → Bool
+notAbove form ports q = ltb 0 q && leZ (portOf form ports q) (portOf form ports (q - 1))
 
 -- 12
-abbrev pub tooClose : List ℕ → ℕ → Bool
-tooClose job i = ltb 0 i && ltZ (portOf job i -ℤ portOf job (i - 1)) (pos 8)
+abbrev pub tooClose : Form → List ℕ → ℕ → Bool
+tooClose form ports q = ltb 0 q && ltZ (portOf form ports q -ℤ portOf form ports (q - 1)) (pos 8)
 
 -- 6, 7, 8
 abbrev pub sameName : List ℕ → ℕ → ℕ → Bool
-sameName job i j = not (eqb (nameOf job i) 0) && eqb (nameOf job i) (nameOf job j)
+sameName pads i j = not (eqb (nameOf pads i) 0) && eqb (nameOf pads i) (nameOf pads j)
 
 abbrev pub sameX : List ℕ → ℕ → ℕ → Bool
-sameX job i j = eqb (xOf job i) (xOf job j)
+sameX pads i j = eqb (xOf pads i) (xOf pads j)
 
 abbrev pub sameEntry : List ℕ → ℕ → ℕ → Bool
 sameEntry list i j = eqb (held list i) (held list j)
@@ -94,21 +108,27 @@ pub with-earlier-iff : (q : ℕ → ℕ → Bool) (R : ℕ → ℕ → Type 0) (
 with-earlier-iff q R i says = somewhere-iff (q i) (R i) i says
 
 -- 1, 2 and 13
-pub bad-size-iff : (job : List ℕ) → T (badSize job) ↔ BadSize job
-bad-size-iff job =
+-- a number that is 0, no multiple of d, or above m
+size-iff : (n d m : ℕ) → T (eqb n 0 || not (eqb (n % d) 0) || ltb m n) ↔ ((n ≡ 0) ⊎ (n % d ≢ 0) ⊎ (m < n))
+size-iff n d m =
     simp or-assoc
-    (or-iff (eqb (length job) 0) (not (eqb (length job % 16) 0) || ltb 1024 (length job)) (eqb-iff (length job) 0)
-    (or-iff (not (eqb (length job % 16) 0)) (ltb 1024 (length job)) (not-iff (eqb (length job % 16) 0) (eqb-iff (length job % 16) 0))
-    (ltb-iff 1024 (length job))))
+    (or-iff (eqb n 0) (not (eqb (n % d) 0) || ltb m n) (eqb-iff n 0)
+    (or-iff (not (eqb (n % d) 0)) (ltb m n) (not-iff (eqb (n % d) 0) (eqb-iff (n % d) 0)) (ltb-iff m n)))
+
+pub bad-size-iff : (pads : List ℕ) → T (badSize pads) ↔ BadSize pads
+bad-size-iff pads = size-iff (length pads) 16 1024
+
+pub bad-port-size-iff : (ports : List ℕ) → T (badPortSize ports) ↔ BadPortSize ports
+bad-port-size-iff ports = size-iff (length ports) 4 512
 
 pub bad-weight-iff : (lw bw : ℕ) → T (badWeight lw bw) ↔ BadWeight lw bw
 bad-weight-iff lw bw = or-iff (ltb 1000 lw) (ltb 1000 bw) (ltb-iff 1000 lw) (ltb-iff 1000 bw)
 
-pub bad-table-iff : (n figures : ℕ) → T (badTable n figures) ↔ (figures ≢ n * n)
-bad-table-iff n figures = not-iff (eqb figures (n * n)) (eqb-iff figures (n * n))
+pub bad-table-iff : (n p figures : ℕ) → T (badTable n p figures) ↔ (figures ≢ n * p)
+bad-table-iff n p figures = not-iff (eqb figures (n * p)) (eqb-iff figures (n * p))
 
 -- 4
-outside-iff : (h : ℤ) → T (outside h) ↔ Outside h
+pub outside-iff : (h : ℤ) → T (outside h) ↔ Outside h
 unfolding outside
 outside-iff h =
     Iff·trans (or-iff (ltZ h (negℤ (pos 1000000))) (ltZ (pos 1000000) h) (lt-iff h (negℤ (pos 1000000))) (lt-iff (pos 1000000) h)) (there h, back h)
@@ -123,23 +143,30 @@ outside-iff h =
     back (pos n) l = inr (omega whole)
     back (negsuc n) l = inl (omega whole)
 
-pub bad-field-iff : (job : List ℕ) (i : ℕ) → T (badField job i) ↔ BadField job i
-bad-field-iff job i =
+bad-last-iff : (form : Form) (n : ℕ) → T (badLast form n) ↔ BadLast form n
+bad-last-iff Records n = outside-iff (twos n)
+bad-last-iff Slots n = not-iff (eqb n 0) (eqb-iff n 0)
+
+pub bad-field-iff : (form : Form) (pads : List ℕ) (i : ℕ) → T (badField form pads i) ↔ BadField form pads i
+bad-field-iff form pads i =
+    let last = badLast form (lastOf pads i) in
     simp or-assoc
-    (or-iff (not (eqb (reservedOf job i) 0)) (ltb (xOf job i) 1 || (ltb 1000000 (xOf job i) || (outside (yOf job i) || outside (portOf job i))))
-    (not-iff (eqb (reservedOf job i) 0) (eqb-iff (reservedOf job i) 0))
-    (or-iff (ltb (xOf job i) 1) (ltb 1000000 (xOf job i) || (outside (yOf job i) || outside (portOf job i))) (ltb-iff (xOf job i) 1)
-    (or-iff (ltb 1000000 (xOf job i)) (outside (yOf job i) || outside (portOf job i)) (ltb-iff 1000000 (xOf job i))
-    (or-iff (outside (yOf job i)) (outside (portOf job i)) (outside-iff (yOf job i)) (outside-iff (portOf job i))))))
+    (or-iff (not (eqb (reservedOf pads i) 0)) (ltb (xOf pads i) 1 || (ltb 1000000 (xOf pads i) || (outside (yOf pads i) || last)))
+    (not-iff (eqb (reservedOf pads i) 0) (eqb-iff (reservedOf pads i) 0))
+    (or-iff (ltb (xOf pads i) 1) (ltb 1000000 (xOf pads i) || (outside (yOf pads i) || last)) (ltb-iff (xOf pads i) 1)
+    (or-iff (ltb 1000000 (xOf pads i)) (outside (yOf pads i) || last) (ltb-iff 1000000 (xOf pads i))
+    (or-iff (outside (yOf pads i)) last (outside-iff (yOf pads i)) (bad-last-iff form (lastOf pads i))))))
 
 -- 5 and 12
-pub not-above-iff : (job : List ℕ) (i : ℕ) → T (notAbove job i) ↔ NotAbove (portOf job) i
-not-above-iff job i = and-iff (ltb 0 i) (leZ (portOf job i) (portOf job (i - 1))) (ltb-iff 0 i) (le-iff (portOf job i) (portOf job (i - 1)))
+pub not-above-iff : (form : Form) (ports : List ℕ) (q : ℕ) → T (notAbove form ports q) ↔ NotAbove (portOf form ports) q
+not-above-iff form ports q =
+    let port = portOf form ports in
+    and-iff (ltb 0 q) (leZ (port q) (port (q - 1))) (ltb-iff 0 q) (le-iff (port q) (port (q - 1)))
 
-pub too-close-iff : (job : List ℕ) (i : ℕ) → T (tooClose job i) ↔ TooClose (portOf job) i
-too-close-iff job i =
-    let rise = portOf job i -ℤ portOf job (i - 1) in
-    and-iff (ltb 0 i) (ltZ rise (pos 8)) (ltb-iff 0 i) (lt-iff rise (pos 8))
+pub too-close-iff : (form : Form) (ports : List ℕ) (q : ℕ) → T (tooClose form ports q) ↔ TooClose (portOf form ports) q
+too-close-iff form ports q =
+    let rise = portOf form ports q -ℤ portOf form ports (q - 1) in
+    and-iff (ltb 0 q) (ltZ rise (pos 8)) (ltb-iff 0 q) (lt-iff rise (pos 8))
 
 -- 6, 7 and 8
 pub same-name-iff : (job : List ℕ) (i j : ℕ) → T (sameName job i j) ↔ SameName job i j
@@ -171,26 +198,50 @@ abbrev pub atWhole : ℕ → Bool → Test
 atWhole r t = atEach r 1 (λ i. t)
 
 -- The tests of each call, as Refusals.antt has its trials; that of the weights or of the table is given to First's and Measure's.
-unfoldable pub jobTests : List ℕ → List Test
-jobTests job =
-    atEach 4 (count job) (badField job) ∷
-    atEach 5 (count job) (notAbove job) ∷
-    atEach 12 (count job) (tooClose job) ∷
-    atEach 6 (count job) (withEarlier (sameName job)) ∷
-    atEach 7 (count job) (withEarlier (sameX job)) ∷ []
+abbrev pub sizeTests : Form → List ℕ → List ℕ → List Test
+sizeTests Records pads ports = atWhole 1 (badSize pads) ∷ []
+sizeTests Slots pads ports = atWhole 1 (badSize pads) ∷ atWhole 1 (badPortSize ports) ∷ []
+
+abbrev pub enoughTests : Form → List ℕ → List ℕ → List Test
+enoughTests Records pads ports = []
+enoughTests Slots pads ports = atWhole 14 (ltb (portCount Slots ports) (count pads)) ∷ []
+
+abbrev pub workTests : ℕ → ℕ → Work → List Test
+workTests n p Unlent = []
+workTests n p (Lent numbers) = atWhole 24 (ltb numbers (workNeeded n p)) ∷ []
+
+abbrev pub fieldTests : Form → List ℕ → List ℕ → List Test
+fieldTests Records pads ports = atEach 4 (count pads) (badField Records pads) ∷ []
+fieldTests Slots pads ports = atEach 4 (count pads) (badField Slots pads) ∷ atEach 4 (portCount Slots ports) (badHeight Slots ports) ∷ []
+
+abbrev pub placeTests : Form → List ℕ → List ℕ → List Test
+placeTests form pads ports =
+    atEach 5 (portCount form ports) (notAbove form ports) ∷
+    atEach 12 (portCount form ports) (tooClose form ports) ∷
+    atEach 6 (count pads) (withEarlier (sameName pads)) ∷
+    atEach 7 (count pads) (withEarlier (sameX pads)) ∷ []
+
+unfoldable pub jobTests : Form → List ℕ → List ℕ → List Test
+jobTests form pads ports = fieldTests form pads ports ++ placeTests form pads ports
 
 unfoldable pub layoutTests : Board → List ℕ → List Test
 layoutTests b list = atEach 8 (b .pads) (badEntry (b .ports) list) ∷ atPairs 9 (b .pads) (meetAt b (held list)) ∷ []
 
-abbrev pub badnessTest : List ℕ → Badness → Test
-badnessTest job (byWeights lw bw) = atWhole 2 (badWeight lw bw)
-badnessTest job (byTable figures) = atWhole 13 (badTable (count job) (length figures))
+abbrev pub badnessTest : Board → Badness → Test
+badnessTest b (byWeights lw bw) = atWhole 2 (badWeight lw bw)
+badnessTest b (byTable figures) = atWhole 13 (badTable (b .pads) (b .ports) (length figures))
 
-unfoldable pub firstTests : List ℕ → Test → ℕ → List Test
-firstTests job given room = atWhole 1 (badSize job) ∷ given ∷ atWhole 3 (ltb room (count job)) ∷ jobTests job
+abbrev pub roomTests : Form → List ℕ → List ℕ → Work → ℕ → List Test
+roomTests form pads ports work room =
+    atWhole 3 (ltb room (count pads)) ∷ enoughTests form pads ports ++ workTests (count pads) (portCount form ports) work
 
-unfoldable pub measureTests : List ℕ → Test → List ℕ → List Test
-measureTests job given list = firstTests job given (length list) ++ layoutTests (boardOf job) list
+unfoldable pub firstTests : Form → List ℕ → List ℕ → Test → Work → ℕ → List Test
+firstTests form pads ports given work room =
+    sizeTests form pads ports ++ (given ∷ roomTests form pads ports work room ++ jobTests form pads ports)
+
+unfoldable pub measureTests : Form → List ℕ → List ℕ → Test → Work → List ℕ → List Test
+measureTests form pads ports given work list = firstTests form pads ports given work (length list) ++ layoutTests (boardFrom form pads ports) list
 
 unfoldable pub drawTests : List ℕ → ℕ → ℕ → ℕ → List Test
-drawTests job i q room = atWhole 1 (badSize job) ∷ atWhole 3 (ltb room 6) ∷ jobTests job ++ (atWhole 11 (badNumber (count job) i q) ∷ [])
+drawTests bytes i q room =
+    atWhole 1 (badSize bytes) ∷ atWhole 3 (ltb room 6) ∷ jobTests Records bytes bytes ++ (atWhole 11 (badNumber (count bytes) i q) ∷ [])

@@ -13,11 +13,11 @@ use lib.Dec.{T, eqb, eqb→eq}
 use lib.IntN.{natAbs}
 use Rattle.numbers.specs.Whole.{whole, abs-num, apart-num}
 use Rattle.paper.specs.Leaders.{Leader, distance, lengthOf, bendsOf}
-use Rattle.paper.specs.Layouts.{Board, boardOf, held, leader, sum, weighted, Badness, costOf, total}
+use Rattle.paper.specs.Layouts.{Board, held, leader, sum, weighted, Badness, costOf, total}
 
 -- The total of the layout that a list holds, by weights or by a table.
-abbrev pub totalOf : List ℕ → Badness → List ℕ → ℕ
-totalOf job bad list = total (boardOf job) (costOf (boardOf job) bad) (held list)
+abbrev pub totalOf : Board → Badness → List ℕ → ℕ
+totalOf b bad list = total b (costOf b bad) (held list)
 
 -- ---- sums
 

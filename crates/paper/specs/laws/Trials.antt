@@ -1,7 +1,7 @@
 -- Trials in general: an input is passed or refused, in one way; trials put one after the other.
---     not-both, refused-one: an input has one verdict;  passed-append, append-passed, refused-left, refused-right: one list of trials after another
+--     not-both, refused-one: an input has one verdict;  passed-append, append-passed, refused-left, refused-right, refused-append: one list of trials after another
 use mathlib.Core.Path.{_≡_, refl, sym, _∙_}
-use mathlib.Core.Logic.{inl, inr}
+use mathlib.Core.Logic.{_⊎_, inl, inr, ⊎-elim}
 use mathlib.Core.List.{List, [], _∷_, _++_}
 use Prim.Native.Nat.{ℕ, _<_}
 use native.Mathlib.Decide.{decLt}
@@ -61,3 +61,9 @@ refused-left (t ∷ ts) us r (inr a) = inr (a .0, refused-left ts us r (a .1))
 pub refused-right : (ts us : List Trial) (r : Refusal) → Passed ts → RefusedBy us r → RefusedBy (ts ++ us) r
 refused-right [] us r p a = a
 refused-right (t ∷ ts) us r p a = inr (p .0, refused-right ts us r (p .1) a)
+
+-- What refuses is the first list, or the second where the first is passed.
+pub refused-append : (ts us : List Trial) (r : Refusal) → RefusedBy (ts ++ us) r → RefusedBy ts r ⊎ (Passed ts × RefusedBy us r)
+refused-append [] us r a = inr (tt, a)
+refused-append (t ∷ ts) us r (inl a) = inl (inl a)
+refused-append (t ∷ ts) us r (inr a) = ⊎-elim (λ b. inl (inr (a .0, b))) (λ (p, b). inr ((a .0, p), b)) (refused-append ts us r (a .1))

@@ -7,10 +7,10 @@ use Rattle.places.proofs.high.Statement.{statement}
 use Rattle.places.proofs.high.Tie as tie
 
 abbrev Inv-loop : tie.InvT-loop
-Inv-loop at h m n b₀ b = (h ≤ b) × (b ≤ n) × ((q : ℕ) → h ≤ q → q < b → m ≤ getD at q 0)
+Inv-loop at h m p b₀ b = (h ≤ b) × (b ≤ p) × ((q : ℕ) → h ≤ q → q < b → m ≤ getD at q 0)
 
 abbrev μ-loop : tie.MeasureT-loop
-μ-loop at h m n b₀ b = n - b
+μ-loop at h m p b₀ b = p - b
 
 loop-holds : tie.Need-loop-holds Inv-loop μ-loop
 loop-holds c = (omega arith, omega arith, λ q u v. absurd (omega arith))

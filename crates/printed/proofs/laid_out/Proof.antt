@@ -1,6 +1,10 @@
 -- `printed::laid_out` meets its contract. Assumes nothing.
 use denote.Ref.{now}
 use borrow.Author.Needs.{needs}
+use Rattle.paper.specs.declared.Work.the-variants.{Unlent}
+use Rattle.paper.specs.Job.{records}
+use Rattle.paper.specs.Layouts.{byWeights}
+use Rattle.measure.specs.Given.{measurable}
 use Rattle.printed.specs.Lines.{bends-are, sheet-written}
 use Rattle.printed.proofs.laid_out.Statement.{statement}
 use Rattle.printed.proofs.laid_out.Tie as tie
@@ -12,7 +16,9 @@ slice-aggregate-total : tie.Need-slice-aggregate-total
 slice-aggregate-total c = search needs
 
 total-requires : tie.Need-total-requires
-total-requires c κs = search needs
+total-requires c κs =
+    let s = c .before .before .before .before in
+    measurable (records (now (s .args .job))) (byWeights 0 1) Unlent (now (s .args .list)) (s .pre .0)
 
 lines-requires : tie.Need-lines-requires
 lines-requires c κs = search needs

@@ -4,7 +4,8 @@ use mathlib.Core.Path.{_≡_}
 use native.Mathlib.Omega.{arith}
 use denote.Ref.{now}
 use borrow.Author.Needs.{needs}
-use Rattle.paper.specs.Job.{count}
+use Rattle.paper.specs.declared.Work.the-variants.{Unlent}
+use Rattle.paper.specs.Job.{records, count}
 use Rattle.text.specs.Text.{Writes}
 use Rattle.text.specs.Writing.{writes-length}
 use Rattle.printed.specs.Printed.{lines}
@@ -21,7 +22,7 @@ abbrev μ-loop : tie.MeasureT-loop
 μ-loop job list out₀ n at₀ i₀ out at i = n - i
 
 records-requires : tie.Need-records-requires Inv-loop μ-loop
-records-requires c κs = let s = c .before .before .before in omega (arith, measure-facts (now (s .args .job)) (byWeights 0 1) (now (s .args .list)) (s .pre .0) .0 .size)
+records-requires c κs = let s = c .before .before .before in omega (arith, measure-facts (records (now (s .args .job))) (byWeights 0 1) Unlent (now (s .args .list)) (s .pre .0) .0 .size)
 
 loop-holds : tie.Need-loop-holds Inv-loop μ-loop
 loop-holds c = (omega arith, omega arith, lines-none _ _ _)
@@ -35,7 +36,7 @@ mul-line c = search needs
 shared-slice-read-line : tie.Need-shared-slice-read-line Inv-loop μ-loop
 shared-slice-read-line c =
     let s = c .before .before .before .before .before .before .before in
-    omega (arith, measure-facts (now (s .args .job)) (byWeights 0 1) (now (s .args .list)) (s .pre .0) .2)
+    omega (arith, measure-facts (records (now (s .args .job))) (byWeights 0 1) Unlent (now (s .args .list)) (s .pre .0) .2)
 
 line-requires : tie.Need-line-requires Inv-loop μ-loop
 line-requires c κs =
@@ -43,8 +44,8 @@ line-requires c κs =
     let s = at .before .before .before .before .before in
     let h : at .loop .i < count (now (s .args .job)) = omega arith in (
       h,
-      measure-entries (now (s .args .job)) (byWeights 0 1) (now (s .args .list)) (s .pre .0) (at .loop .i) h,
-      omega (arith, measure-facts (now (s .args .job)) (byWeights 0 1) (now (s .args .list)) (s .pre .0) .0 .few, writes-length (at .loop .inv .2)),
+      measure-entries (records (now (s .args .job))) (byWeights 0 1) Unlent (now (s .args .list)) (s .pre .0) (at .loop .i) h,
+      omega (arith, measure-facts (records (now (s .args .job))) (byWeights 0 1) Unlent (now (s .args .list)) (s .pre .0) .0 .few, writes-length (at .loop .inv .2)),
     )
 
 add-i : tie.Need-add-i Inv-loop μ-loop
@@ -66,7 +67,7 @@ returns : tie.Need-returns Inv-loop μ-loop
 returns c =
     let s = c .before .before .before .before .before .before in
     let done : c .before .loop .i ≡ count (now (s .args .job)) = omega arith in
-    (rw done at (c .before .loop .inv .2), omega (arith, measure-facts (now (s .args .job)) (byWeights 0 1) (now (s .args .list)) (s .pre .0) .0 .few))
+    (rw done at (c .before .loop .inv .2), omega (arith, measure-facts (records (now (s .args .job))) (byWeights 0 1) Unlent (now (s .args .list)) (s .pre .0) .0 .few))
 
 pub lines-spec : {M : Type 1} → statement M
 lines-spec =

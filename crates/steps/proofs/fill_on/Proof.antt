@@ -6,6 +6,7 @@ use native.Mathlib.Omega.{arith}
 use borrow.Author.Needs.{needs}
 use lib.ListN.{length, length-set}
 use Rattle.places.specs.Places.{Entered}
+use Rattle.choices.specs.Source.{source}
 use Rattle.choices.specs.Memory.{Memory}
 use Rattle.steps.proofs.Filling.{places, working-with, placeable, Filling, filling-none, filling-more, filling-entered, filling-done}
 use Rattle.choices.proofs.Choosing.{chosen-some}
@@ -14,11 +15,12 @@ use Rattle.steps.proofs.fill_on.Statement.{statement}
 use Rattle.steps.proofs.fill_on.Tie as tie
 
 abbrev Inv-loop : tie.InvT-loop
-Inv-loop heads totals order cost lo hi out₀ known₀ from at₀ m₀ out known at m =
-    Filling order cost lo hi out₀ from out m × (length at ≡ 64) × Entered order out m at × Memory order cost lo hi out m known
+Inv-loop heads totals order cost lo hi p out₀ known₀ from at₀ m₀ out known at m =
+    Filling order (source heads totals cost p) lo hi out₀ from out m × (length at ≡ 128) × Entered order out m at
+    × Memory order (source heads totals cost p) lo hi out m known
 
 abbrev μ-loop : tie.MeasureT-loop
-μ-loop heads totals order cost lo hi out₀ known₀ from at₀ m₀ out known at m = length order - m
+μ-loop heads totals order cost lo hi p out₀ known₀ from at₀ m₀ out known at m = length order - m
 
 slice-aggregate-place : tie.Need-slice-aggregate-place Inv-loop μ-loop
 slice-aggregate-place c = refl
@@ -85,7 +87,9 @@ array-write-at c = let s = c .before .before .before .before .before .before .be
     omega (arith, chosen-some (i .out) (s .pre .0 .proper) (i .m) t (i .inv .0 .begun) (q .result) (q .ensures .0), i .inv .1)
 
 add-m : tie.Need-add-m Inv-loop μ-loop
-add-m c = omega arith
+add-m c = let s = c .before .before .before .before .before .before .before .before .before .before .before .before .before .before .before .before .before .before
+    .before .before .before in
+    omega (arith, c .before .before .before .before .before .before .before .loop-test .taken, s .pre .0 .proper .pads .few)
 
 loop-less : tie.Need-loop-less Inv-loop μ-loop
 loop-less c = omega (arith, c .before .before .before .before .before .before .before .loop-test .taken)

@@ -6,6 +6,7 @@ use native.Mathlib.Omega.{arith}
 use borrow.Author.Needs.{needs}
 use lib.ListN.{length, getD, length-set}
 use Rattle.places.specs.Places.{Placed}
+use Rattle.choices.specs.Source.{source}
 use Rattle.choices.specs.Memory.{Memory}
 use Rattle.steps.proofs.Filling.{places, working-with}
 use Rattle.choices.proofs.Memory.{memory-again, memory-store}
@@ -14,11 +15,12 @@ use Rattle.steps.proofs.step.Statement.{statement}
 use Rattle.steps.proofs.step.Tie as tie
 
 abbrev Inv-loop : tie.InvT-loop
-Inv-loop heads totals order cost lo hi out₀ known₀ at m₀ out known m =
-    Looking order cost lo hi heads totals out₀ out m × Placed order out (length order) at × Memory order cost lo hi out (length order) known
+Inv-loop heads totals order cost lo hi p out₀ known₀ at m₀ out known m =
+    Looking order (source heads totals cost p) lo hi out₀ out m × Placed order out (length order) at
+    × Memory order (source heads totals cost p) lo hi out (length order) known
 
 abbrev μ-loop : tie.MeasureT-loop
-μ-loop heads totals order cost lo hi out₀ known₀ at m₀ out known m = m
+μ-loop heads totals order cost lo hi p out₀ known₀ at m₀ out known m = m
 
 slice-aggregate-place : tie.Need-slice-aggregate-place Inv-loop μ-loop
 slice-aggregate-place c = search needs

@@ -4,7 +4,7 @@ use Prim.Native.Nat.{_+_, _-_, _≤_}
 use Rattle.strips.specs.Least.{least}
 use Rattle.totals.specs.Cell.{choice, coded}
 use Rattle.totals.proofs.Ports.{row-small, in-row}
-use Rattle.totals.proofs.Totals.{coded-least-none}
+use Rattle.totals.specs.Totals.{coded-least-none}
 use Rattle.totals.proofs.Cells.{port-ready, least-step}
 use native.Mathlib.Omega.{arith}
 use Rattle.totals.proofs.least_total.Statement.{statement}

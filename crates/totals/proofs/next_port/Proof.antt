@@ -8,7 +8,7 @@ use Rattle.pads.specs.Counts.{le-or-lt}
 use Rattle.totals.proofs.Corners.{corner-step, corner-top}
 use Rattle.totals.proofs.Ports.{row-small, in-table}
 use Rattle.totals.proofs.Cells.{port-ready}
-use Rattle.totals.proofs.Leading.{ready-strip, table-parts, leads-none, attains-yes, attains-no}
+use Rattle.totals.proofs.Leading.{ready-strip, table-parts, none-leads, attains-yes, attains-no}
 use native.Mathlib.Omega.{arith}
 use Rattle.totals.proofs.next_port.Statement.{statement}
 use Rattle.totals.proofs.next_port.Tie as tie
@@ -58,7 +58,7 @@ returns c = let s = c .before .before .before .before .before .before .before .b
     record {
       start = omega arith;
       within = omega arith;
-      passed = λ i u v L. leads-none (p .0) (p .1 .0) (x .r) (x .a) (x .b) (p .1 .1 .0)
+      passed = λ i u v L. none-leads (p .0) (p .1 .0) (x .r) (x .a) (x .b) (p .1 .1 .0)
           (sym (ap (λ (i : ℕ). getD (x .totals .now) (i + x .a) 0) (k .ensures .0)) ∙ c .if1 .taken) i L;
       found = λ u. absurd (omega arith);
     }

@@ -21,7 +21,7 @@ is-best-requires c κs =
     let told = c .before in
     let s = told .before .before .before .before .before .before .before .before .before in
     let u = rw (told .enum-told2 .given .1) at (s .pre .1 .1) in
-    (s .pre .0 .proper, (s .pre .0 .room, (u, s .pre .1 .0)))
+    (s .pre .0, (u, s .pre .1 .0))
 
 same-length : tie.Need-same-length
 same-length c = search needs

@@ -3,6 +3,7 @@ use mathlib.Core.Path.{sym}
 use Prim.Native.Nat.{_-_, _≤_}
 use native.Mathlib.Omega.{arith}
 use lib.ListN.{length}
+use Rattle.choices.specs.Source.{source}
 use Rattle.choices.specs.Memory.{Memory, memory-none}
 use Rattle.steps.proofs.Filling.{working-with}
 use Rattle.walks.proofs.Turning.{Turning, turning-none, turning-count, turning-more, turning-end, turning-full}
@@ -10,11 +11,11 @@ use Rattle.walks.proofs.turn.Statement.{statement}
 use Rattle.walks.proofs.turn.Tie as tie
 
 abbrev Inv-loop : tie.InvT-loop
-Inv-loop heads totals order cost lo hi w₀ page₀ n known₀ at₀ k₀ w page known at k =
-    Turning order cost lo hi w₀ page₀ w page at k × Memory order cost lo hi w (length order) known
+Inv-loop heads totals order cost lo hi p w₀ page₀ n known₀ at₀ k₀ w page known at k =
+    Turning order (source heads totals cost p) lo hi w₀ page₀ w page at k × Memory order (source heads totals cost p) lo hi w (length order) known
 
 abbrev μ-loop : tie.MeasureT-loop
-μ-loop heads totals order cost lo hi w₀ page₀ n known₀ at₀ k₀ w page known at k = length page - at
+μ-loop heads totals order cost lo hi p w₀ page₀ n known₀ at₀ k₀ w page known at k = length page - at
 
 -- the function's entry, from the loop's head; what is filled is on the page; at a turn there is room for a layout
 abbrev start : tie.At-loop Inv-loop μ-loop → tie.Start Inv-loop μ-loop

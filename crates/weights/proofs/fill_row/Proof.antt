@@ -4,32 +4,35 @@ use mathlib.Core.Path.{_≡_, _∙_, sym, ap}
 use native.Mathlib.Nat.{mul-le-mul}
 use native.Mathlib.Omega.{arith}
 use Rattle.numbers.specs.Filled.{filled-to, place-in}
-use Rattle.paper.specs.Job.{count}
-use Rattle.paper.specs.Layouts.{boardOf, weighted}
+use Rattle.paper.specs.Layouts.{Board, boardFrom, weighted}
 use Rattle.weights.specs.Rows.{FilledTo}
 use Rattle.weights.proofs.Rows.{filled-place, row-end}
 use Rattle.weights.proofs.fill_row.Statement.{statement}
 use Rattle.weights.proofs.fill_row.Tie as tie
 
 abbrev Inv-loop : tie.InvT-loop
-Inv-loop job lw bw figures₀ j n row q₀ figures q =
-    (q ≤ count job) × (row ≡ j * count job) × FilledTo (boardOf job) (weighted (boardOf job) lw bw) figures (j * count job + q)
+Inv-loop form job ports lw bw figures₀ j p row q₀ figures q =
+    let b = boardFrom form job ports in
+    (q ≤ b .ports) × (row ≡ j * b .ports) × FilledTo b (weighted b lw bw) figures (j * b .ports + q)
 
 abbrev μ-loop : tie.MeasureT-loop
-μ-loop job lw bw figures₀ j n row q₀ figures q = n - q
+μ-loop form job ports lw bw figures₀ j p row q₀ figures q = p - q
 
-records-requires : tie.Need-records-requires Inv-loop μ-loop
-records-requires c κs = omega (arith, c .before .before .pre .0 .0 .size)
+ports-requires : tie.Need-ports-requires Inv-loop μ-loop
+ports-requires c κs = omega (arith, c .before .before .before .pre .0 .0 .port-size)
 
-abbrev begin : tie.After-records Inv-loop μ-loop → tie.Start Inv-loop μ-loop
-begin c = c .before .before .before
+abbrev begin : tie.After-ports Inv-loop μ-loop → tie.Start Inv-loop μ-loop
+begin c = c .before .before .before .before
 
--- a row starts within 64 × 64 places
-low : (c : tie.After-records Inv-loop μ-loop) → begin c .args .j * c .records .result ≤ 4096
+abbrev board : tie.Start Inv-loop μ-loop → Board
+board s = boardFrom (s .args .form) (s .args .job .now) (s .args .ports .now)
+
+-- a row starts within 64 × 128 places
+low : (c : tie.After-ports Inv-loop μ-loop) → begin c .args .j * c .ports .result ≤ 8192
 low c =
     let s = begin c in
     let h : s .args .j ≤ 64 = omega (arith, s .pre .0 .0 .few, s .pre .0 .3) in
-    let k : c .records .result ≤ 64 = omega (arith, s .pre .0 .0 .few, c .records .ensures) in
+    let k : c .ports .result ≤ 128 = omega (arith, s .pre .0 .0 .slots-few, c .ports .ensures) in
     omega (arith, mul-le-mul h k)
 
 cast-row : tie.Need-cast-row Inv-loop μ-loop
@@ -39,9 +42,9 @@ mul-row : tie.Need-mul-row Inv-loop μ-loop
 mul-row c = omega (arith, low c)
 
 loop-holds : tie.Need-loop-holds Inv-loop μ-loop
-loop-holds c = let s = begin c in (omega arith, ap (λ n. s .args .j * n) (c .records .ensures), filled-to (omega arith) (s .pre .1))
+loop-holds c = let s = begin c in (omega arith, ap (λ p. s .args .j * p) (c .ports .ensures), filled-to (omega arith) (s .pre .1))
 
-inside : (c : tie.In-loop Inv-loop μ-loop) → c .before .loop .q < count (begin (c .before .before) .args .job .now)
+inside : (c : tie.In-loop Inv-loop μ-loop) → c .before .loop .q < board (begin (c .before .before)) .ports
 inside c = omega arith
 
 -- either weight is in range: which one is which is left to the cost
@@ -61,8 +64,8 @@ slice-write-figures : tie.Need-slice-write-figures Inv-loop μ-loop
 slice-write-figures c =
     let l = c .before .before .loop in
     let s = begin (c .before .before .before) in
-    let n = count (s .args .job .now) in
-    omega (arith, place-in n n (s .args .j) (l .q) (s .pre .0 .3) (inside (c .before)), l .inv .1, l .inv .2 .long)
+    let b = board s in
+    omega (arith, place-in (b .pads) (b .ports) (s .args .j) (l .q) (s .pre .0 .3) (inside (c .before)), l .inv .1, l .inv .2 .long)
 
 add-q : tie.Need-add-q Inv-loop μ-loop
 add-q c = omega arith
@@ -74,7 +77,7 @@ loop-again : tie.Need-loop-again Inv-loop μ-loop
 loop-again c =
     let l = c .before .before .loop in
     let s = begin (c .before .before .before) in
-    let b = boardOf (s .args .job .now) in
+    let b = board s in
     let more = filled-place b (weighted b (s .args .lw) (s .args .bw)) (l .figures) (s .args .j) (l .q) (c .weighted .result)
     (s .pre .0 .3) (inside (c .before)) (l .inv .2) (c .weighted .ensures) in
     (omega (arith, inside (c .before)), l .inv .1, rw (l .inv .1) more)
@@ -85,8 +88,8 @@ same-length c = c .before .loop .inv .2 .long ∙ sym (begin (c .before .before)
 returns : tie.Need-returns Inv-loop μ-loop
 returns c =
     let l = c .before .loop in
-    let s = begin (c .before .before) .args in
-    filled-to (row-end (s .j) (count (s .job .now)) (l .q) (omega arith)) (l .inv .2)
+    let s = begin (c .before .before) in
+    filled-to (row-end (s .args .j) (board s .ports) (l .q) (omega arith)) (l .inv .2)
 
 pub fill-row-spec : {M : Type 1} → statement M
 fill-row-spec =
@@ -94,7 +97,7 @@ fill-row-spec =
     (tie.spec
     Inv-loop
     μ-loop
-    records-requires
+    ports-requires
     cast-row
     mul-row
     loop-holds

@@ -1,6 +1,8 @@
 -- `calls::search::page` meets its contract. Assumes nothing.
 use denote.Ref.{now}
 use borrow.Author.Needs.{needs}
+use Rattle.paper.specs.Job.{records}
+use Rattle.paper.specs.declared.Work.the-variants.{Unlent}
 use Rattle.paper.specs.Layouts.{byTable}
 use Rattle.paper.specs.laws.Accepted.{measure-accepted, measure-facts}
 use Rattle.calls.proofs.Facts.{page-answers, not-paged-answers}
@@ -11,7 +13,7 @@ page-on-requires : tie.Need-page-on-requires
 page-on-requires c κs =
     let s = c .before .before .before .before .before in
     let a = s .args in
-    (measure-facts (now (a .job)) (byTable (now (a .figures))) (now (a .list)) (s .pre), measure-accepted (now (a .job)) (byTable (now (a .figures))) (now (a .list)) (s .pre) .1)
+    (measure-facts (records (now (a .job))) (byTable (now (a .figures))) Unlent (now (a .list)) (s .pre), measure-accepted (records (now (a .job))) (byTable (now (a .figures))) Unlent (now (a .list)) (s .pre) .1)
 
 not-best-requires : tie.Need-not-best-requires
 not-best-requires c κs = search needs
@@ -24,7 +26,7 @@ returns c =
     let d = c .before .before .before in
     let s = d .before .before .before .before .before .before in
     let a = s .args in
-    page-answers (now (a .job)) (byTable (now (a .figures))) (now (a .list)) (s .pre) (now (a .page)) _ (d .page-on .result) (d .page-on .ensures) (c .if1 .taken)
+    page-answers (records (now (a .job))) (byTable (now (a .figures))) Unlent (now (a .list)) (s .pre) (now (a .page)) _ (d .page-on .result) (d .page-on .ensures) (c .if1 .taken)
 
 same-length-2 : tie.Need-same-length-2
 same-length-2 c = search needs
@@ -35,7 +37,7 @@ returns-2 c =
     let s = d .before .before .before .before .before .before in
     let a = s .args in
     rw (c .not-best .ensures)
-    (not-paged-answers (now (a .job)) (byTable (now (a .figures))) (now (a .list)) (s .pre) (now (a .page)) _ (d .page-on .result) (d .page-on .ensures) (c .before .if1 .left))
+    (not-paged-answers (records (now (a .job))) (byTable (now (a .figures))) Unlent (now (a .list)) (s .pre) (now (a .page)) _ (d .page-on .result) (d .page-on .ensures) (c .before .if1 .left))
 
 pub page-spec : {M : Type 1} → statement M
 page-spec =

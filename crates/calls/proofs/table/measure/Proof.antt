@@ -1,16 +1,19 @@
 -- `calls::table::measure` meets its contract. Assumes nothing.
 use denote.Ref.{now}
 use borrow.Author.Needs.{needs}
+use Rattle.paper.specs.Job.{records}
+use Rattle.paper.specs.declared.Work.the-variants.{Unlent}
 use Rattle.paper.specs.Layouts.{byTable}
 use Rattle.paper.specs.Refusals.{measureTrials}
+use Rattle.measure.specs.Given.{measurable}
 use Rattle.checks.specs.Judged.{Judged, judged-sound, judged-refused, measure-judged}
 use Rattle.calls.proofs.table.measure.Statement.{statement}
 use Rattle.calls.proofs.table.measure.Tie as tie
 
 -- the verdict is the right one
 judged : (c : tie.After-of-measure)
-    → let a = c .before .before .before .before .before .args in Judged (c .of-measure .result) (measureTrials (now (a .job)) (byTable (now (a .figures))) (now (a .list)))
-judged c = let a = c .before .before .before .before .before .args in rw (c .of-measure .ensures, c .before .of-table .ensures) (measure-judged (now (a .job)) (byTable (now (a .figures))) (now (a .list)))
+    → let a = c .before .before .before .before .before .args in Judged (c .of-measure .result) (measureTrials (records (now (a .job))) (byTable (now (a .figures))) Unlent (now (a .list)))
+judged c = let a = c .before .before .before .before .before .args in rw (c .of-measure .ensures, c .before .of-table .ensures) (measure-judged (records (now (a .job))) (byTable (now (a .figures))) Unlent (now (a .list)))
 
 of-table-requires : tie.Need-of-table-requires
 of-table-requires c κs = search needs
@@ -22,7 +25,9 @@ enum-told : tie.Need-enum-told
 enum-told c = search needs
 
 total-requires : tie.Need-total-requires
-total-requires c κs = let told = c in judged-sound _ _ (judged (told .before .before)) (told .enum-told .given .1)
+total-requires c κs =
+    let a = c .before .before .before .before .before .before .before .args in
+    measurable (records (now (a .job))) (byTable (now (a .figures))) Unlent (now (a .list)) (judged-sound _ _ (judged (c .before .before)) (c .enum-told .given .1))
 
 enum-known-v : tie.Need-enum-known-v
 enum-known-v c = search needs

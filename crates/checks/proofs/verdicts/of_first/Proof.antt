@@ -1,52 +1,42 @@
 -- `checks::verdicts::of_first` meets its contract. Assumes nothing.
+use mathlib.Core.Path.{_≡_, sym, _∙_}
 use denote.Ref.{now}
+use Rattle.paper.specs.laws.Tests.{firstTests, roomTests}
 use Rattle.checks.specs.declared.Verdict.the-variants.{Sound}
-use Rattle.paper.specs.laws.Tests.{atWhole, firstTests}
-use mathlib.Core.Path.{sym, _∙_}
-use Rattle.checks.specs.Sound.{was-sound, whole-false, size-le}
+use Rattle.checks.specs.Verdicts.{givenTest, after-append}
+use Rattle.checks.specs.Sound.{Sizes, was-sound, after-sound, sizes-sound}
 use borrow.Author.Needs.{needs}
 use Rattle.checks.proofs.verdicts.of_first.Statement.{statement}
 use Rattle.checks.proofs.verdicts.of_first.Tie as tie
 
-bad-size-requires : tie.Need-bad-size-requires
-bad-size-requires c κs = search needs
+-- where 2 or 13 leaves the verdict sound, 1 did
+small : (c : tie.After-try-whole) → c .try-whole .result ≡ Sound
+    → let a = c .before .before .before .before .args in Sizes (a .form) (now (a .job)) (now (a .ports))
+small c sound =
+    let s = c .before .before .before .before in
+    let one = was-sound _ _ (givenTest (s .args .given)) (c .try-whole .ensures) sound .0 in
+    sizes-sound (s .args .form) (now (s .args .job)) (now (s .args .ports)) (s .pre) (sym (c .before .of-sizes .ensures) ∙ one)
+
+of-sizes-requires : tie.Need-of-sizes-requires
+of-sizes-requires c κs = search needs
 
 try-whole-requires : tie.Need-try-whole-requires
 try-whole-requires c κs = search needs
 
-try-whole-requires-2 : tie.Need-try-whole-requires-2
-try-whole-requires-2 c κs = search needs
-
-try-whole-requires-3 : tie.Need-try-whole-requires-3
-try-whole-requires-3 c κs = search needs
+of-room-requires : tie.Need-of-room-requires
+of-room-requires c κs = λ sound. let z = small c sound in (z .short, z .few, z .slots-few)
 
 of-job-requires : tie.Need-of-job-requires
 of-job-requires c κs =
     λ sound.
-    let bad = c .before .before .before .bad-size in
-    let s2 = was-sound _ _ _ (c .try-whole3 .ensures) sound .0 in
-    let s1 = was-sound _ _ _ (c .before .try-whole2 .ensures) s2 .0 in
-    let none = was-sound Sound _ (atWhole 1 (bad .result)) (c .before .before .try-whole .ensures) s1 .1 in
-    size-le (now (c .before .before .before .before .before .args .job)) (sym (bad .ensures) ∙ whole-false 1 (bad .result) none)
+    let a = c .before .before .before .before .before .args in
+    let tests = roomTests (a .form) (now (a .job)) (now (a .ports)) (a .work) (a .room) in
+    small (c .before) (after-sound (c .before .try-whole .result) tests (sym (c .of-room .ensures) ∙ sound)) .short
 
 returns : tie.Need-returns
 unfolding firstTests
 returns c =
-    rw (
-      c .of-job .ensures,
-      c .before .try-whole3 .ensures,
-      c .before .before .try-whole2 .ensures,
-      c .before .before .before .try-whole .ensures,
-      c .before .before .before .before .bad-size .ensures,
-    )
+    rw (after-append, after-append, c .of-job .ensures, c .before .of-room .ensures, c .before .before .try-whole .ensures, c .before .before .before .of-sizes .ensures)
 
 pub of-first-spec : {M : Type 1} → statement M
-of-first-spec =
-    tie.close
-    (tie.spec
-    bad-size-requires
-    try-whole-requires
-    try-whole-requires-2
-    try-whole-requires-3
-    of-job-requires
-    returns)
+of-first-spec = tie.close (tie.spec of-sizes-requires try-whole-requires of-room-requires of-job-requires returns)

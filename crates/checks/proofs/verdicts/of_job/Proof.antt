@@ -1,55 +1,24 @@
 -- `checks::verdicts::of_job` meets its contract. Assumes nothing.
-use mathlib.Core.Path.{_≡_}
-use Rattle.checks.specs.declared.Verdict.the-variants.{Sound}
-use Rattle.find.specs.Dispatch.{testOf}
-use Rattle.paper.specs.laws.Tests.{jobTests}
-use Rattle.checks.specs.Sound.{was-sound}
+use mathlib.Core.Path.{sym, _∙_}
+use denote.Ref.{now}
+use Rattle.paper.specs.laws.Tests.{jobTests, fieldTests}
+use Rattle.checks.specs.Verdicts.{after-append}
+use Rattle.checks.specs.Sound.{after-sound}
 use Rattle.checks.proofs.verdicts.of_job.Statement.{statement}
 use Rattle.checks.proofs.verdicts.of_job.Tie as tie
 
--- a verdict that is sound after a check was so at the start
-after-4 : (c : tie.After-try-records) → c .try-records .result ≡ Sound → c .before .before .args .v ≡ Sound
-after-4 c sound = was-sound _ _ _ (c .try-records .ensures) sound .0
+of-fields-requires : tie.Need-of-fields-requires
+of-fields-requires c κs = λ sound. c .before .before .pre sound
 
-after-5 : (c : tie.After-try-records2) → c .try-records2 .result ≡ Sound → c .before .before .before .args .v ≡ Sound
-after-5 c sound = after-4 (c .before) (was-sound _ _ _ (c .try-records2 .ensures) sound .0)
-
-after-12 : (c : tie.After-try-records3) → c .try-records3 .result ≡ Sound → c .before .before .before .before .args .v ≡ Sound
-after-12 c sound = after-5 (c .before) (was-sound _ _ _ (c .try-records3 .ensures) sound .0)
-
-after-6 : (c : tie.After-try-records4) → c .try-records4 .result ≡ Sound → c .before .before .before .before .before .args .v ≡ Sound
-after-6 c sound = after-12 (c .before) (was-sound _ _ _ (c .try-records4 .ensures) sound .0)
-
-try-records-requires : tie.Need-try-records-requires
-try-records-requires c κs = λ sound. c .before .pre sound
-
-try-records-requires-2 : tie.Need-try-records-requires-2
-try-records-requires-2 c κs = λ sound. c .before .before .pre (after-4 c sound)
-
-try-records-requires-3 : tie.Need-try-records-requires-3
-try-records-requires-3 c κs = λ sound. c .before .before .before .pre (after-5 c sound)
-
-try-records-requires-4 : tie.Need-try-records-requires-4
-try-records-requires-4 c κs = λ sound. c .before .before .before .before .pre (after-12 c sound)
-
-try-records-requires-5 : tie.Need-try-records-requires-5
-try-records-requires-5 c κs = λ sound. c .before .before .before .before .before .pre (after-6 c sound)
+of-places-requires : tie.Need-of-places-requires
+of-places-requires c κs =
+    λ sound.
+    let s = c .before .before .before in
+    s .pre (after-sound (s .args .v) (fieldTests (s .args .form) (now (s .args .job)) (now (s .args .ports))) (sym (c .of-fields .ensures) ∙ sound))
 
 returns : tie.Need-returns
-unfolding jobTests testOf
-returns c =
-    let c6 = c .before in
-    let c12 = c6 .before in
-    let c5 = c12 .before in
-    rw (c .try-records5 .ensures, c6 .try-records4 .ensures, c12 .try-records3 .ensures, c5 .try-records2 .ensures, c5 .before .try-records .ensures)
+unfolding jobTests
+returns c = rw (after-append, c .of-places .ensures, c .before .of-fields .ensures)
 
 pub of-job-spec : {M : Type 1} → statement M
-of-job-spec =
-    tie.close
-    (tie.spec
-    try-records-requires
-    try-records-requires-2
-    try-records-requires-3
-    try-records-requires-4
-    try-records-requires-5
-    returns)
+of-job-spec = tie.close (tie.spec of-fields-requires of-places-requires returns)

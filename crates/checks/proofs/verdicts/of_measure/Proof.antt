@@ -1,10 +1,10 @@
 -- `checks::verdicts::of_measure` meets its contract. Assumes nothing.
 use mathlib.Core.Path.{sym, _∙_}
+use denote.Ref.{now}
+use lib.ListN.{length}
 use Rattle.paper.specs.laws.Tests.{measureTests}
 use Rattle.checks.specs.Verdicts.{givenTest, after-append}
 use Rattle.checks.specs.Sound.{first-sized}
-use denote.Ref.{now}
-use lib.ListN.{length}
 use borrow.Author.Needs.{needs}
 use Rattle.checks.proofs.verdicts.of_measure.Statement.{statement}
 use Rattle.checks.proofs.verdicts.of_measure.Tie as tie
@@ -15,8 +15,10 @@ of-first-requires c κs = search needs
 of-layout-requires : tie.Need-of-layout-requires
 of-layout-requires c κs =
     λ sound.
-    let a = c .before .before .before .args in
-    first-sized (now (a .job)) (givenTest (a .given)) (length (now (a .list))) (sym (c .of-first .ensures) ∙ sound)
+    let s = c .before .before .before .before in
+    let a = s .args in
+    let (sizes, room) = first-sized (a .form) (now (a .job)) (now (a .ports)) (givenTest (a .given)) (a .work) (length (now (a .list))) (s .pre) (sym (c .of-first .ensures) ∙ sound) in
+    (sizes .short, room)
 
 returns : tie.Need-returns
 unfolding measureTests

@@ -8,11 +8,14 @@ enum-told : tie.Need-enum-told
 enum-told c = search needs
 
 records-requires : tie.Need-records-requires
-records-requires c κs = omega (arith, c .before .before .before .before .pre (c .enum-told .given .1) .0)
+records-requires c κs = omega (arith, c .before .before .before .before .before .pre (c .enum-told .given .1) .0)
+
+ports-requires : tie.Need-ports-requires
+ports-requires c κs = omega (arith, c .before .before .before .before .before .before .pre (c .before .enum-told .given .1) .0)
 
 first-bad-entry-requires : tie.Need-first-bad-entry-requires
 first-bad-entry-requires c κs =
-    rw (c .records .ensures) (c .before .before .before .before .before .pre (c .before .enum-told .given .1) .1)
+    rw (c .before .records .ensures) (c .before .before .before .before .before .before .before .pre (c .before .before .enum-told .given .1) .1)
 
 verdict-requires : tie.Need-verdict-requires
 verdict-requires c κs = search needs
@@ -22,7 +25,8 @@ enum-known-v c = search needs
 
 returns : tie.Need-returns
 returns c =
-    rw (c .before .before .before .enum-told .given .1, c .verdict .ensures, c .before .first-bad-entry .ensures, c .before .before .records .ensures)
+    let e = c .before .before .before in
+    rw (e .before .enum-told .given .1, c .verdict .ensures, c .before .first-bad-entry .ensures, e .records .ensures, c .before .before .ports .ensures)
 
 returns-2 : tie.Need-returns-2
 returns-2 c = rw (c .before .v .given .1)
@@ -33,6 +37,7 @@ try-entries-spec =
     (tie.spec
     enum-told
     records-requires
+    ports-requires
     first-bad-entry-requires
     verdict-requires
     enum-known-v

@@ -7,11 +7,8 @@ use Rattle.checks.proofs.verdicts.try_records.Tie as tie
 enum-told : tie.Need-enum-told
 enum-told c = search needs
 
-records-requires : tie.Need-records-requires
-records-requires c κs = omega (arith, c .before .before .before .pre (c .enum-told .given .1))
-
 first-failing-requires : tie.Need-first-failing-requires
-first-failing-requires c κs = c .records .ensures
+first-failing-requires c κs = omega (arith, c .before .before .before .before .pre (c .enum-told .given .1))
 
 verdict-requires : tie.Need-verdict-requires
 verdict-requires c κs = search needs
@@ -20,20 +17,10 @@ enum-known-v : tie.Need-enum-known-v
 enum-known-v c = search needs
 
 returns : tie.Need-returns
-returns c =
-    rw (c .before .before .before .enum-told .given .1, c .verdict .ensures, c .before .first-failing .ensures, c .before .before .records .ensures)
+returns c = rw (c .before .before .enum-told .given .1, c .verdict .ensures, c .before .first-failing .ensures)
 
 returns-2 : tie.Need-returns-2
 returns-2 c = rw (c .before .v .given .1)
 
 pub try-records-spec : {M : Type 1} → statement M
-try-records-spec =
-    tie.close
-    (tie.spec
-    enum-told
-    records-requires
-    first-failing-requires
-    verdict-requires
-    enum-known-v
-    returns
-    returns-2)
+try-records-spec = tie.close (tie.spec enum-told first-failing-requires verdict-requires enum-known-v returns returns-2)

@@ -8,12 +8,12 @@ enum-told : tie.Need-enum-told
 enum-told c = search needs
 
 records-requires : tie.Need-records-requires
-records-requires c κs = omega (arith, c .before .before .before .before .pre (c .enum-told .given .1) .0)
+records-requires c κs = omega (arith, c .before .before .before .before .before .pre (c .enum-told .given .1) .0)
 
 first-touching-requires : tie.Need-first-touching-requires
 first-touching-requires c κs =
     let e = c .records .ensures in
-    let given = c .before .before .before .before .before .pre (c .before .enum-told .given .1) in
+    let given = c .before .before .before .before .before .before .pre (c .before .enum-told .given .1) in
     (e, rw e (given .1))
 
 verdict-requires : tie.Need-verdict-requires

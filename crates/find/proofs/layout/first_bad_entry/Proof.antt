@@ -9,10 +9,10 @@ use Rattle.find.proofs.layout.first_bad_entry.Statement.{statement}
 use Rattle.find.proofs.layout.first_bad_entry.Tie as tie
 
 abbrev Inv-loop : tie.InvT-loop
-Inv-loop list n i₀ i = (i ≤ n) × (firstWhere (badEntry n list) i ≡ Nowhere)
+Inv-loop list n p i₀ i = (i ≤ n) × (firstWhere (badEntry p list) i ≡ Nowhere)
 
 abbrev μ-loop : tie.MeasureT-loop
-μ-loop list n i₀ i = n - i
+μ-loop list n p i₀ i = n - i
 
 loop-holds : tie.Need-loop-holds Inv-loop μ-loop
 loop-holds c = (search needs, none-below _)

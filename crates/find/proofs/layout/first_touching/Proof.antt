@@ -4,23 +4,23 @@ use mathlib.Core.Path.{_≡_, refl, sym, _∙_}
 use native.Mathlib.Omega.{arith}
 use borrow.Author.Needs.{needs}
 use Rattle.find.specs.declared.Found.the-variants.{Nowhere}
-use Rattle.paper.specs.Layouts.{boardOf, held}
+use Rattle.paper.specs.Layouts.{boardFrom, held}
 use Rattle.find.specs.Search.{firstWhere, none-below, none-more, none-end, pairs-more, pairs-end, pair-here}
 use Rattle.paper.specs.laws.Tests.{withEarlier, meetAt}
 use Rattle.find.proofs.layout.first_touching.Statement.{statement}
 use Rattle.find.proofs.layout.first_touching.Tie as tie
 
 abbrev Inv-loop : tie.InvT-loop
-Inv-loop job list n found₀ i j₀ found j = (j ≤ i) × (firstWhere (meetAt (boardOf job) (held list) i) j ≡ Nowhere) × (found ≡ found₀)
+Inv-loop form job ports list n found₀ i j₀ found j = (j ≤ i) × (firstWhere (meetAt (boardFrom form job ports) (held list) i) j ≡ Nowhere) × (found ≡ found₀)
 
 abbrev μ-loop : tie.MeasureT-loop
-μ-loop job list n found₀ i j₀ found j = i - j
+μ-loop form job ports list n found₀ i j₀ found j = i - j
 
 abbrev Inv-records : tie.InvT-records
-Inv-records job list n found₀ i₀ found i = (i ≤ n) × (firstWhere (withEarlier (meetAt (boardOf job) (held list))) i ≡ Nowhere) × (found ≡ Nowhere)
+Inv-records form job ports list n found₀ i₀ found i = (i ≤ n) × (firstWhere (withEarlier (meetAt (boardFrom form job ports) (held list))) i ≡ Nowhere) × (found ≡ Nowhere)
 
 abbrev μ-records : tie.MeasureT-records
-μ-records job list n found₀ i₀ found i = n - i
+μ-records form job ports list n found₀ i₀ found i = n - i
 
 records-holds : tie.Need-records-holds Inv-loop μ-loop Inv-records μ-records
 records-holds c = (search needs, none-below _, refl)
@@ -31,7 +31,7 @@ loop-holds c = (search needs, none-below _, refl)
 touches-requires : tie.Need-touches-requires Inv-loop μ-loop Inv-records μ-records
 touches-requires c κs =
     let outer = c .before .before .before in
-    let entries = outer .before .before .before .pre .1 .1 in
+    let entries = outer .before .before .before .before .pre .1 .1 in
     omega (arith, entries (outer .records .i) (search needs), entries (c .before .loop .j) (omega arith))
 
 add-j : tie.Need-add-j Inv-loop μ-loop Inv-records μ-records

@@ -13,7 +13,7 @@ use Rattle.strips.specs.Grid as strip
 use Rattle.strips.specs.Strips as laws
 use Rattle.pads.specs.Pads.{Sides, spans, fits}
 use Rattle.totals.specs.Strip.{cut, partedWithin, given, value, grid, bestWithin, localWithin}
-use Rattle.totals.proofs.Parted.{spans-lo, spans-hi}
+use Rattle.totals.specs.Parted.{spans-lo, spans-hi}
 use Rattle.pads.specs.Counts.{spans-by}
 
 -- c, x and y together, in two steps

@@ -9,10 +9,10 @@ use native.Mathlib.Omega.{arith}
 use lib.ListN.{take, drop}
 use Rattle.pads.specs.Pads.{Sides, fits, bit, padsIn}
 use Rattle.totals.specs.Strip.{partedWithin, bestWithin, localWithin}
-use Rattle.totals.specs.Cell.{noTotal, coded}
+use Rattle.totals.specs.Cell.{codedBy, noTotal, coded}
 use Rattle.pads.specs.Counts.{le-or-lt, drop-split, count-drop}
-use Rattle.totals.proofs.Parted.{parted-least, parts-most}
-use Rattle.totals.proofs.Masks.{add, best-within-nil, best-in, best-out, local-parted, local-blocked}
+use Rattle.totals.specs.Parted.{parted-least, parts-most}
+use Rattle.totals.specs.Masks.{add, best-within-nil, best-in, best-out, local-parted, local-blocked}
 
 -- ---- totals
 
@@ -91,11 +91,11 @@ abbrev pub Capped : ℕ → Least → Type 0
 Capped m none = Unit {0}
 Capped m (some v) = v ≤ m
 
-most-mono : (m n : ℕ) (o : Least) → m ≤ n → Capped m o → Capped n o
+pub most-mono : (m n : ℕ) (o : Least) → m ≤ n → Capped m o → Capped n o
 most-mono m n none h p = tt
 most-mono m n (some v) h p = omega arith
 
-most-plus : (m n : ℕ) (x y : Least) → Capped m x → Capped n y → Capped (m + n) (add x y)
+pub most-plus : (m n : ℕ) (x y : Least) → Capped m x → Capped n y → Capped (m + n) (add x y)
 most-plus m n none y p q = tt
 most-plus m n (some x) none p q = tt
 most-plus m n (some x) (some y) p q = omega arith
@@ -106,7 +106,7 @@ most-meet m none y p q = q
 most-meet m (some x) none p q = p
 most-meet m (some x) (some y) p q = omega arith
 
-most-least : (m : ℕ) (f : ℕ → Least) (a k : ℕ) → ((q : ℕ) → a ≤ q → q < a + k → Capped m (f q)) → Capped m (least f a k)
+pub most-least : (m : ℕ) (f : ℕ → Least) (a k : ℕ) → ((q : ℕ) → a ≤ q → q < a + k → Capped m (f q)) → Capped m (least f a k)
 unfolding least smallerOf
 most-least m f a zero h = tt
 most-least m f a (suc k) h = most-meet m (least f a k) (f (a + k)) (most-least m f a k (λ q u v. h q u (omega arith))) (h (a + k) (omega arith) (omega arith))
@@ -147,20 +147,22 @@ module _ (S : Sides) (C : ℕ → ℕ → Least) (level : (j : ℕ) → S .lo j 
 
 -- ---- totals as the code holds them
 
-pub coded-none : (m : ℕ) (o : Least) → Capped m o → m < 2 ^ 40 → coded o ≡ noTotal → o ≡ none
-coded-none m none p h e = refl
-coded-none m (some v) p h e = absurd (omega arith)
+-- z stands for none
+module _ (z : ℕ) where
+  pub coded-none : (m : ℕ) (o : Least) → Capped m o → m < z → codedBy z o ≡ z → o ≡ none
+  coded-none m none p h e = refl
+  coded-none m (some v) p h e = absurd (omega arith)
 
-pub coded-some : (o : Least) → (coded o ≡ noTotal → ⊥) → o ≡ some (coded o)
-coded-some none h = absurd (h refl)
-coded-some (some v) h = refl
+  pub coded-some : (o : Least) → (codedBy z o ≡ z → ⊥) → o ≡ some (codedBy z o)
+  coded-some none h = absurd (h refl)
+  coded-some (some v) h = refl
 
-coded-meet : (m n : ℕ) (x y : Least) → Capped m x → Capped n y → m < 2 ^ 40 → n < 2 ^ 40 → coded (smallerOf x y) ≡ min (coded x) (coded y)
-unfolding smallerOf
-coded-meet m n none none p q u v = refl
-coded-meet m n none (some y) p q u v = omega arith
-coded-meet m n (some x) none p q u v = omega arith
-coded-meet m n (some x) (some y) p q u v = refl
+  pub coded-meet : (m : ℕ) (x y : Least) → Capped m x → Capped m y → m ≤ z → codedBy z (smallerOf x y) ≡ min (codedBy z x) (codedBy z y)
+  unfolding smallerOf
+  coded-meet m none none p q h = omega arith
+  coded-meet m none (some y) p q h = omega arith
+  coded-meet m (some x) none p q h = omega arith
+  coded-meet m (some x) (some y) p q h = refl
 
 -- no port
 pub coded-least-none : (f : ℕ → Least) (a : ℕ) → noTotal ≡ coded (least f a (a - a))
@@ -174,6 +176,6 @@ unfolding least smallerOf
 coded-least m f a q small aq h =
     let e : a + (q - a) ≡ q = omega arith in
     let e′ : q + 1 - a ≡ suc (q - a) = omega arith in
-    sym (coded-meet m m (least f a (q - a)) (f q) (most-least m f a (q - a) (λ i u v. h i u (omega arith))) (h q aq (omega arith)) small small)
+    sym (coded-meet noTotal m (least f a (q - a)) (f q) (most-least m f a (q - a) (λ i u v. h i u (omega arith))) (h q aq (omega arith)) (omega arith))
     ∙ ap (λ (k : ℕ). coded (smallerOf (least f a (q - a)) (f k))) (sym e)
     ∙ ap (λ (k : ℕ). coded (least f a k)) (sym e′)

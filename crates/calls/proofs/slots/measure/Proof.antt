@@ -1,0 +1,63 @@
+-- `calls::slots::measure` meets its contract. Assumes nothing.
+use denote.Ref.{now}
+use Rattle.paper.specs.declared.Work.the-variants.{Unlent}
+use Rattle.paper.specs.Job.{slots}
+use Rattle.paper.specs.Layouts.{byWeights}
+use Rattle.paper.specs.Refusals.{Passed, measureTrials}
+use Rattle.checks.specs.Judged.{Judged, judged-sound, judged-refused, measure-judged}
+use Rattle.measure.specs.Given.{measurable}
+use borrow.Author.Needs.{needs}
+use Rattle.calls.proofs.slots.measure.Statement.{statement}
+use Rattle.calls.proofs.slots.measure.Tie as tie
+
+-- the verdict is the right one
+judged : (c : tie.After-of-measure) → let a = c .before .before .before .before .before .args in
+    Judged (c .of-measure .result) (measureTrials (slots (now (a .pads)) (now (a .ports))) (byWeights (a .lw) (a .bw)) Unlent (now (a .list)))
+judged c = let a = c .before .before .before .before .before .args in
+    rw (c .of-measure .ensures, c .before .of-weights .ensures) (measure-judged (slots (now (a .pads)) (now (a .ports))) (byWeights (a .lw) (a .bw)) Unlent (now (a .list)))
+
+passed : (c : tie.After-enum-told) → let a = c .before .before .before .before .before .before .before .args in Passed (measureTrials (slots (now (a .pads)) (now (a .ports))) (byWeights (a .lw) (a .bw)) Unlent (now (a .list)))
+passed c = judged-sound _ _ (judged (c .before .before)) (c .enum-told .given .1)
+
+of-weights-requires : tie.Need-of-weights-requires
+of-weights-requires c κs = search needs
+
+of-measure-requires : tie.Need-of-measure-requires
+of-measure-requires c κs = search needs
+
+enum-told : tie.Need-enum-told
+enum-told c = search needs
+
+array-share-prefix-none : tie.Need-array-share-prefix-none
+array-share-prefix-none c = search needs
+
+slice-aggregate-total : tie.Need-slice-aggregate-total
+slice-aggregate-total c = search needs
+
+total-requires : tie.Need-total-requires
+total-requires c κs =
+    let a = c .before .before .before .before .before .before .before .before .args in
+    measurable (slots (now (a .pads)) (now (a .ports))) (byWeights (a .lw) (a .bw)) Unlent (now (a .list)) (passed (c .before))
+
+enum-known-v : tie.Need-enum-known-v
+enum-known-v c = search needs
+
+returns : tie.Need-returns
+returns c = (passed (c .before .before), c .total .ensures)
+
+returns-2 : tie.Need-returns-2
+returns-2 c = judged-refused _ _ _ (judged (c .before .before .before)) (c .before .v .given .1)
+
+pub measure-spec : {M : Type 1} → statement M
+measure-spec =
+    tie.close
+    (tie.spec
+    of-weights-requires
+    of-measure-requires
+    enum-told
+    array-share-prefix-none
+    slice-aggregate-total
+    total-requires
+    enum-known-v
+    returns
+    returns-2)

@@ -1,0 +1,69 @@
+-- Where a walk reads figures and totals, and that they are right there: the table for as many ports as pads, or, where there are no heads, the work list of slots.
+use mathlib.Core.Path.{_≡_}
+use mathlib.Core.Bool.{cond}
+use mathlib.Core.List.{List}
+use Prim.Native.Nat.{ℕ, _≤_, _<_}
+use lib.Dec.{eqb}
+use lib.ListN.{length, getD}
+use borrow.Author.Tests.{eq-eqb, ne-eqb}
+use Rattle.strips.specs.Least.{Least}
+use Rattle.strips.specs.Grid.{Grid}
+use Rattle.pads.specs.Pads.{sidesOf, Pads}
+use Rattle.totals.specs.Strip.{grid}
+use Rattle.totals.specs.Cell.{figures, gridOf}
+use Rattle.totals.specs.Cell as totals
+use Rattle.slots.specs.Slots.{Slots, figuresIn, slotGrid}
+use Rattle.slots.specs.Slots as slots
+
+pub record Source : Type 0 where
+  pub heads : List ℕ
+  pub totals : List ℕ
+  pub costs : List ℕ
+  pub ports : ℕ
+
+abbrev pub source : List ℕ → List ℕ → List ℕ → ℕ → Source
+source hs ts cs p = record { heads = hs; totals = ts; costs = cs; ports = p }
+
+-- The figures of n pads: those of the work list, or those of the table.
+abbrev pub figuresOn : Source → ℕ → ℕ → ℕ → Least
+figuresOn T n j q = cond (eqb (length (T .heads)) 0) (figuresIn (T .totals) n (T .ports) j q) (figures (T .costs) n j q)
+
+-- The board.
+abbrev pub gridOn : List ℕ → Source → List ℕ → List ℕ → Grid
+gridOn order T lo hi = grid (sidesOf lo hi) (figuresOn T (length order))
+
+-- At most 64 pads and 128 ports: the pads' numbers in order right to left, and each one's sides.
+pub record PadsOn (order lo hi : List ℕ) (p : ℕ) : Type 0 where
+  pub few : length order ≤ 64
+  pub ports : p ≤ 128
+  pub lows : length lo ≡ length order
+  pub highs : length hi ≡ length order
+  pub listed : (k : ℕ) → k < length order → getD order k 0 < length order
+  pub level : (j : ℕ) → getD lo j 0 ≤ getD hi j 0
+  pub top : (j : ℕ) → getD hi j 0 ≤ p
+
+-- What is read there is right.
+pub record Full (order : List ℕ) (T : Source) (lo hi : List ℕ) : Type 0 where
+  pub ports : T .ports ≡ length order
+  pub pads : Pads order lo hi
+  pub table : totals.Table order (T .costs) lo hi (T .heads) (T .totals)
+
+pub record Slotted (order : List ℕ) (T : Source) (lo hi : List ℕ) : Type 0 where
+  pub pads : Slots order lo hi (T .ports)
+  pub table : slots.Table order lo hi (T .ports) (T .totals)
+
+pub record Right (order : List ℕ) (T : Source) (lo hi : List ℕ) : Type 0 where
+  pub full : 0 < length (T .heads) → Full order T lo hi
+  pub slotted : length (T .heads) ≡ 0 → Slotted order T lo hi
+
+-- The board is that of the work list, or that of the table.
+module _ (order : List ℕ) (T : Source) (lo hi : List ℕ) where
+  pub slots-grid : length (T .heads) ≡ 0 → gridOn order T lo hi ≡ slotGrid order lo hi (T .ports) (T .totals)
+  slots-grid e =
+      λ i. grid (sidesOf lo hi) (λ j q. cond (eq-eqb (length (T .heads)) 0 e i) (figuresIn (T .totals) (length order) (T .ports) j q)
+      (figures (T .costs) (length order) j q))
+
+  pub full-grid : (length (T .heads) ≡ 0 → ⊥) → gridOn order T lo hi ≡ gridOf order (T .costs) lo hi
+  full-grid n =
+      λ i. grid (sidesOf lo hi) (λ j q. cond (ne-eqb (length (T .heads)) 0 n i) (figuresIn (T .totals) (length order) (T .ports) j q)
+      (figures (T .costs) (length order) j q))

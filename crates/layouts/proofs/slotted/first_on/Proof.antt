@@ -1,0 +1,43 @@
+-- `layouts::slotted::first_on` meets its contract. Assumes nothing.
+use mathlib.Core.Path.{refl}
+use Rattle.paper.specs.Job.{slots}
+use Rattle.paper.specs.Layouts.{byWeights}
+use Rattle.paper.specs.Problem.{labelingOf}
+use Rattle.layouts.proofs.Replied.{first-walked}
+use borrow.Author.Needs.{needs}
+use Rattle.layouts.proofs.slotted.first_on.Statement.{statement}
+use Rattle.layouts.proofs.slotted.first_on.Tie as tie
+
+array-borrow-prefix-page : tie.Need-array-borrow-prefix-page
+array-borrow-prefix-page c = search needs
+
+slice-aggregate-walk : tie.Need-slice-aggregate-walk
+slice-aggregate-walk c = search needs
+
+walk-requires : tie.Need-walk-requires
+walk-requires c κs = search needs
+
+same-length : tie.Need-same-length
+same-length c = search needs
+
+same-length-2 : tie.Need-same-length-2
+same-length-2 c = search needs
+
+returns : tie.Need-returns
+returns c =
+    let w = c .before .before .before .before .before in
+    let s = w .before .before .before .before .before .before .before .before in
+    let a = s .args in
+    first-walked (labelingOf (slots (a .job .now) (a .ports .now)) (byWeights (a .lw) (a .bw))) (s .pre .0 .0 .some) (a .layout .now) _ _ _ (w .walk .result) refl
+    (w .walk .ensures)
+
+pub first-on-spec : {M : Type 1} → statement M
+first-on-spec =
+    tie.close
+    (tie.spec
+    array-borrow-prefix-page
+    slice-aggregate-walk
+    walk-requires
+    same-length
+    same-length-2
+    returns)

@@ -1,0 +1,176 @@
+// First and Next on a job of the second form, by weights: the figures and the table of least totals stand in the work list that is lent.
+use crate::Step;
+use crate::step_of;
+use paper::Form;
+use walks::Start;
+use walks::Walked;
+ghost use Prim.Native.Nat.{_≤_};
+ghost use lib.ListN.{length};
+ghost use Rattle.paper.specs.Job.{slots, count};
+ghost use Rattle.paper.specs.Layouts.{boardOf, held, Untouching, byWeights, weighted};
+ghost use Rattle.paper.specs.Problem.{labelingOf};
+ghost use Rattle.paper.specs.Refusals.{workNeeded};
+ghost use Rattle.paper.specs.laws.Accepted.{AcceptedJob};
+ghost use Rattle.board.specs.Lists.{Lent};
+ghost use Rattle.walks.specs.Walks.{Walks};
+ghost use Rattle.layouts.specs.Replies.{rulesOf, StartOn, FirstOn, NextOn, Tabled};
+
+// The work lists, the figures and the table of least totals, with the least of all.
+fn fill(
+    job: &[u8],
+    ports: &[u8],
+    lw: u32,
+    bw: u32,
+    order: &mut [u8],
+    lo: &mut [u8],
+    hi: &mut [u8],
+    work: &mut [u64],
+) -> u64
+    requires { ⌜ AcceptedJob (slots (now job) (now ports)) × (lw ≤ 1000) × (bw ≤ 1000) × Lent (count (now job)) (now order) (now lo) (now hi) ⌝ }
+    requires { ⌜ workNeeded (boardOf (slots (now job) (now ports)) .pads) (boardOf (slots (now job) (now ports)) .ports) ≤ length (now work) ⌝ }
+    ensures { λ t. ⌜ Tabled (boardOf (slots (now (job .entry)) (now (ports .entry)))) (weighted (boardOf (slots (now (job .entry)) (now (ports .entry)))) lw bw)
+        (now (order .exit)) (now (lo .exit)) (now (hi .exit)) (now (work .exit)) t ⌝ }
+{
+    let n = order.len();
+    let p = job::ports(Form::Slots, ports) as usize;
+    board::prepare(Form::Slots, job, ports, order, lo, hi);
+    weights::fill_work(
+        Form::Slots,
+        job,
+        ports,
+        lw,
+        bw,
+        work,
+        slots::figures_at(n, p),
+    );
+    slots::fill(work, order, lo, hi, p)
+}
+
+// A walk, with lists lent for the work lists.
+fn walk_at(
+    start: Start,
+    job: &[u8],
+    ports: &[u8],
+    lw: u32,
+    bw: u32,
+    order: &mut [u8],
+    lo: &mut [u8],
+    hi: &mut [u8],
+    work: &mut [u64],
+    w: &mut [u16],
+    page: &mut [u16],
+) -> Walked
+    requires { ⌜ AcceptedJob (slots (now job) (now ports)) × (lw ≤ 1000) × (bw ≤ 1000) × Lent (count (now job)) (now order) (now lo) (now hi) ⌝ }
+    requires { ⌜ workNeeded (boardOf (slots (now job) (now ports)) .pads) (boardOf (slots (now job) (now ports)) .ports) ≤ length (now work) ⌝ }
+    requires { ⌜ StartOn start (boardOf (slots (now job) (now ports))) (now w) ⌝ }
+    ensures { λ r. ⌜ Walks (rulesOf (labelingOf (slots (now (job .entry)) (now (ports .entry))) (byWeights lw bw))) (count (now (job .entry))) start (now (w .entry))
+        (now (page .entry)) (now (w .exit)) (now (page .exit)) r ⌝ }
+{
+    let least = fill(job, ports, lw, bw, order, lo, hi, work);
+    let p = job::ports(Form::Slots, ports) as usize;
+    let heads = [0u8; 1];
+    let cost = [0u32; 1];
+    walks::walk(
+        start,
+        &heads[..0],
+        work,
+        order,
+        &cost[..0],
+        lo,
+        hi,
+        p,
+        w,
+        page,
+        least,
+    )
+}
+
+// A walk through the best layouts of a job.
+fn walk(
+    start: Start,
+    job: &[u8],
+    ports: &[u8],
+    lw: u32,
+    bw: u32,
+    work: &mut [u64],
+    w: &mut [u16],
+    page: &mut [u16],
+) -> Walked
+    requires { ⌜ AcceptedJob (slots (now job) (now ports)) × (lw ≤ 1000) × (bw ≤ 1000) ⌝ }
+    requires { ⌜ workNeeded (boardOf (slots (now job) (now ports)) .pads) (boardOf (slots (now job) (now ports)) .ports) ≤ length (now work) ⌝ }
+    requires { ⌜ StartOn start (boardOf (slots (now job) (now ports))) (now w) ⌝ }
+    ensures { λ r. ⌜ Walks (rulesOf (labelingOf (slots (now (job .entry)) (now (ports .entry))) (byWeights lw bw))) (count (now (job .entry))) start (now (w .entry))
+        (now (page .entry)) (now (w .exit)) (now (page .exit)) r ⌝ }
+{
+    let n = job.len() / 16;
+    let mut order = [0u8; 64];
+    let mut lo = [0u8; 64];
+    let mut hi = [0u8; 64];
+    walk_at(
+        start,
+        job,
+        ports,
+        lw,
+        bw,
+        &mut order[..n],
+        &mut lo[..n],
+        &mut hi[..n],
+        work,
+        w,
+        page,
+    )
+}
+
+// First: a walk from the earliest best layout, with room for none on its page.
+pub fn first_on(
+    job: &[u8],
+    ports: &[u8],
+    lw: u32,
+    bw: u32,
+    layout: &mut [u16],
+    work: &mut [u64],
+) -> u64
+    requires { ⌜ AcceptedJob (slots (now job) (now ports)) × (lw ≤ 1000) × (bw ≤ 1000) × (count (now job) ≤ length (now layout)) ⌝ }
+    requires { ⌜ workNeeded (boardOf (slots (now job) (now ports)) .pads) (boardOf (slots (now job) (now ports)) .ports) ≤ length (now work) ⌝ }
+    ensures { λ t. ⌜ FirstOn (labelingOf (slots (now (job .entry)) (now (ports .entry))) (byWeights lw bw)) (now (layout .entry)) (now (layout .exit)) t ⌝ }
+{
+    let mut page = [0u16; 1];
+    walk(
+        Start::First,
+        job,
+        ports,
+        lw,
+        bw,
+        work,
+        layout,
+        &mut page[..0],
+    ).total
+}
+
+// Next: a walk from an untouching layout, with room for one.
+pub fn next_on(
+    job: &[u8],
+    ports: &[u8],
+    lw: u32,
+    bw: u32,
+    layout: &mut [u16],
+    work: &mut [u64],
+) -> Step
+    requires { ⌜ AcceptedJob (slots (now job) (now ports)) × (lw ≤ 1000) × (bw ≤ 1000) × (count (now job) ≤ length (now layout)) ⌝ }
+    requires { ⌜ workNeeded (boardOf (slots (now job) (now ports)) .pads) (boardOf (slots (now job) (now ports)) .ports) ≤ length (now work) ⌝ }
+    requires { ⌜ Untouching (boardOf (slots (now job) (now ports))) (held (now layout)) ⌝ }
+    ensures { λ r. ⌜ NextOn (labelingOf (slots (now (job .entry)) (now (ports .entry))) (byWeights lw bw)) (now (layout .entry)) (now (layout .exit)) r ⌝ }
+{
+    let n = job.len() / 16;
+    let mut page = [0u16; 64];
+    step_of(walk(
+        Start::Given,
+        job,
+        ports,
+        lw,
+        bw,
+        work,
+        layout,
+        &mut page[..n],
+    ))
+}
