@@ -30,8 +30,8 @@ program = target/bin/sheet
 soname = libcheremysl.so.$(firstword $(subst ., ,$(VERSION)))
 shared = build/libcheremysl.so.$(VERSION)
 commands = $(patsubst programs/%.c,build/%,$(wildcard programs/*.c))
-programs = build/sheets build/audit build/antenna build/cheremysl-draw
-samples = $(wildcard examples/*.job examples/*.txt examples/*.layout)
+programs = build/sheets build/audit build/antenna build/slots build/cheremysl-draw
+samples = $(wildcard examples/*.job examples/*.pads examples/*.ports examples/*.txt examples/*.layout)
 sources := crates.txt $(shell find crates -name '*.rt' -o -name '*.antt')
 
 all: $(archive) $(program) $(shared) $(commands)
@@ -75,6 +75,7 @@ pictures: build/cheremysl-draw
 	build/cheremysl-draw examples/level.job 1 0 >docs/level.svg
 	build/cheremysl-draw --area 450,215,725,385 examples/antenna.job >docs/antenna-plain.svg
 	build/cheremysl-draw --area 450,215,725,385 examples/antenna.job $$(cat examples/antenna.layout) >docs/antenna.svg
+	build/cheremysl-draw --slots examples/row.ports examples/sensor.pads >docs/slots.svg
 	build/cheremysl-draw examples/sequencer.job >docs/board-24.svg
 	build/cheremysl-draw examples/strip.job >docs/board-40.svg
 	build/cheremysl-draw examples/matrix.job >docs/board-64.svg

@@ -47,7 +47,7 @@ static uint32_t figure(const struct given_sheet *s, const struct area *a, size_t
 }
 
 int main(int argc, char **argv) {
-    struct given_sheet s = {{0}, 0, {0}, 0};
+    struct given_sheet s = {.entries = 0};
     uint32_t table[CHEREMYSL_MAX_FIGURES];
     if (argc != 3) end_without_area(argv[0]);
     struct area area = read_area(argv[0], argv[2]);

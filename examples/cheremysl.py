@@ -1,5 +1,6 @@
 #!/usr/bin/env python3
 """cheremysl.py JOB: every best sheet of a job file, its total and then the port number of each pad
+cheremysl.py PADS PORTS: the same of a file of pads and one of port heights, a strip of slots
 
 The status is 0 for sheets, 1 for a refused job, 2 for any other failure.
 
@@ -10,11 +11,14 @@ As a module, the calls of the shared library for Python:
     total, ports = library.first(job)
     for total, ports in library.sheets(job, length_weight=1, bend_weight=0): ...
     total, ports = library.table_first(job, [7, 0, 0, 7])  # the figure of each pad with each port
+    pads, strip = pads_of([(101, 10, 15), (102, 20, 15)]), ports_of(range(0, 320, 10))
+    total, ports = library.slots_first(pads, strip)  # 32 slots, of which 30 stay free
 
-A job is bytes, a layout any sequence of port numbers, a table any sequence of figures, pad by pad,
-ports rising; all are only read. What C's list would hold afterwards is returned. A refusal is an
-exception, Refusal; the end is None. A number that does not fit C's type is an OverflowError. The
-manual is cheremysl(3).
+Jobs, pads and strips are bytes, a layout is any sequence of port numbers, a table any sequence of
+figures, pad by pad, ports rising; all are only read. What C's list would hold afterwards is
+returned. A refusal is an exception, Refusal; the end is None. A number that does not fit C's type
+is an OverflowError. The slots calls make their work list, or take one of work_of, for a run of
+calls. The manual is cheremysl(3).
 """
 import array
 import ctypes
@@ -24,30 +28,35 @@ import struct
 import sys
 
 RECORD = struct.Struct("<HHIii")  # name, reserved, x, y, port height: 16 bytes, little-endian
+HEIGHT = struct.Struct("<i")  # of a port that stands apart
 MAX_RECORDS = 64
+MAX_SLOTS = 128
 DRAW_FLOATS = 6
 PAGE_SHEETS = 20  # fetched at once
 END = -1
 
 TEXTS = {  # as cheremysl_refusal_text of the C header has them
-    1: "The job is not 1 to 64 records of 16 bytes.",
+    1: "The job is not 1 to 64 records of 16 bytes, or its list of ports, if it has one, "
+    "not 1 to 128 heights of 4 bytes.",
     2: "A weight is above 1,000.",
-    3: "The list of ports, or of points, is too short.",
-    4: "A number of this record is outside its range.",
-    5: "The port of this record is not above the port of the record before.",
+    3: "The list of the layout, or of the points, is too short.",
+    4: "A number of this record, or the height of this port, is outside its range.",
+    5: "This port is not above the port before it.",
     6: "The name of this record stands in an earlier record too.",
     7: "The x of this record stands in an earlier record too.",
     8: "The port given to this record is not there, or an earlier record has it.",
     9: "The leader of this record touches the leader of an earlier record.",
     10: "No two leaders touch, but another sheet has a smaller total.",
     11: "There is no pad, or no port, of the number given.",
-    12: "The port of this record is less than 8 above the port of the record before.",
+    12: "This port is less than 8 above the port before it.",
     13: "The table does not have just one figure for each pad with each port.",
+    14: "There are fewer ports than pads.",
+    24: "The work list is too short for so many pads and ports.",
 }
 
 
 class Refusal(Exception):
-    """A call's refusal: its number, the record at fault, in refusal 9 the earlier one, else None."""
+    """A refusal: its number, the record or port at fault, in refusal 9 the earlier one, else None."""
 
     def __init__(self, number, record, earlier=None):
         super().__init__(number, record, earlier)
@@ -64,9 +73,25 @@ def job_of(records):
     return b"".join(RECORD.pack(name, 0, x, y, port) for name, x, y, port in records)
 
 
+def pads_of(pads):
+    """The bytes of the pads for a strip of slots, from a name, x and y for each."""
+    return job_of((name, x, y, 0) for name, x, y in pads)
+
+
+def ports_of(heights):
+    """The bytes of a strip of slots, from its port heights."""
+    return b"".join(HEIGHT.pack(height) for height in heights)
+
+
 def records_in(job):
     """n, the number of a job's records."""
     return len(job) // RECORD.size
+
+
+def work_of(pads, ports):
+    """A work list for the slots calls with so many pads and ports, or fewer."""
+    n, p = min(records_in(pads), MAX_RECORDS), min(len(ports) // HEIGHT.size, MAX_SLOTS)
+    return (ctypes.c_uint64 * (2 * (n + 1) * (p + 2) ** 2))()
 
 
 def taken_apart(answer):
@@ -89,12 +114,21 @@ def lent(kind, values):
     return (kind * count).from_buffer(values) if count else (kind * 0)(), count
 
 
+def bytes_of(job):
+    return lent(ctypes.c_uint8, bytearray(memoryview(job)))
+
+
 def layout_of(ports):
     return lent(ctypes.c_uint16, array.array("H", ports))
 
 
 def table_of(figures):
     return lent(ctypes.c_uint32, array.array("I", figures))
+
+
+def found(total, layout, job):
+    """What a call answered and wrote: a sheet, or None at the end."""
+    return None if total == END else (total, layout[: records_in(job)])
 
 
 class Cheremysl:
@@ -104,8 +138,9 @@ class Cheremysl:
         path = path or os.environ.get("CHEREMYSL_LIBRARY") or "libcheremysl.so.1"
         library = ctypes.CDLL(path)
         byte, port, figure = ctypes.c_uint8, ctypes.c_uint16, ctypes.c_uint32
-        job, layout, table, points = (
-            [ctypes.POINTER(kind), ctypes.c_size_t] for kind in (byte, port, figure, ctypes.c_float)
+        job, layout, table, points, work = (
+            [ctypes.POINTER(kind), ctypes.c_size_t]
+            for kind in (byte, port, figure, ctypes.c_float, ctypes.c_uint64)
         )
         numbers = [ctypes.c_uint32, ctypes.c_uint32]
 
@@ -121,25 +156,31 @@ class Cheremysl:
         self._table_first = call("table_first", *table, *layout)
         self._table_next = call("table_next", *table, *layout)
         self._table_measure = call("table_measure", *table, *layout)
+        self._slots_first = call("slots_first", *job, *numbers, *layout, *work)
+        self._slots_next = call("slots_next", *job, *numbers, *layout, *work)
+        self._slots_measure = call("slots_measure", *job, *numbers, *layout)
 
     @staticmethod
     def _ask_lists(call, job, *words):
-        return taken_apart(call(*lent(ctypes.c_uint8, bytearray(memoryview(job))), *words))
+        return taken_apart(call(*bytes_of(job), *words))
 
     def _ask(self, call, job, a, b, *lists):
         return self._ask_lists(call, job, word(a), word(b), *lists)
+
+    def _ask_slots(self, call, pads, ports, weights, *lists):
+        return self._ask_lists(call, pads, *bytes_of(ports), *map(word, weights), *lists)
 
     def first(self, job, length_weight=1, bend_weight=0):
         """The earliest best sheet: its total, and the list of its port numbers."""
         layout, entries = layout_of([0] * MAX_RECORDS)
         total = self._ask(self._first, job, length_weight, bend_weight, layout, entries)
-        return total, layout[: records_in(job)]
+        return found(total, layout, job)
 
     def next_(self, job, layout, length_weight=1, bend_weight=0):
         """The best sheet after a given one, as from first; None at the end."""
         layout, entries = layout_of(layout)
         total = self._ask(self._next, job, length_weight, bend_weight, layout, entries)
-        return None if total == END else (total, layout[: records_in(job)])
+        return found(total, layout, job)
 
     def page(self, job, layout, sheets, length_weight=1, bend_weight=0):
         """The best sheets after a given one, so many at most: a list of lists of port numbers."""
@@ -163,17 +204,46 @@ class Cheremysl:
         """The earliest best sheet by a table, as from first; the total is that of its figures."""
         layout, entries = layout_of([0] * MAX_RECORDS)
         total = self._ask_lists(self._table_first, job, *table_of(table), layout, entries)
-        return total, layout[: records_in(job)]
+        return found(total, layout, job)
 
     def table_next(self, job, table, layout):
         """The best sheet by a table after a given one, as from table_first; None at the end."""
         layout, entries = layout_of(layout)
         total = self._ask_lists(self._table_next, job, *table_of(table), layout, entries)
-        return None if total == END else (total, layout[: records_in(job)])
+        return found(total, layout, job)
 
     def table_measure(self, job, table, layout):
         """The total by a table of a sheet without touching leaders, best or not."""
         return self._ask_lists(self._table_measure, job, *table_of(table), *layout_of(layout))
+
+    def _search_slots(self, call, pads, ports, layout, weights, work):
+        layout, entries = layout_of(layout)
+        work = work_of(pads, ports) if work is None else work
+        total = self._ask_slots(call, pads, ports, weights, layout, entries, work, len(work))
+        return found(total, layout, pads)
+
+    def slots_first(self, pads, ports, length_weight=1, bend_weight=0, work=None):
+        """The earliest best sheet on a strip of slots, as from first."""
+        layout, weights = [0] * MAX_RECORDS, (length_weight, bend_weight)
+        return self._search_slots(self._slots_first, pads, ports, layout, weights, work)
+
+    def slots_next(self, pads, ports, layout, length_weight=1, bend_weight=0, work=None):
+        """The best sheet on a strip of slots after a given one, as from first; None at the end."""
+        weights = length_weight, bend_weight
+        return self._search_slots(self._slots_next, pads, ports, layout, weights, work)
+
+    def slots_measure(self, pads, ports, layout, length_weight=1, bend_weight=0):
+        """The total on a strip of slots of a sheet without touching leaders, best or not."""
+        weights = length_weight, bend_weight
+        return self._ask_slots(self._slots_measure, pads, ports, weights, *layout_of(layout))
+
+    def slots_sheets(self, pads, ports, length_weight=1, bend_weight=0):
+        """Every best sheet on a strip of slots, in order, each as from first."""
+        weights, work = (length_weight, bend_weight), work_of(pads, ports)
+        sheet = self.slots_first(pads, ports, *weights, work)
+        while sheet:
+            yield sheet
+            sheet = self.slots_next(pads, ports, sheet[1], *weights, work)
 
     def sheets(self, job, length_weight=1, bend_weight=0):
         """Every best sheet, in order, each as from first; they are fetched page by page."""
@@ -185,9 +255,16 @@ class Cheremysl:
             yield from ((total, layout) for layout in page)
 
 
-def list_sheets(job):
+def read(name, most):
+    with open(name, "rb") as file:
+        return file.read(most + 1)  # a byte more: a longer file is refused
+
+
+def list_sheets(*files):
+    library = Cheremysl()
+    sheets = library.sheets if len(files) == 1 else library.slots_sheets
     try:
-        for total, ports in Cheremysl().sheets(job):
+        for total, ports in sheets(*files):
             print(f"total {total}:", *ports)
     except Refusal as refusal:
         print(refusal)
@@ -197,11 +274,10 @@ def list_sheets(job):
 
 def main(words):
     try:
-        if len(words) != 1:
-            raise OSError("usage: cheremysl.py JOB")
-        with open(words[0], "rb") as file:
-            job = file.read(MAX_RECORDS * RECORD.size + 1)  # a byte more: a longer file is refused
-        status = list_sheets(job)
+        if len(words) not in (1, 2):
+            raise OSError("usage: cheremysl.py JOB, or cheremysl.py PADS PORTS")
+        most = MAX_RECORDS * RECORD.size, MAX_SLOTS * HEIGHT.size
+        status = list_sheets(*map(read, words, most))
         sys.stdout.flush()
         return status
     except OSError as fault:

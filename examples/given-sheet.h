@@ -11,6 +11,9 @@
 struct given_sheet {
     uint8_t job[CHEREMYSL_MAX_JOB_BYTES + 1]; /* a byte more: a longer file is refused too */
     size_t job_bytes;
+    int slots; /* the job's ports stand apart: it is of the second form */
+    uint8_t ports[CHEREMYSL_MAX_PORT_BYTES + 1];
+    size_t port_bytes;
     uint16_t layout[CHEREMYSL_MAX_RECORDS + 1]; /* an entry more: a longer list is seen to be one */
     size_t entries;
 };
@@ -20,13 +23,25 @@ static inline void end_unread(const char *program, const char *what, const char 
     exit(2);
 }
 
-/* Reads the job file, '-' for standard input; if it cannot the program ends with 2. */
-static inline void read_given_job(struct given_sheet *s, const char *program, const char *name) {
+/* The bytes of a file, '-' for standard input; if it cannot be read the program ends with 2. */
+static inline size_t read_given_file(const char *program, const char *name, uint8_t *to,
+                                     size_t room) {
     FILE *file = strcmp(name, "-") == 0 ? stdin : fopen(name, "rb");
     if (file == NULL) end_unread(program, "open", name);
-    s->job_bytes = fread(s->job, 1, sizeof s->job, file);
+    size_t bytes = fread(to, 1, room, file);
     if (ferror(file)) end_unread(program, "read", name);
-    fclose(file);
+    if (file != stdin) fclose(file); /* a second file may be '-' too, and is empty then */
+    return bytes;
+}
+
+static inline void read_given_job(struct given_sheet *s, const char *program, const char *name) {
+    s->job_bytes = read_given_file(program, name, s->job, sizeof s->job);
+}
+
+/* The port heights of a strip of slots; the job has the pads then. */
+static inline void read_given_ports(struct given_sheet *s, const char *program, const char *name) {
+    s->port_bytes = read_given_file(program, name, s->ports, sizeof s->ports);
+    s->slots = 1;
 }
 
 /* A port's number; one too large for an entry stays too large for any job. */
@@ -42,7 +57,7 @@ static inline uint16_t read_given_port(const char *program, const char *word) {
 
 /* Takes the words 'PROGRAM JOB PORT..'; without a file and numbers the program ends with 2. */
 static inline struct given_sheet read_given_sheet(int argc, char **argv) {
-    struct given_sheet s = {{0}, 0, {0}, 0};
+    struct given_sheet s = {.entries = 0};
     if (argc < 2) {
         fprintf(stderr, "usage: %s JOB PORT..: a job file, and each pad's port number\n", argv[0]);
         exit(2);

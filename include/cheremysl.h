@@ -4,9 +4,9 @@
  * WHAT IT IS FOR
  *
  * Pads lie to the right of a vertical line, the label edge, at x = 0. Ports are fixed heights
- * on that line, one for each label, as many as there are pads. A leader joins a pad to a port:
- * from the pad straight up or down to the port's height (the hand), then straight to the edge
- * (the arm).
+ * on that line, one for each label: as many as there are pads, or in the slots calls as many or
+ * more. A leader joins a pad to a port: from the pad straight up or down to the port's height (the
+ * hand), then straight to the edge (the arm).
  *
  *      y
  *     30 |                 o 103         cheremysl_first     the earliest best sheet of a board
@@ -19,13 +19,18 @@
  *        +-----+-----+-----+--> x        cheremysl_table_next      caller's own figure for each
  *        0    10    20    30             cheremysl_table_measure   pad with each port
  *
+ *                                        cheremysl_slots_first     First, Next and Measure on a
+ *                                        cheremysl_slots_next      strip of slots: ports may be
+ *                                        cheremysl_slots_measure   more than pads, and stay free
+ *
  * Best: no two leaders share a point, and no such sheet has a smaller total. The total is that of
  * lengths and bends, each times a weight that the caller chooses; in the table calls it is that of
  * the caller's own figures.
  *
  * First and then Next until the end list every best sheet once and nothing else, and so do
- * TableFirst and TableNext; Page does the work of several calls of Next. Every accepted job has a
- * best sheet. Answers and lists are proved to be what this header says, for every input.
+ * TableFirst and TableNext, and SlotsFirst and SlotsNext; Page does the work of several calls of
+ * Next. Every accepted job has a best sheet. Answers and lists are proved to be what this header
+ * says, for every input.
  *
  * A MINUTE'S USE
  *
@@ -40,7 +45,7 @@
  *      }
  *
  * The example sheets.c takes them page by page; antenna.c makes a table that keeps leaders off an
- * area of the board.
+ * area of the board; slots.c lays a board out on a strip of slots.
  *
  * THE JOB
  *
@@ -61,6 +66,33 @@
  *
  * Below, n is the number of records, job_bytes / 16.
  *
+ * THE STRIP OF SLOTS
+ *
+ * A printed strip has a fixed row of slots for labels, and a small board uses only some of them. So
+ * the slots calls take the job in a second form, which is two strings of bytes:
+ *
+ *      pads    1 to 64 records of 16 bytes as above, whose last field, at offset 12, is 0
+ *      ports   1 to 128 port heights of 4 bytes, two's complement, -1,000,000 to 1,000,000, no
+ *              header; they rise by at least 8, and the place in the list, counted from 0, is the
+ *              port's number
+ *
+ * Here n is the number of pads, pad_bytes / 16, and p the number of ports, port_bytes / 4, at least
+ * n. A port that no pad is led to stays free. One list of ports serves all boards that use a strip.
+ *
+ * SlotsFirst and SlotsNext are lent a work list as well, of 2(n + 1)(p + 2)(p + 2) 64-bit numbers
+ * or more: CHEREMYSL_SLOTS_WORK(n, p), which for the largest job is 2,197,000, some 17.6 million
+ * bytes. What it holds on entry changes no answer: it need not be filled, and one list will do for
+ * any number of calls, one after the other. What it holds after them is of no use.
+ *
+ * These calls are by weights. Page, Draw and the table calls take jobs of the first form. A pad
+ * with its port's height in its last field is such a job, of one record: Draw gives its leader's
+ * points, and Measure with the layout {0} its length, or its bends.
+ *
+ *      uint8_t one[CHEREMYSL_RECORD_BYTES];
+ *      memcpy(one, pads + 16 * i, 12);
+ *      memcpy(one + 12, ports + 4 * layout[i], 4);
+ *      answer = cheremysl_draw(one, sizeof one, 0, 0, points, CHEREMYSL_DRAW_FLOATS);
+ *
  * THE TABLE
  *
  * The table calls are lent a table where the others take weights: n * n unsigned 32-bit figures,
@@ -80,7 +112,8 @@
  * SHEETS
  *
  * A layout is a list of n 16-bit entries: entry i is the port number, 0 to n - 1, of the pad of
- * record i, and each port number stands once.
+ * record i, and each port number stands once. In the slots calls it is 0 to p - 1, and no port
+ * number stands twice.
  *
  * The leader of a pad (x, y) to a port of height q has a hand on the vertical line at x, from y
  * to q, and an arm at height q, from x to 0; both include their ends. Its length is x plus the
@@ -106,11 +139,12 @@
  *
  * Each call answers one signed 64-bit number:
  *
- *      0 or more           the total (First, Next, Measure; at most CHEREMYSL_MAX_TOTAL, and in
- *                          the table calls at most CHEREMYSL_MAX_TABLE_TOTAL), the number of
- *                          layouts written (Page), or of points, 2 or 3 (Draw)
- *      -1                  the end (Next and TableNext only): no best layout comes after the
- *                          given one
+ *      0 or more           the total (First, Next, Measure and the slots calls; at most
+ *                          CHEREMYSL_MAX_TOTAL, and in the table calls at most
+ *                          CHEREMYSL_MAX_TABLE_TOTAL), the number of layouts written (Page), or
+ *                          of points, 2 or 3 (Draw)
+ *      -1                  the end (Next, TableNext and SlotsNext only): no best layout comes
+ *                          after the given one
  *      -(4294967296 * j + 65536 * r + i)
  *                          refusal number r with record number i and, in refusal 9 alone, the
  *                          earlier record j; in every other refusal j is 0
@@ -122,7 +156,8 @@
  * REFUSALS
  *
  *      no.  given when                                                       record number
- *       1   job_bytes is 0, not a multiple of 16, or above 1,024             0
+ *       1   job_bytes or pad_bytes is 0, not a multiple of 16, or above      0
+ *           1,024; port_bytes is 0, not a multiple of 4, or above 512
  *       2   a weight is above 1,000                                          0
  *       3   the layout list has fewer than n entries, or Draw's list         0
  *           fewer than six floats (for a straight leader too); Page's
@@ -131,13 +166,16 @@
  *       5   a port height is not above the one before                        first such record
  *       6   a name other than 0 stood in an earlier record                   first such record
  *       7   an x stood in an earlier record                                  first such record
- *       8   a given entry is n or more, or stood earlier                     first such record
+ *       8   a given entry is n or more, in the slots calls p or more, or     first such record
+ *           stood earlier
  *       9   a leader touches that of an earlier record                       first such record,
  *                                                                            and the earlier one
  *      10   the given layout has no touching pair but is not best            0
  *      11   Draw's record number or port number is n or more                 0
  *      12   a port height is less than 8 above the one before                first such record
  *      13   the table has fewer or more than n * n figures                   0
+ *      14   there are fewer ports than pads                                  0
+ *      24   the work list has fewer than 2(n + 1)(p + 2)(p + 2) numbers      0
  *
  * Each call checks for these, in this order, each over the whole job before the next:
  *
@@ -149,10 +187,17 @@
  *      TableFirst     1, 13, 3, 4, 5, 12, 6, 7
  *      TableNext      1, 13, 3, 4, 5, 12, 6, 7, 8, 9, 10
  *      TableMeasure   1, 13, 3, 4, 5, 12, 6, 7, 8, 9
+ *      SlotsFirst     1, 2, 3, 14, 24, 4, 5, 12, 6, 7
+ *      SlotsNext      1, 2, 3, 14, 24, 4, 5, 12, 6, 7, 8, 9, 10
+ *      SlotsMeasure   1, 2, 3, 14, 4, 5, 12, 6, 7, 8, 9
  *
  * An input that deserves several refusals gets the one that stands first, with the first record
  * at fault for it: a port that is not above the one before gets 5, not 12. No refusal is given in
  * any other case.
+ *
+ * In the slots calls 1 and 4 are checked over the pads and then over the ports. 5 and 12 name the
+ * port's number there, and so does 4 for a port: it speaks of a port exactly if SlotsMeasure, given
+ * as many ports without a fault in their place, does not give it.
  *
  * Refusal 9 names both leaders, in every call that gives it: record i is the smallest that touches
  * an earlier one, and j the smallest earlier one that it touches. Record 0 is a record, so ask for
@@ -161,44 +206,54 @@
  * WHO OWNS WHAT, AND WHAT STAYS UNCHANGED
  *
  * All memory is the caller's, and the library keeps no pointer after a call. Every list is lent
- * as a pointer and the number of its elements (bytes of a job, figures of a table, entries of a
- * layout or of a page, floats); all of them must be there. NULL with 0 is an empty list; NULL with
- * another number is not allowed. A job may stand at any address; a table is aligned as uint32_t
- * always is, layouts and pages as uint16_t, floats as float. A list that a call writes must not
- * overlap the job or the table, nor Page's page the layout: to go on from the last layout of a
- * page, copy it out first.
+ * as a pointer and the number of its elements (bytes of a job, of pads or of ports, figures of a
+ * table, entries of a layout or of a page, floats, numbers of a work list); all of them must be
+ * there. NULL with 0 is an empty list; NULL with another number is not allowed. Job, pads and ports
+ * may stand at any address; a table is aligned as uint32_t always is, layouts and pages as
+ * uint16_t, floats as float, a work list as uint64_t. A list that a call writes must not overlap
+ * another that it is lent: to go on from the last layout of a page, copy it out first.
  *
- *      the job, the table            never written
- *      the layout of Page, Measure   never written
- *      and TableMeasure
- *      after a refusal, or the end   nothing was written: every lent list is as it was
- *      First, Next, TableFirst and   entries 0 to n - 1 are replaced, those from n on unchanged
- *      TableNext with a total
+ *      the job, pads and ports,      never written
+ *      the table
+ *      the layout of Page, Measure,  never written
+ *      TableMeasure, SlotsMeasure
+ *      after a refusal, or the end   nothing was written: every lent list is as it was, but for
+ *                                    the work list after the end or refusal 10
+ *      each First and Next with a    entries 0 to n - 1 are replaced, those from n on unchanged
+ *      total
+ *      SlotsFirst and SlotsNext      the whole work list may have been written, with anything
+ *      with a total, the end or
+ *      refusal 10
  *      Page with k layouts           the page's entries 0 to k * n - 1 are replaced, those from
  *                                    k * n on unchanged
  *      Draw with 2 or 3 points       the first 4 or 6 floats are replaced, those after unchanged
  *
- * Reply and lists depend on the arguments and on what the lists hold, and on nothing else.
+ * Reply and lists depend on the arguments and on what the lists hold, and on nothing else; what a
+ * work list holds on entry makes no difference, and what it holds after a total, the end or refusal
+ * 10 is left open.
  *
  * THREADS AND MEMORY
  *
  * The calls keep no state: no static variables, no heap, no locks, no files, no errno. Any
  * number of threads may call at once, on one job and one table too, as long as no list that one of
- * them writes is used by another meanwhile. The calls raise no floating-point exception and leave
- * modes and flags as they were, whatever the caller's registers hold; rounding mode and treatment
- * of denormals make no difference to them.
+ * them writes, a work list included, is used by another meanwhile. The calls raise no
+ * floating-point exception and leave modes and flags as they were, whatever the caller's registers
+ * hold; rounding mode and treatment of denormals make no difference to them.
  *
- * Working memory is on the stack: at most 64 KiB in any call (CHEREMYSL_STACK_BYTES). As built, a
- * call takes so many bytes at most, whatever it is given, from its return address on:
+ * Working memory is on the stack, and in the slots calls in the work list: at most 64 KiB of stack
+ * in any call (CHEREMYSL_STACK_BYTES). As built, a call takes so many bytes of it at most, whatever
+ * it is given, from its return address on:
  *
- *      First 37,440   Next 37,584   Page 37,584   Measure 224   Draw 40
- *      TableFirst 20,992   TableNext 21,136   TableMeasure 208
+ *      First 38,480   Next 38,656   Page 38,672   Measure 424   Draw 136
+ *      TableFirst 22,032   TableNext 22,208   TableMeasure 408
+ *      SlotsFirst 3,328   SlotsNext 3,472   SlotsMeasure 456
  *
  * tests/stack.c measures it at 64 records, and fails if a call takes 48 bytes more.
  *
  * First and Next take time that grows with n cubed, Measure with n squared, and each table call as
  * its namesake. What grows with n cubed is the finding of least totals, for every run of ports.
- * Page does as Next does, and finds them once for the whole page.
+ * Page does as Next does, and finds them once for the whole page. SlotsFirst and SlotsNext take
+ * time that grows with n times p cubed, SlotsMeasure as Measure and with p.
  *
  * COMPILERS AND PLATFORMS
  *
@@ -239,14 +294,14 @@
 /* ---- version ----------------------------------------------------------------------------- */
 
 #define CHEREMYSL_VERSION_MAJOR 1
-#define CHEREMYSL_VERSION_MINOR 2
+#define CHEREMYSL_VERSION_MINOR 3
 #define CHEREMYSL_VERSION_PATCH 0
 
-/* A number to compare, in #if too: 1002000 for 1.2.0. */
+/* A number to compare, in #if too: 1003000 for 1.3.0. */
 #define CHEREMYSL_VERSION_NUMBER \
     (1000000 * CHEREMYSL_VERSION_MAJOR + 1000 * CHEREMYSL_VERSION_MINOR + CHEREMYSL_VERSION_PATCH)
 
-/* A string: "1.2.0". */
+/* A string: "1.3.0". */
 #define CHEREMYSL_VERSION_TEXT \
     CHEREMYSL_JOIN(CHEREMYSL_VERSION_MAJOR, CHEREMYSL_VERSION_MINOR, CHEREMYSL_VERSION_PATCH)
 #define CHEREMYSL_JOIN(major, minor, patch) CHEREMYSL_JOIN_WORDS(major, minor, patch)
@@ -309,6 +364,10 @@ extern "C" {
 #define CHEREMYSL_MAX_RECORDS 64               /* records of a job, so also entries of a layout */
 #define CHEREMYSL_MAX_JOB_BYTES 1024           /* bytes of a job */
 #define CHEREMYSL_MAX_FIGURES 4096             /* figures of a table, for the largest job */
+#define CHEREMYSL_PORT_BYTES 4                 /* bytes of a height in a list of ports */
+#define CHEREMYSL_MAX_SLOTS 128                /* heights of a list of ports */
+#define CHEREMYSL_MAX_PORT_BYTES 512           /* bytes of a list of ports */
+#define CHEREMYSL_MAX_SLOTS_WORK 2197000       /* numbers of a work list, for the largest job */
 #define CHEREMYSL_MAX_WEIGHT 1000              /* a weight; the smallest is 0 */
 #define CHEREMYSL_MAX_X 1000000                /* a pad's x; the smallest is 1 */
 #define CHEREMYSL_MAX_HEIGHT 1000000           /* a pad's y or a port height, up or down */
@@ -318,24 +377,32 @@ extern "C" {
 #define CHEREMYSL_DRAW_FLOATS 6                /* floats that Draw must be lent */
 #define CHEREMYSL_STACK_BYTES 65536            /* no call needs more stack */
 
+/*
+ * Numbers of the work list that SlotsFirst and SlotsNext must be lent for n pads and p ports, as a
+ * constant where n and p are: 2(n + 1)(p + 2)(p + 2). p is taken twice.
+ */
+#define CHEREMYSL_SLOTS_WORK(n, p) (UINT64_C(2) * ((n) + 1) * ((p) + 2) * ((p) + 2))
+
 /* ---- numbers in answers ------------------------------------------------------------------ */
 
 #define CHEREMYSL_END (-1)
 
 enum cheremysl_refusal {
-    CHEREMYSL_BAD_SIZE = 1,        /* job_bytes is 0, not a multiple of 16, or above 1,024 */
+    CHEREMYSL_BAD_SIZE = 1,        /* a number of bytes that job, pads or ports cannot have */
     CHEREMYSL_BAD_WEIGHT = 2,      /* a weight is above 1,000 */
     CHEREMYSL_NO_ROOM = 3,         /* a layout of fewer than n entries, fewer than six floats */
     CHEREMYSL_BAD_FIELD = 4,       /* a field is outside its range */
     CHEREMYSL_PORT_NOT_ABOVE = 5,  /* a port height is not above the one before */
     CHEREMYSL_NAME_TWICE = 6,      /* a name other than 0 stood in an earlier record */
     CHEREMYSL_X_TWICE = 7,         /* an x stood in an earlier record */
-    CHEREMYSL_BAD_ENTRY = 8,       /* a given entry is n or more, or stood earlier */
+    CHEREMYSL_BAD_ENTRY = 8,       /* a given entry is no port's number, or stood earlier */
     CHEREMYSL_TOUCHING = 9,        /* a leader touches that of an earlier record */
     CHEREMYSL_NOT_BEST = 10,       /* the given layout has no touching pair but is not best */
     CHEREMYSL_BAD_NUMBER = 11,     /* Draw's record or port number is n or more */
     CHEREMYSL_PORT_TOO_CLOSE = 12, /* a port height is less than 8 above the one before */
-    CHEREMYSL_BAD_TABLE = 13       /* a table of fewer or more than n * n figures */
+    CHEREMYSL_BAD_TABLE = 13,      /* a table of fewer or more than n * n figures */
+    CHEREMYSL_TOO_FEW_PORTS = 14,  /* fewer ports than pads */
+    CHEREMYSL_NO_WORK_ROOM = 24    /* a work list of fewer than 2(n + 1)(p + 2)(p + 2) numbers */
 };
 
 /* ---- the calls --------------------------------------------------------------------------- */
@@ -494,6 +561,70 @@ int64_t cheremysl_table_measure(const uint8_t *job, size_t job_bytes, const uint
                                 size_t figures, const uint16_t *layout, size_t entries)
     CHEREMYSL_CALL CHEREMYSL_READS(1, 2) CHEREMYSL_READS(3, 4) CHEREMYSL_READS(5, 6);
 
+/*
+ * SlotsFirst: the earliest best layout on a strip of slots. As First, with a job of the second form
+ * and a work list.
+ *
+ *      pads, pad_bytes    the pads' records, n of them, last field 0; only read
+ *      ports, port_bytes  the port heights, p of them, n or more; only read
+ *      length_weight      0 to 1,000, times the sum of the lengths
+ *      bend_weight        0 to 1,000, times the sum of the bends
+ *      layout, entries    a lent list of at least n entries, to be filled; what it holds on entry
+ *                         makes no difference
+ *      work, numbers      a lent list of at least CHEREMYSL_SLOTS_WORK(n, p) numbers; what it holds
+ *                         on entry makes no difference; it must overlap no other list
+ *
+ * Answers the layout's total; entries 0 to n - 1 hold the layout, port numbers 0 to p - 1, and
+ * those from n on are unchanged; what the work list then holds is left open. Or refuses with 1 to
+ * 3, 14, 24, 4, 5, 12, 6 or 7, checked in this order, and writes nothing, to the work list neither.
+ * Never answers the end.
+ */
+int64_t cheremysl_slots_first(const uint8_t *pads, size_t pad_bytes, const uint8_t *ports,
+                              size_t port_bytes, uint32_t length_weight, uint32_t bend_weight,
+                              uint16_t *layout, size_t entries, uint64_t *work, size_t numbers)
+    CHEREMYSL_CALL CHEREMYSL_READS(1, 2) CHEREMYSL_READS(3, 4) CHEREMYSL_WRITES(7, 8)
+    CHEREMYSL_WRITES(9, 10);
+
+/*
+ * SlotsNext: the earliest best layout on a strip of slots after the given one.
+ *
+ *      pads, pad_bytes    as for SlotsFirst
+ *      ports, port_bytes
+ *      length_weight      as for SlotsFirst: best means best for these weights
+ *      bend_weight
+ *      layout, entries    a lent list of at least n entries, whose first n hold a best layout, from
+ *                         anywhere: it is checked, not trusted
+ *      work, numbers      as for SlotsFirst; it may be the same list, and need not be
+ *
+ * Answers the total of the layout found (all best layouts have the same); entries 0 to n - 1
+ * hold it and those from n on are unchanged. Or answers the end, exactly if no best layout
+ * comes after the given one, and leaves the layout as it was. Or refuses with 1 to 3, 14, 24, 4, 5,
+ * 12 or 6 to 10, checked in this order, and leaves the layout as it was. What the work list holds
+ * is left open after a total, the end and refusal 10; the other refusals leave it as it was.
+ */
+int64_t cheremysl_slots_next(const uint8_t *pads, size_t pad_bytes, const uint8_t *ports,
+                             size_t port_bytes, uint32_t length_weight, uint32_t bend_weight,
+                             uint16_t *layout, size_t entries, uint64_t *work, size_t numbers)
+    CHEREMYSL_CALL CHEREMYSL_READS(1, 2) CHEREMYSL_READS(3, 4) CHEREMYSL_CHANGES(7, 8)
+    CHEREMYSL_WRITES(9, 10);
+
+/*
+ * SlotsMeasure: the total on a strip of slots of a layout without a touching pair, best or not.
+ *
+ *      pads, pad_bytes    as for SlotsFirst
+ *      ports, port_bytes
+ *      length_weight      0 to 1,000
+ *      bend_weight        0 to 1,000
+ *      layout, entries    a list of at least n entries, whose first n are the layout; only read
+ *
+ * Answers the total, or refuses with 1 to 3, 14, 4, 5, 12 or 6 to 9, checked in this order. Writes
+ * nothing, and needs no work list. Refusal 9 names the first pair of records whose leaders touch.
+ */
+int64_t cheremysl_slots_measure(const uint8_t *pads, size_t pad_bytes, const uint8_t *ports,
+                                size_t port_bytes, uint32_t length_weight, uint32_t bend_weight,
+                                const uint16_t *layout, size_t entries)
+    CHEREMYSL_CALL CHEREMYSL_READS(1, 2) CHEREMYSL_READS(3, 4) CHEREMYSL_READS(7, 8);
+
 /* ---- taking an answer apart -------------------------------------------------------------- */
 
 /* 1 if the answer is a refusal, else 0. */
@@ -502,12 +633,12 @@ static inline int cheremysl_is_refusal(int64_t answer) { return answer < CHEREMY
 /* 1 if the answer is the end, else 0. */
 static inline int cheremysl_is_end(int64_t answer) { return answer == CHEREMYSL_END; }
 
-/* The refusal's number, 1 to 13; 0 if the answer is not a refusal. */
+/* The refusal's number, 1 to 14 or 24; 0 if the answer is not a refusal. */
 static inline int cheremysl_refusal_number(int64_t answer) {
     return cheremysl_is_refusal(answer) ? CHEREMYSL_CAST(int, answer / -65536 % 65536) : 0;
 }
 
-/* The refusal's record number; 0 if the answer is not a refusal. */
+/* The refusal's record number, or the port's; 0 if the answer is not a refusal. */
 static inline int cheremysl_refusal_record(int64_t answer) {
     return cheremysl_is_refusal(answer) ? CHEREMYSL_CAST(int, -(answer % 65536)) : 0;
 }
@@ -518,25 +649,26 @@ static inline int cheremysl_refusal_earlier(int64_t answer) {
 }
 
 /*
- * The refusal in one English sentence, for whoever drew the board: "this record" in it is the one
- * that cheremysl_refusal_record names. "" if the answer is not a refusal. A refusal whose number
- * is not in this header, from a later library, gets a sentence that says so. The text is constant:
- * it is there as long as the program runs.
+ * The refusal in one English sentence, for whoever drew the board: "this record" in it, or "this
+ * port", is the one whose number cheremysl_refusal_record gives. "" if the answer is not a refusal.
+ * A refusal whose number is not in this header, from a later library, gets a sentence that says so.
+ * The text is constant: it is there as long as the program runs.
  */
 static inline const char *cheremysl_refusal_text(int64_t answer) {
     int number = cheremysl_refusal_number(answer);
-    int known = number <= CHEREMYSL_BAD_TABLE ? number : 0; /* within the enum's range */
+    int known = number <= CHEREMYSL_NO_WORK_ROOM ? number : 0; /* within the enum's range */
     switch (CHEREMYSL_CAST(enum cheremysl_refusal, known)) {
     case CHEREMYSL_BAD_SIZE:
-        return "The job is not 1 to 64 records of 16 bytes.";
+        return "The job is not 1 to 64 records of 16 bytes, or its list of ports, if it has one, "
+               "not 1 to 128 heights of 4 bytes.";
     case CHEREMYSL_BAD_WEIGHT:
         return "A weight is above 1,000.";
     case CHEREMYSL_NO_ROOM:
-        return "The list of ports, or of points, is too short.";
+        return "The list of the layout, or of the points, is too short.";
     case CHEREMYSL_BAD_FIELD:
-        return "A number of this record is outside its range.";
+        return "A number of this record, or the height of this port, is outside its range.";
     case CHEREMYSL_PORT_NOT_ABOVE:
-        return "The port of this record is not above the port of the record before.";
+        return "This port is not above the port before it.";
     case CHEREMYSL_NAME_TWICE:
         return "The name of this record stands in an earlier record too.";
     case CHEREMYSL_X_TWICE:
@@ -550,9 +682,13 @@ static inline const char *cheremysl_refusal_text(int64_t answer) {
     case CHEREMYSL_BAD_NUMBER:
         return "There is no pad, or no port, of the number given.";
     case CHEREMYSL_PORT_TOO_CLOSE:
-        return "The port of this record is less than 8 above the port of the record before.";
+        return "This port is less than 8 above the port before it.";
     case CHEREMYSL_BAD_TABLE:
         return "The table does not have just one figure for each pad with each port.";
+    case CHEREMYSL_TOO_FEW_PORTS:
+        return "There are fewer ports than pads.";
+    case CHEREMYSL_NO_WORK_ROOM:
+        return "The work list is too short for so many pads and ports.";
     }
     return cheremysl_is_refusal(answer)
                ? "The library refuses for a reason that this program does not know."

@@ -1,7 +1,8 @@
 /*
- * cheremysl-draw [--any] [--area X1,Y1,X2,Y2] JOB [PORT..] >SVG: draws a sheet: the label edge with
- * port numbers and names, the pads as dots with their names, and the leaders. Without ports it is
- * First's sheet. An area of the board is shaded.
+ * cheremysl-draw [--any] [--area X1,Y1,X2,Y2] [--slots HEIGHTS] JOB [PORT..] >SVG: draws a sheet:
+ * the label edge with port numbers and names, the pads as dots with their names, and the leaders.
+ * Without ports it is First's sheet. With heights the job has pads alone, and its ports are these:
+ * a strip of slots, of which some may stay free. An area of the board is shaded.
  * The status is 0 if it was drawn, 1 if job or sheet is refused, 2 if it cannot be read or written.
  *
  * There is one scale for x and y, but what would come too close to be told apart is pushed on, to
@@ -27,11 +28,12 @@
 
 static char program[] = "cheremysl-draw";
 static const char usage[] =
-    "usage: cheremysl-draw [--any] [--area X1,Y1,X2,Y2] JOB [PORT..] >SVG\n"
+    "usage: cheremysl-draw [--any] [--area X1,Y1,X2,Y2] [--slots HEIGHTS] JOB [PORT..] >SVG\n"
     "Draws a sheet: a job file, - for standard input, and then each pad's port number. Without\n"
     "port numbers it is the earliest sheet of least length that has no touching leaders.\n"
     "  --any      draws a sheet with touching leaders or with a port given twice, too\n"
     "  --area     shades the rectangle with these corners, in the job's units\n"
+    "  --slots    takes the port heights from a file of their own; the job has pads alone\n"
     "  --help     prints this\n"
     "  --version  prints the version\n";
 
@@ -46,7 +48,10 @@ struct leader {
 struct port {
     float at;
     double down;
+    int used; /* so many ports below it have leaders; FREE if it has none itself */
 };
+
+#define FREE (-1)
 
 /* An area of the board, on the canvas. */
 struct area {
@@ -54,12 +59,18 @@ struct area {
     double left, top, right, bottom;
 };
 
+struct options {
+    int any;
+    const char *slots; /* the file of port heights, if they stand apart from the job */
+    struct area area;
+};
+
 /* A sheet and where the picture has it: the height y stands at pixel top + scale * y + its push. */
 struct picture {
     struct given_sheet s;
-    size_t n;
+    size_t n, slots; /* pads, ports */
     struct leader leaders[CHEREMYSL_MAX_RECORDS];
-    struct port ports[CHEREMYSL_MAX_RECORDS];
+    struct port ports[CHEREMYSL_MAX_SLOTS];
     int64_t length, bends;
     int64_t fault; /* Measure's refusal, if the sheet is drawn all the same */
     double scale, left, top, width, height;
@@ -73,14 +84,30 @@ static double smaller(double a, double b) { return a < b ? a : b; }
 
 /* ---- the sheet: read, judged, drawn by Draw ---- */
 
+static size_t pads_in(const struct given_sheet *s) { return s->job_bytes / CHEREMYSL_RECORD_BYTES; }
+static size_t ports_in(const struct given_sheet *s) {
+    return s->slots ? s->port_bytes / CHEREMYSL_PORT_BYTES : pads_in(s);
+}
+
+static int64_t first(struct given_sheet *s) {
+    static uint64_t work[CHEREMYSL_MAX_SLOTS_WORK];
+    if (!s->slots)
+        return cheremysl_first(s->job, s->job_bytes, 1, 0, s->layout, CHEREMYSL_MAX_RECORDS);
+    return cheremysl_slots_first(s->job, s->job_bytes, s->ports, s->port_bytes, 1, 0, s->layout,
+                                 CHEREMYSL_MAX_RECORDS, work, CHEREMYSL_MAX_SLOTS_WORK);
+}
+
 static int64_t measure(const struct given_sheet *s) {
-    return cheremysl_measure(s->job, s->job_bytes, 1, 0, s->layout, s->entries);
+    if (!s->slots)
+        return cheremysl_measure(s->job, s->job_bytes, 1, 0, s->layout, s->entries);
+    return cheremysl_slots_measure(s->job, s->job_bytes, s->ports, s->port_bytes, 1, 0, s->layout,
+                                   s->entries);
 }
 
 /* The first entry that is no port's number, as refusal 8; 0 if there is none. */
 static int64_t missing_port(const struct given_sheet *s) {
     for (size_t i = 0; i < s->entries; i++)
-        if (s->layout[i] >= s->job_bytes / CHEREMYSL_RECORD_BYTES)
+        if (s->layout[i] >= ports_in(s))
             return -(int64_t)(65536 * CHEREMYSL_BAD_ENTRY + i);
     return 0;
 }
@@ -94,19 +121,44 @@ static int64_t refused_still(const struct given_sheet *s, int64_t fault) {
     }
 }
 
+/* Is the list of ports at fault? Then the refusal goes away with a list that is in order. */
+static int blames_ports(const struct given_sheet *s, int64_t answer) {
+    int number = cheremysl_refusal_number(answer);
+    uint8_t ports[CHEREMYSL_MAX_PORT_BYTES] = {0};
+    uint16_t layout[CHEREMYSL_MAX_RECORDS] = {0};
+    for (size_t q = 0; q < CHEREMYSL_MAX_SLOTS; q++) {
+        ports[CHEREMYSL_PORT_BYTES * q] = (uint8_t)(CHEREMYSL_MIN_RISE * q % 256);
+        ports[CHEREMYSL_PORT_BYTES * q + 1] = (uint8_t)(CHEREMYSL_MIN_RISE * q / 256);
+    }
+    return s->slots && number != CHEREMYSL_BAD_ENTRY && number != CHEREMYSL_TOUCHING &&
+           cheremysl_slots_measure(s->job, s->job_bytes, ports, sizeof ports, 1, 0, layout,
+                                   CHEREMYSL_MAX_RECORDS) != answer;
+}
+
+/* The others speak of no record and of no port. */
+static int names_one(int number) {
+    return (number >= CHEREMYSL_BAD_FIELD && number <= CHEREMYSL_TOUCHING) ||
+           number == CHEREMYSL_PORT_TOO_CLOSE;
+}
+
 static void say_record(const struct given_sheet *s, int record, int number) {
     fprintf(stderr, " record %d", record);
-    if (number < CHEREMYSL_BAD_FIELD) return; /* it speaks of no record */
+    if (!names_one(number)) return;
     if (pad_name(s, (size_t)record) == 0)
         fprintf(stderr, " (dummy pad)");
     else
         fprintf(stderr, " (pad %d)", pad_name(s, (size_t)record));
 }
 
-static void end_refused(const struct given_sheet *s, const char *file, int64_t answer) {
-    int number = cheremysl_refusal_number(answer);
-    fprintf(stderr, "%s: %s: refused %d", program, file, number);
-    say_record(s, cheremysl_refusal_record(answer), number);
+static void end_refused(const struct given_sheet *s, const char *file, const char *slots,
+                        int64_t answer) {
+    int number = cheremysl_refusal_number(answer), record = cheremysl_refusal_record(answer);
+    int ports = blames_ports(s, answer);
+    fprintf(stderr, "%s: %s: refused %d", program, ports ? slots : file, number);
+    if (ports && names_one(number))
+        fprintf(stderr, " port %d", record);
+    else
+        say_record(s, record, number);
     if (number == CHEREMYSL_TOUCHING) {
         fprintf(stderr, " and");
         say_record(s, cheremysl_refusal_earlier(answer), number);
@@ -122,25 +174,30 @@ static void end_other_length(const char *file, size_t entries, size_t pads) {
 }
 
 /* Ends the program unless the sheet can be drawn; the answer is what Measure says of it. */
-static int64_t judge(struct given_sheet *s, const char *file, int any) {
-    size_t pads = s->job_bytes / CHEREMYSL_RECORD_BYTES;
+static int64_t judge(struct given_sheet *s, const char *file, const struct options *o) {
+    size_t pads = pads_in(s);
     if (s->entries == 0) {
-        int64_t first = cheremysl_first(s->job, s->job_bytes, 1, 0, s->layout,
-                                        CHEREMYSL_MAX_RECORDS);
-        if (cheremysl_is_refusal(first)) end_refused(s, file, first);
+        int64_t answer = first(s);
+        if (cheremysl_is_refusal(answer)) end_refused(s, file, o->slots, answer);
         s->entries = pads;
     }
-    int64_t answer = measure(s), refusal = any ? refused_still(s, answer) : answer;
+    int64_t answer = measure(s), refusal = o->any ? refused_still(s, answer) : answer;
     if (s->entries != pads && cheremysl_refusal_number(refusal) != CHEREMYSL_BAD_SIZE)
         end_other_length(file, s->entries, pads);
-    if (cheremysl_is_refusal(refusal)) end_refused(s, file, refusal);
+    if (cheremysl_is_refusal(refusal)) end_refused(s, file, o->slots, refusal);
     return answer;
 }
 
+/* Draw takes jobs of the first form: pad and port height make one of a single record. */
 static struct leader leader_of(const struct given_sheet *s, size_t record, size_t port) {
     struct leader l = {record, port, pad_name(s, record), 0, {0}, 0, 0};
-    l.points = (int)cheremysl_draw(s->job, s->job_bytes, (uint32_t)record, (uint32_t)port, l.at,
-                                   CHEREMYSL_DRAW_FLOATS);
+    size_t last = CHEREMYSL_RECORD_BYTES - CHEREMYSL_PORT_BYTES; /* the field for the height */
+    uint8_t one[CHEREMYSL_RECORD_BYTES];
+    memcpy(one, s->job + CHEREMYSL_RECORD_BYTES * record, last);
+    memcpy(one + last, s->slots ? s->ports + CHEREMYSL_PORT_BYTES * port
+                                : s->job + CHEREMYSL_RECORD_BYTES * port + last,
+           CHEREMYSL_PORT_BYTES);
+    l.points = (int)cheremysl_draw(one, sizeof one, 0, 0, l.at, CHEREMYSL_DRAW_FLOATS);
     return l;
 }
 
@@ -153,15 +210,25 @@ static int64_t length_of(const struct leader *l) {
     return (int64_t)(4 * (l->at[0] + (hand < 0 ? -hand : hand)));
 }
 
+static void find_ports(struct picture *p) {
+    p->slots = ports_in(&p->s);
+    for (size_t q = 0; q < p->slots; q++) {
+        struct leader any = leader_of(&p->s, 0, q);
+        p->ports[q] = (struct port){port_height(&any), 0, FREE};
+    }
+}
+
 static void lead_pads(struct picture *p) {
+    int used = 0;
     p->n = p->s.entries;
     for (size_t i = 0; i < p->n; i++) {
-        struct leader own = leader_of(&p->s, i, i);
-        p->ports[i].at = port_height(&own);
         p->leaders[i] = leader_of(&p->s, i, p->s.layout[i]);
+        p->ports[p->s.layout[i]].used = 0;
         p->length += length_of(p->leaders + i);
         p->bends += bends_of(p->leaders + i);
     }
+    for (size_t q = 0; q < p->slots; q++)
+        if (p->ports[q].used != FREE) p->ports[q].used = used++;
 }
 
 /* ---- places: the heights first, then the pads' x ---- */
@@ -179,15 +246,15 @@ static double pad_x(const struct picture *p, const struct leader *l) {
     return p->left + p->scale * l->at[0] + l->right;
 }
 
-/* The scale by which the board's longer side has a length that grows with the number of pads. */
+/* The scale by which the board's longer side has a length that grows with the number of ports. */
 static void choose_scale(struct picture *p) {
-    double right = 0, top = p->ports[p->n - 1].at, bottom = p->ports[0].at;
+    double right = 0, top = p->ports[p->slots - 1].at, bottom = p->ports[0].at;
     for (size_t i = 0; i < p->n; i++) {
         right = larger(right, p->leaders[i].at[0]);
         top = smaller(top, p->leaders[i].at[1]);
         bottom = larger(bottom, p->leaders[i].at[1]);
     }
-    p->scale = (200 + 12 * (double)p->n) / larger(right, bottom - top);
+    p->scale = (200 + 12 * (double)p->slots) / larger(right, bottom - top);
     p->top = -p->scale * top;
 }
 
@@ -205,7 +272,7 @@ static int by_height(const void *one, const void *other) {
 
 static void push_down(struct picture *p, const struct height *heights) {
     double down = 0, above = 0, label = -LABELS;
-    for (size_t k = 0; k < 2 * p->n; k++) {
+    for (size_t k = 0; k < p->n + p->slots; k++) {
         double y = height_of(p, heights[k].at, down), least = y;
         if (k > 0 && heights[k].at > heights[k - 1].at) least = larger(least, above + APART);
         if (heights[k].port) least = larger(least, label + LABELS);
@@ -219,12 +286,12 @@ static void push_down(struct picture *p, const struct height *heights) {
 }
 
 static void place_heights(struct picture *p) {
-    struct height heights[2 * CHEREMYSL_MAX_RECORDS];
-    for (size_t i = 0; i < p->n; i++) {
-        heights[2 * i] = (struct height){p->ports[i].at, 1, &p->ports[i].down};
-        heights[2 * i + 1] = (struct height){p->leaders[i].at[1], 0, &p->leaders[i].down};
-    }
-    qsort(heights, 2 * p->n, sizeof *heights, by_height);
+    struct height heights[CHEREMYSL_MAX_SLOTS + CHEREMYSL_MAX_RECORDS];
+    for (size_t q = 0; q < p->slots; q++)
+        heights[q] = (struct height){p->ports[q].at, 1, &p->ports[q].down};
+    for (size_t i = 0; i < p->n; i++)
+        heights[p->slots + i] = (struct height){p->leaders[i].at[1], 0, &p->leaders[i].down};
+    qsort(heights, p->n + p->slots, sizeof *heights, by_height);
     push_down(p, heights);
 }
 
@@ -276,10 +343,10 @@ static void place_pads(struct picture *p) {
 /* Where a height stands that need not be a pad's or a port's: pushed as the last one above it. */
 static double any_y(const struct picture *p, double at) {
     double down = 0;
-    for (size_t i = 0; i < p->n; i++) {
+    for (size_t i = 0; i < p->n; i++)
         if (p->leaders[i].at[1] <= at) down = larger(down, p->leaders[i].down);
-        if (p->ports[i].at <= at) down = larger(down, p->ports[i].down);
-    }
+    for (size_t q = 0; q < p->slots; q++)
+        if (p->ports[q].at <= at) down = larger(down, p->ports[q].down);
     return height_of(p, at, down);
 }
 
@@ -356,7 +423,7 @@ static struct label label_of(const struct picture *p, size_t port) {
 
 static void place_edge(struct picture *p) {
     double letters = strlen("port: pad");
-    for (size_t i = 0; i < p->n; i++) letters = larger(letters, label_of(p, i).letters);
+    for (size_t q = 0; q < p->slots; q++) letters = larger(letters, label_of(p, q).letters);
     p->left = AROUND + LETTER * letters + 2 * DOT;
 }
 
@@ -405,7 +472,10 @@ static struct heading heading_of(const struct picture *p, const char *file) {
 /* Neighbouring arms have different colours. */
 static const char *const colours[] = {"black", "#0060b0", "#b84000", "#007850"};
 
-static const char *colour_of(size_t port) { return colours[port % 4]; }
+static const char *colour_of(const struct picture *p, size_t port) {
+    int used = p->ports[port].used;
+    return used == FREE ? "gray" : colours[used % 4];
+}
 
 /* Room for the heading, a line for the labels' own heading, and the borders. */
 static void place_heading(struct picture *p, const struct heading *h) {
@@ -436,7 +506,7 @@ static void draw_line(const struct picture *p, const struct leader *l) {
 }
 
 static void draw_leader(const struct picture *p, const struct leader *l) {
-    const char *colour = colour_of(l->port);
+    const char *colour = colour_of(p, l->port);
     printf("<g id=\"leader-%d\" stroke=\"%s\">\n<title>", (int)l->record, colour);
     if (l->name == 0)
         printf("dummy pad");
@@ -458,7 +528,7 @@ static void draw_name(const struct picture *p, const struct leader *l) {
     char digits[16];
     if (l->name == 0) return;
     sprintf(digits, "%d", l->name);
-    draw_text(pad_x(p, l) + 2 * DOT, pad_y(p, l), colour_of(l->port), digits);
+    draw_text(pad_x(p, l) + 2 * DOT, pad_y(p, l), colour_of(p, l->port), digits);
 }
 
 static void draw_leaders(const struct picture *p) {
@@ -478,11 +548,20 @@ static void draw_labels(const struct picture *p) {
     double x = p->left - 2 * DOT;
     printf("<g text-anchor=\"end\">\n");
     draw_text(x, p->edge, "gray", "port: pad");
-    for (size_t i = 0; i < p->n; i++) {
-        struct label label = label_of(p, i);
-        draw_text(x, port_y(p, i), colour_of(i), label.text);
+    for (size_t q = 0; q < p->slots; q++) {
+        struct label label = label_of(p, q);
+        draw_text(x, port_y(p, q), colour_of(p, q), label.text);
     }
     printf("</g>\n");
+}
+
+/* With a mark across it at each free port. */
+static void draw_edge(const struct picture *p) {
+    printf("<path stroke=\"gray\" d=\"M%.6g,%.6gV%.6g", p->left, p->edge, p->height - AROUND / 2);
+    for (size_t q = 0; q < p->slots; q++)
+        if (p->ports[q].used == FREE)
+            printf("M%.6g,%.6gh%.4g", p->left - DOT, port_y(p, q), 2 * DOT);
+    printf("\"/>\n");
 }
 
 static void draw_heading(const struct heading *h) {
@@ -504,8 +583,7 @@ static void draw_picture(struct picture *p, const char *file) {
     printf("<rect width=\"100%%\" height=\"100%%\" fill=\"white\"/>\n");
     draw_area(p, &p->area);
     draw_heading(&h);
-    printf("<path stroke=\"gray\" d=\"M%.6g,%.6gV%.6g\"/>\n", p->left, p->edge,
-           p->height - AROUND / 2);
+    draw_edge(p);
     draw_leaders(p);
     draw_names(p);
     draw_labels(p);
@@ -545,16 +623,24 @@ static struct area read_area(const char *word) {
                          larger(at[0], at[2]) / 4, -smaller(at[1], at[3]) / 4};
 }
 
+static const char *read_slots(const char *word) {
+    if (word != NULL) return word;
+    fprintf(stderr, "%s: --slots takes a file of port heights\n%s", program, usage);
+    exit(2);
+}
+
 /* Takes the options out of the words and answers how many are left; -- ends the options. */
-static int take_options(int argc, char **argv, int *any, struct area *area) {
+static int take_options(int argc, char **argv, struct options *o) {
     int left = 1, k = 1;
     for (; k < argc && strcmp(argv[k], "--") != 0; k++) {
         if (argv[k][0] != '-' || argv[k][1] == 0)
             argv[left++] = argv[k];
         else if (strcmp(argv[k], "--any") == 0)
-            *any = 1;
+            o->any = 1;
         else if (strcmp(argv[k], "--area") == 0)
-            *area = read_area(argv[++k]);
+            o->area = read_area(argv[++k]);
+        else if (strcmp(argv[k], "--slots") == 0)
+            o->slots = read_slots(argv[++k]);
         else
             end_with_option(argv[k]);
     }
@@ -565,14 +651,18 @@ static int take_options(int argc, char **argv, int *any, struct area *area) {
 
 int main(int argc, char **argv) {
     static struct picture p;
-    int any = 0, words = take_options(argc, argv, &any, &p.area);
+    struct options o = {.any = 0};
+    int words = take_options(argc, argv, &o);
     if (words < 2) {
         fputs(usage, stderr);
         return 2;
     }
     argv[0] = program;
     p.s = read_given_sheet(words, argv);
-    p.fault = judge(&p.s, argv[1], any);
+    if (o.slots != NULL) read_given_ports(&p.s, program, o.slots);
+    p.fault = judge(&p.s, argv[1], &o);
+    p.area = o.area;
+    find_ports(&p);
     lead_pads(&p);
     draw_picture(&p, argv[1]);
     return written();
