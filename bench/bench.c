@@ -2,8 +2,9 @@
  * bench.c: the library beside the plain C program, on the same jobs.
  *
  *   bench same TRIALS SEED  both on random jobs, sound and spoilt: fails if an answer, a list or a page differs
- *   bench count             each call on each board at 8, 16, 32 and 64 pads, by the library and then by plain C, marked
- *                           for the emulator, which counts instructions. Prints CALL BOARD PADS ANSWER
+ *   bench count             each call on each board at 8, 16, 32 and 64 pads, and on slots at some sizes, by the library
+ *                           and then by plain C, marked for the emulator, which counts instructions. Prints
+ *                           CALL BOARD SIZE ANSWER; the size is the number of pads, or PADSxPORTS
  */
 #define _POSIX_C_SOURCE 200112L /* getppid */
 
@@ -23,15 +24,18 @@
 #define LAYOUTS 20                          /* on a page that is measured */
 #define PAGE_ENTRIES (LAYOUTS * CHEREMYSL_MAX_RECORDS)
 
-static uint8_t job[CHEREMYSL_MAX_JOB_BYTES];
-static size_t bytes, figures, entries = ENTRIES, page_entries;
+static uint8_t job[CHEREMYSL_MAX_JOB_BYTES], ports[CHEREMYSL_MAX_PORT_BYTES];
+static size_t bytes, port_bytes, figures, entries = ENTRIES, page_entries, numbers;
 static uint32_t length_weight, bend_weight, table[CHEREMYSL_MAX_FIGURES + 1]; /* one too many is lent too */
 static uint16_t page[PAGE_ENTRIES];
+static uint64_t work[CHEREMYSL_MAX_SLOTS_WORK]; /* holds what the last call left there */
 
 /* ---- the calls, by either program ---- */
 
 /* A call by a table directly after that by weights: the emulator's plugin tells what the two have in common. */
-enum { FIRST, TABLE_FIRST, NEXT, TABLE_NEXT, PAGE, MEASURE, TABLE_MEASURE, CALLS };
+enum {
+    FIRST, TABLE_FIRST, SLOTS_FIRST, NEXT, TABLE_NEXT, SLOTS_NEXT, PAGE, MEASURE, TABLE_MEASURE, SLOTS_MEASURE, CALLS
+};
 
 typedef int64_t call_of(uint16_t *layout);
 
@@ -46,17 +50,25 @@ BY_BOTH(table_next, table, figures, layout, entries)
 BY_BOTH(page, length_weight, bend_weight, layout, entries, page, page_entries)
 BY_BOTH(measure, length_weight, bend_weight, layout, entries)
 BY_BOTH(table_measure, table, figures, layout, entries)
+BY_BOTH(slots_first, ports, port_bytes, length_weight, bend_weight, layout, entries, work, numbers)
+BY_BOTH(slots_next, ports, port_bytes, length_weight, bend_weight, layout, entries, work, numbers)
+BY_BOTH(slots_measure, ports, port_bytes, length_weight, bend_weight, layout, entries)
 
 static const struct {
     const char *name;
     call_of *ours, *plain;
 } by[CALLS] = {{"First", our_first, plain_first},
                {"Table-First", our_table_first, plain_table_first},
+               {"Slots-First", our_slots_first, plain_slots_first},
                {"Next", our_next, plain_next},
                {"Table-Next", our_table_next, plain_table_next},
+               {"Slots-Next", our_slots_next, plain_slots_next},
                {"Page", our_page, plain_page},
                {"Measure", our_measure, plain_measure},
-               {"Table-Measure", our_table_measure, plain_table_measure}};
+               {"Table-Measure", our_table_measure, plain_table_measure},
+               {"Slots-Measure", our_slots_measure, plain_slots_measure}};
+
+static bool on_slots(int call) { return call == SLOTS_FIRST || call == SLOTS_NEXT || call == SLOTS_MEASURE; }
 
 /* Every second mark ends a stretch, whose instructions the emulator's plugin prints (insns.c); a dozen are the caller's. */
 static void mark(void) { (void)getppid(); }
@@ -95,26 +107,73 @@ static void take_board(enum measured kind, int n) {
     page_entries = LAYOUTS * (size_t)n;
 }
 
-/* Next and Page go on from First's sheet; Measure measures it. */
-static void count_board(enum measured kind, int n) {
+static void take_slots(enum measured kind, int n, int p) {
+    struct on_slots g = make_measured_slots(kind, n, p);
+    memcpy(job, g.pads, sizeof job);
+    memcpy(ports, g.ports, sizeof ports);
+    bytes = g.pad_bytes, port_bytes = g.port_bytes, length_weight = g.length_weight, bend_weight = 0;
+    numbers = CHEREMYSL_SLOTS_WORK((size_t)n, (size_t)p);
+}
+
+/* The calls of either form on the board taken. Next and Page go on from First's sheet; Measure measures it. */
+static void count_calls(bool slots, int last, const char *board, const char *size) {
     uint16_t start[ENTRIES] = {0};
-    take_board(kind, n);
-    for (int call = 0; call < CALLS; call++) {
+    for (int call = 0; call <= last; call++) {
         uint16_t layout[ENTRIES];
+        if (on_slots(call) != slots) continue;
         memcpy(layout, start, sizeof layout);
         int64_t answer = both(call, layout);
-        if (call == FIRST) memcpy(start, layout, sizeof start);
-        printf("%s %s %d %" PRId64 "\n", by[call].name, measured_names[kind], n, answer);
+        if (call == FIRST || call == SLOTS_FIRST) memcpy(start, layout, sizeof start);
+        printf("%s %s %s %" PRId64 "\n", by[call].name, board, size, answer);
     }
+}
+
+static void count_board(enum measured kind, int n) {
+    char size[32];
+    snprintf(size, sizeof size, "%d", n);
+    take_board(kind, n);
+    count_calls(false, CALLS - 1, measured_names[kind], size);
+}
+
+static void count_slots(enum measured kind, int n, int p, int last) {
+    char size[32];
+    snprintf(size, sizeof size, "%dx%d", n, p);
+    take_slots(kind, n, p);
+    count_calls(true, last, measured_names[kind], size);
+}
+
+/* Four boards at two sizes; then First alone on one of them: more pads, more ports, as many of each. */
+static void count_all_slots(void) {
+    static const enum measured kinds[] = {RANDOM, EVEN_SPREAD, MIDDLE, AT_PORTS};
+    for (int k = 0; k < 4; k++) count_slots(kinds[k], 32, 64, SLOTS_MEASURE);
+    for (int k = 0; k < 4; k++) count_slots(kinds[k], 64, 128, SLOTS_MEASURE);
+    for (int n = 8; n < 64; n *= 2) count_slots(RANDOM, n, 128, SLOTS_FIRST);
+    for (int p = 32; p < 128; p *= 2) count_slots(RANDOM, 16, p, SLOTS_FIRST);
+    for (int n = 8; n <= 64; n *= 2) count_slots(RANDOM, n, n, SLOTS_FIRST);
 }
 
 static int count_all(void) {
     for (int kind = 0; kind < KINDS; kind++)
         for (int n = 8; n <= CHEREMYSL_MAX_RECORDS; n *= 2) count_board((enum measured)kind, n);
+    count_all_slots();
     return 0;
 }
 
 /* ---- trials ---- */
+
+/* Spoils what stands apart on slots: the ports, their number, or that of the work list. */
+static void spoil_slots(size_t n) {
+    size_t p = port_bytes / 4 + (port_bytes < 4), q = below((uint32_t)p); /* one at least is there */
+    struct plan plan = plan_of_slots(job, n, ports, p);
+    switch (below(6)) {
+    case 0: put_height(ports, q, below(2) ? 1000001 : -1000001); break;
+    case 1: put_height(ports, q, get_height(&plan, q - (q > 0)) + 6 + below(4)); break;
+    case 2: put_height(ports, q, get_height(&plan, below((uint32_t)p))); break;
+    case 3: port_bytes = 4 * below((uint32_t)n); break;
+    case 4: port_bytes += 1 + below(3); break;
+    default: numbers = below((uint32_t)numbers + 1); break;
+    }
+}
 
 /* Spoils one field of a record of a sound job, or the byte count, a weight, the number of figures or that of entries. */
 static void spoil(size_t n) {
@@ -135,7 +194,10 @@ static void spoil(size_t n) {
     }
 }
 
-static long calls, steps, refused[CHEREMYSL_BAD_TABLE + 1];
+static long calls, steps, refused[CHEREMYSL_NO_WORK_ROOM + 1];
+
+/* A job is laid out by weights, by a table, or by weights on slots: FIRST + way, and so on. */
+enum { BY_WEIGHTS, BY_TABLE, ON_SLOTS };
 
 static int64_t tried(int call, uint16_t *layout) {
     int64_t answer = both(call, layout);
@@ -151,49 +213,72 @@ static void random_table(size_t count) {
     for (size_t k = 0; k < count; k++) table[k] = up ? UINT32_MAX - below(some) : below(some);
 }
 
-/* Any job, one in three spoilt, once or twice; what the lists hold; how much of a page is lent. */
-static void random_job(size_t n, uint16_t *layout) {
-    for (int i = 0; i < ENTRIES; i++) layout[i] = (uint16_t)below(65536);
-    make_board(job, n, (enum board)below(BOARDS));
+static void random_pads(size_t n, int way) {
+    enum board kind = (enum board)below(BOARDS);
+    size_t p = n + below(6);
     bytes = CHEREMYSL_RECORD_BYTES * n;
+    port_bytes = CHEREMYSL_PORT_BYTES * p;
+    numbers = CHEREMYSL_SLOTS_WORK(n, p);
+    if (way == ON_SLOTS)
+        make_slots(job, n, ports, p, kind);
+    else
+        make_board(job, n, kind);
+}
+
+/* Any job, one in three spoilt, once or twice; what the lists hold; how much of a page is lent. */
+static void random_job(size_t n, uint16_t *layout, int way) {
+    for (int i = 0; i < ENTRIES; i++) layout[i] = (uint16_t)below(65536);
+    random_pads(n, way);
     figures = n * n;
     random_table(figures);
     entries = ENTRIES;
     page_entries = n * below(below(4) ? 4 : LAYOUTS) + below((uint32_t)n + 1);
     any_weights(&length_weight, &bend_weight);
-    for (uint32_t k = below(3) ? 0 : 1 + below(2); k > 0; k--) spoil(n);
-}
-
-/* Any sheet, most of them not best; then one with a false entry, or two swapped. */
-static void other_sheets(size_t n, uint16_t *layout, int tabled) {
-    size_t i = below((uint32_t)n), j = below((uint32_t)n);
-    for (int spoilt = 0; spoilt < 2; spoilt++) {
-        any_untouching(job, n, layout);
-        uint16_t kept = layout[i];
-        if (spoilt) layout[i] = below(2) ? layout[j] : (uint16_t)n;
-        if (spoilt && below(3) && i != j) layout[i] = layout[j], layout[j] = kept;
-        tried(MEASURE + tabled, layout);
-        if (!tabled) tried(PAGE, layout);
-        tried(NEXT + tabled, layout);
+    for (uint32_t k = below(3) ? 0 : 1 + below(2); k > 0; k--) {
+        if (way == ON_SLOTS && below(2))
+            spoil_slots(n);
+        else
+            spoil(n);
     }
 }
 
-/* One job, by weights or by a table. */
-static void trial(size_t n, int tabled) {
+/* Any sheet, most of them not best; then one with a false entry, or two swapped. */
+static void other_sheets(size_t n, uint16_t *layout, int way) {
+    size_t i = below((uint32_t)n), j = below((uint32_t)n), p = way == ON_SLOTS ? port_bytes / 4 : n;
+    struct plan plan = way == ON_SLOTS ? plan_of_slots(job, n, ports, p) : plan_of_job(job, n);
+    for (int spoilt = 0; spoilt < 2; spoilt++) {
+        any_untouching(&plan, layout);
+        uint16_t kept = layout[i];
+        if (spoilt) layout[i] = below(2) ? layout[j] : (uint16_t)p;
+        if (spoilt && below(3) && i != j) layout[i] = layout[j], layout[j] = kept;
+        tried(MEASURE + way, layout);
+        if (way == BY_WEIGHTS) tried(PAGE, layout);
+        tried(NEXT + way, layout);
+    }
+}
+
+static void trial(size_t n, int way) {
     uint16_t layout[ENTRIES];
-    random_job(n, layout);
-    bool accepted = tried(FIRST + tabled, layout) >= 0;
-    tried(MEASURE + tabled, layout);
-    if (!tabled) tried(PAGE, layout);
-    for (int k = 0; k < 5 && tried(NEXT + tabled, layout) >= 0; k++) steps++;
-    if (accepted) other_sheets(n, layout, tabled);
+    random_job(n, layout, way);
+    bool accepted = tried(FIRST + way, layout) >= 0;
+    tried(MEASURE + way, layout);
+    if (way == BY_WEIGHTS) tried(PAGE, layout);
+    for (int k = 0; k < 5 && tried(NEXT + way, layout) >= 0; k++) steps++;
+    if (accepted) other_sheets(n, layout, way);
+}
+
+/* Few pads on slots: a search takes time that grows with the cube of their number. */
+static void any_trial(int t) {
+    static const int ways[] = {BY_WEIGHTS, BY_WEIGHTS, BY_TABLE, ON_SLOTS};
+    int way = ways[below(4)];
+    trial(1 + below(t % 8 != 0 ? 12 : way == ON_SLOTS ? 24 : 64), way);
 }
 
 static int same(int trials, int seed) {
     seed_random((uint64_t)seed);
-    for (int t = 0; t < trials; t++) trial(1 + below(t % 8 == 0 ? 64 : 12), below(3) == 0);
+    for (int t = 0; t < trials; t++) any_trial(t);
     printf("%ld calls, %ld steps of Next, refusals", calls, steps);
-    for (int r = 1; r <= CHEREMYSL_BAD_TABLE; r++)
+    for (int r = 1; r <= CHEREMYSL_NO_WORK_ROOM; r++)
         if (refused[r] > 0) printf(" %d: %ld", r, refused[r]);
     printf("\n");
     return 0;

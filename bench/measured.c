@@ -5,17 +5,19 @@
 #include <stdbool.h>
 #include <stdlib.h>
 
-const char *const measured_names[KINDS] = {"random", "even", "middle", "ties", "right", "above"};
+const char *const measured_names[ALL_KINDS] = {"random", "even", "middle", "ties", "right", "above", "level"};
 
 /* On these every step goes over all pads but the rightmost. */
 static bool at_the_right(enum measured kind) { return kind == RIGHT || kind == ABOVE_ALL; }
 
-static int64_t height(enum measured kind, int n, int i) {
+/* Of pad i of n beside p ports. */
+static int64_t height(enum measured kind, int n, int p, int i) {
     if (at_the_right(kind) && i < n / 4 * 2 && i < 10) kind = TIES;
     switch (kind) {
-    case RANDOM: return below((uint32_t)(10 * n));
-    case EVEN_SPREAD: return 10 * i + 5;
-    case MIDDLE: return 5 * n - 5;
+    case RANDOM: return below((uint32_t)(10 * p));
+    case EVEN_SPREAD: return 10 * (i * p / n) + 5;
+    case MIDDLE: return 5 * p - 5;
+    case AT_PORTS: return 10 * below((uint32_t)p);
     case RIGHT: return 10 * i - 2;
     case ABOVE_ALL: return 10 * n;
     default: return 10 * (i / 2 * 2) + 5;
@@ -38,9 +40,19 @@ struct given make_measured(enum measured kind, int n) {
     seed_random((uint64_t)(100 * (int)kind + n));
     place(kind, n, x);
     for (int i = 0; i < n; i++) {
-        int y = (int)height(kind, n, i);
+        int y = (int)height(kind, n, n, i);
         put_record(g.job, (size_t)i, 101 + i, x[i], y, 10 * i);
         for (int q = 0; q < n; q++) g.table[n * i + q] = g.length_weight * (uint32_t)(x[i] + abs(y - 10 * q));
     }
+    return g;
+}
+
+struct on_slots make_measured_slots(enum measured kind, int n, int p) {
+    struct on_slots g = {{0}, 16 * (size_t)n, {0}, 4 * (size_t)p, kind != MIDDLE};
+    int x[64];
+    seed_random((uint64_t)(100 * (int)kind + n));
+    place(kind, n, x);
+    for (int i = 0; i < n; i++) put_record(g.pads, (size_t)i, 101 + i, x[i], height(kind, n, p, i), 0);
+    for (int q = 0; q < p; q++) put_height(g.ports, (size_t)q, 10 * q);
     return g;
 }

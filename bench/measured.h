@@ -12,10 +12,12 @@ enum measured {
     TIES,        /* two pads in every second gap: 2 to the n/2 best sheets */
     RIGHT,       /* only the rightmost pads, ten at most, have a choice; the others each just below a port .. */
     ABOVE_ALL,   /* .. or all above all ports, so that few strips can be filled */
-    KINDS
+    KINDS,
+    AT_PORTS = KINDS, /* each pad at a port's height, perhaps the same; on slots alone */
+    ALL_KINDS
 };
 
-extern const char *const measured_names[KINDS];
+extern const char *const measured_names[ALL_KINDS];
 
 /* What First and the others are given; the bend weight is 0. The table has the figures that these weights give. */
 struct given {
@@ -27,5 +29,16 @@ struct given {
 };
 
 struct given make_measured(enum measured kind, int n);
+
+/* The same on p slots, n at least: pads, and ports apart. */
+struct on_slots {
+    uint8_t pads[1024];
+    size_t pad_bytes;
+    uint8_t ports[512];
+    size_t port_bytes;
+    uint32_t length_weight;
+};
+
+struct on_slots make_measured_slots(enum measured kind, int n, int p);
 
 #endif

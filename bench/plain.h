@@ -19,5 +19,14 @@ int64_t c_table_next(const uint8_t *job, size_t job_bytes, const uint32_t *table
                      uint16_t *layout, size_t entries);
 int64_t c_table_measure(const uint8_t *job, size_t job_bytes, const uint32_t *table, size_t figures,
                         const uint16_t *layout, size_t entries);
+int64_t c_slots_first(const uint8_t *pads, size_t pad_bytes, const uint8_t *ports, size_t port_bytes,
+                      uint32_t length_weight, uint32_t bend_weight, uint16_t *layout, size_t entries,
+                      uint64_t *work, size_t numbers);
+int64_t c_slots_next(const uint8_t *pads, size_t pad_bytes, const uint8_t *ports, size_t port_bytes,
+                     uint32_t length_weight, uint32_t bend_weight, uint16_t *layout, size_t entries,
+                     uint64_t *work, size_t numbers);
+int64_t c_slots_measure(const uint8_t *pads, size_t pad_bytes, const uint8_t *ports, size_t port_bytes,
+                        uint32_t length_weight, uint32_t bend_weight, const uint16_t *layout,
+                        size_t entries);
 
 #endif

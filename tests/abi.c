@@ -21,16 +21,23 @@ typedef int64_t fill_by_table(const uint8_t *, size_t, const uint32_t *, size_t,
                               size_t);
 typedef int64_t read_by_table(const uint8_t *, size_t, const uint32_t *, size_t, const uint16_t *,
                               size_t);
+typedef int64_t fill_on_slots(const uint8_t *, size_t, const uint8_t *, size_t, uint32_t, uint32_t,
+                              uint16_t *, size_t, uint64_t *, size_t);
+typedef int64_t read_on_slots(const uint8_t *, size_t, const uint8_t *, size_t, uint32_t, uint32_t,
+                              const uint16_t *, size_t);
 
 static read_only *const measure_call = cheremysl_measure;
 static draw *const draw_call = cheremysl_draw;
 static read_by_table *const table_measure_call = cheremysl_table_measure;
+static read_on_slots *const slots_measure_call = cheremysl_slots_measure;
 #ifndef NO_SEARCH
 static fill *const first_call = cheremysl_first;
 static fill *const next_call = cheremysl_next;
 static fill_page *const page_call = cheremysl_page;
 static fill_by_table *const table_first_call = cheremysl_table_first;
 static fill_by_table *const table_next_call = cheremysl_table_next;
+static fill_on_slots *const slots_first_call = cheremysl_slots_first;
+static fill_on_slots *const slots_next_call = cheremysl_slots_next;
 #endif
 
 static int passed, failed;
@@ -58,8 +65,8 @@ static void answers(void) {
     is_no_refusal(CHEREMYSL_MAX_TOTAL, 0);
     is_no_refusal(CHEREMYSL_MAX_TABLE_TOTAL, 0);
     is_no_refusal(CHEREMYSL_END, 1);
-    for (int number = CHEREMYSL_BAD_SIZE; number <= CHEREMYSL_BAD_TABLE; number++)
-        for (int record = 0; record < CHEREMYSL_MAX_RECORDS; record++)
+    for (int number = CHEREMYSL_BAD_SIZE; number <= CHEREMYSL_NO_WORK_ROOM; number++)
+        for (int record = 0; record < CHEREMYSL_MAX_SLOTS; record++)
             is_refusal(-(65536 * (int64_t)number + record), number, record, 0);
 }
 
@@ -75,18 +82,24 @@ static void pairs(void) {
 
 static const char *text(int number) { return cheremysl_refusal_text(-65536 * (int64_t)number); }
 
-/* A sentence, and not one that a smaller number has. */
+static int is_known(int number) {
+    return number <= CHEREMYSL_TOO_FEW_PORTS || number == CHEREMYSL_NO_WORK_ROOM;
+}
+
+/* A sentence, and not one that a smaller number has, if that or this is known. */
 static void is_sentence(int number) {
     const char *sentence = text(number);
     size_t length = strlen(sentence);
     check(length > 0 && *sentence >= 'A' && *sentence <= 'Z' && sentence[length - 1] == '.');
-    for (int other = 1; other < number; other++) check(strcmp(sentence, text(other)) != 0);
+    for (int other = 1; other < number; other++)
+        check((strcmp(sentence, text(other)) != 0) == (is_known(number) || is_known(other)));
 }
 
-/* The one after the last known stands for all that are unknown: none of the known shares it. */
+/* All that are unknown share one. */
 static void texts(void) {
-    int unknown = CHEREMYSL_BAD_TABLE + 1;
-    for (int number = CHEREMYSL_BAD_SIZE; number <= unknown; number++) is_sentence(number);
+    int unknown = CHEREMYSL_TOO_FEW_PORTS + 1;
+    for (int number = CHEREMYSL_BAD_SIZE; number <= CHEREMYSL_NO_WORK_ROOM + 1; number++)
+        is_sentence(number);
     check(strcmp(text(16), text(unknown)) == 0 && strcmp(text(65535), text(unknown)) == 0);
     check(strcmp(cheremysl_refusal_text(-2), text(unknown)) == 0);
     check(strcmp(cheremysl_refusal_text(-4295557122), text(CHEREMYSL_TOUCHING)) == 0);
@@ -96,12 +109,16 @@ static void calls(void) {
     is_refusal(measure_call(NULL, 0, 0, 0, NULL, 0), CHEREMYSL_BAD_SIZE, 0, 0);
     is_refusal(draw_call(NULL, 0, 0, 0, NULL, 0), CHEREMYSL_BAD_SIZE, 0, 0);
     is_refusal(table_measure_call(NULL, 0, NULL, 0, NULL, 0), CHEREMYSL_BAD_SIZE, 0, 0);
+    is_refusal(slots_measure_call(NULL, 0, NULL, 0, 0, 0, NULL, 0), CHEREMYSL_BAD_SIZE, 0, 0);
 #ifndef NO_SEARCH
     is_refusal(first_call(NULL, 0, 0, 0, NULL, 0), CHEREMYSL_BAD_SIZE, 0, 0);
     is_refusal(next_call(NULL, 0, 0, 0, NULL, 0), CHEREMYSL_BAD_SIZE, 0, 0);
     is_refusal(page_call(NULL, 0, 0, 0, NULL, 0, NULL, 0), CHEREMYSL_BAD_SIZE, 0, 0);
     is_refusal(table_first_call(NULL, 0, NULL, 0, NULL, 0), CHEREMYSL_BAD_SIZE, 0, 0);
     is_refusal(table_next_call(NULL, 0, NULL, 0, NULL, 0), CHEREMYSL_BAD_SIZE, 0, 0);
+    is_refusal(slots_first_call(NULL, 0, NULL, 0, 0, 0, NULL, 0, NULL, 0), CHEREMYSL_BAD_SIZE, 0,
+               0);
+    is_refusal(slots_next_call(NULL, 0, NULL, 0, 0, 0, NULL, 0, NULL, 0), CHEREMYSL_BAD_SIZE, 0, 0);
 #endif
 }
 
@@ -114,6 +131,11 @@ static void limits(void) {
     check(CHEREMYSL_MAX_TABLE_TOTAL == (int64_t)CHEREMYSL_MAX_RECORDS * UINT32_MAX);
     check(CHEREMYSL_TOUCHING == 9 && CHEREMYSL_DRAW_FLOATS == 6 && CHEREMYSL_BAD_TABLE == 13);
     check(CHEREMYSL_PORT_TOO_CLOSE == 12 && CHEREMYSL_MIN_RISE == 8);
+    check(CHEREMYSL_TOO_FEW_PORTS == 14 && CHEREMYSL_NO_WORK_ROOM == 24);
+    check(CHEREMYSL_MAX_PORT_BYTES == CHEREMYSL_PORT_BYTES * CHEREMYSL_MAX_SLOTS);
+    check(CHEREMYSL_MAX_SLOTS_WORK ==
+          CHEREMYSL_SLOTS_WORK(CHEREMYSL_MAX_RECORDS, CHEREMYSL_MAX_SLOTS));
+    check(CHEREMYSL_SLOTS_WORK(3, 5) == 392 && CHEREMYSL_SLOTS_WORK(1 + 2, 2 + 3) == 392);
 }
 
 static void version(void) {
@@ -164,6 +186,32 @@ static void no_room(void) {
 #endif
 }
 
+static const uint8_t two_ports[2 * CHEREMYSL_PORT_BYTES] = {0, 0, 0, 0, 8, 0, 0, 0};
+enum { PAD = sizeof one_pad, PORTS = sizeof two_ports, WORK = 64 }; /* numbers for one pad */
+
+/* Each list in its turn: no ports, no room, no work list. */
+static void no_list(void) {
+    uint16_t layout[1] = {0};
+    is_refusal(slots_measure_call(one_pad, PAD, NULL, 0, 1, 0, layout, 1), CHEREMYSL_BAD_SIZE, 0,
+               0);
+    is_refusal(slots_measure_call(one_pad, PAD, two_ports, PORTS, 1, 0, NULL, 0), CHEREMYSL_NO_ROOM,
+               0, 0);
+#ifndef NO_SEARCH
+    fill_on_slots *const searches[2] = {slots_first_call, slots_next_call};
+    uint64_t work[WORK] = {0};
+    for (int k = 0; k < 2; k++) {
+        is_refusal(searches[k](NULL, 0, two_ports, PORTS, 1, 0, layout, 1, work, WORK),
+                   CHEREMYSL_BAD_SIZE, 0, 0);
+        is_refusal(searches[k](one_pad, PAD, NULL, 0, 1, 0, layout, 1, work, WORK),
+                   CHEREMYSL_BAD_SIZE, 0, 0);
+        is_refusal(searches[k](one_pad, PAD, two_ports, PORTS, 1, 0, NULL, 0, work, WORK),
+                   CHEREMYSL_NO_ROOM, 0, 0);
+        is_refusal(searches[k](one_pad, PAD, two_ports, PORTS, 1, 0, layout, 1, NULL, 0),
+                   CHEREMYSL_NO_WORK_ROOM, 0, 0);
+    }
+#endif
+}
+
 /* A layout that was filled in part: entries from n on are not looked at. */
 static void measures(void) {
     uint16_t layout[LENT];
@@ -171,6 +219,9 @@ static void measures(void) {
     check(cheremysl_measure(one_pad, sizeof one_pad, 1, 0, layout, LENT) == 5);
     check(cheremysl_table_measure(one_pad, sizeof one_pad, one_figure, 1, layout, LENT) ==
           UINT32_MAX);
+    check(cheremysl_slots_measure(one_pad, PAD, two_ports, PORTS, 1, 0, layout, LENT) == 5);
+    layout[0] = 1;
+    check(cheremysl_slots_measure(one_pad, PAD, two_ports, PORTS, 1, 0, layout, LENT) == 13);
 }
 
 static void draw_keeps(size_t job_bytes, int64_t wanted, int from) {
@@ -214,6 +265,30 @@ static void next_keeps(uint16_t port, int64_t wanted) {
     check_own(layout, 1);
 }
 
+/* So many numbers lent: the layout, and the work list where it must keep what it holds. */
+static void slots_keep(size_t numbers, int64_t wanted, int from) {
+    uint16_t layout[LENT];
+    uint64_t work[WORK];
+    memcpy(layout, own, sizeof own);
+    for (int i = 0; i < WORK; i++) work[i] = 7000 + (uint64_t)i;
+    check(wanted ==
+          cheremysl_slots_first(one_pad, PAD, two_ports, PORTS, 1, 0, layout, LENT, work, numbers));
+    check_own(layout, from);
+    for (int i = 0; i < WORK && wanted < 0; i++) check(work[i] == 7000 + (uint64_t)i);
+}
+
+/* First's layout, of which there is no next; another; one that is no port's number. */
+static void slots_next_keeps(uint16_t port, int64_t wanted) {
+    uint16_t layout[LENT];
+    uint64_t work[WORK];
+    memcpy(layout, own, sizeof own);
+    layout[0] = port;
+    check(wanted ==
+          cheremysl_slots_next(one_pad, PAD, two_ports, PORTS, 1, 0, layout, LENT, work, WORK));
+    check(layout[0] == port);
+    check_own(layout, 1);
+}
+
 static void page_keeps(uint16_t port, int64_t wanted) {
     uint16_t page[LENT];
     memcpy(page, own, sizeof own);
@@ -237,6 +312,11 @@ static void lists(void) {
     next_keeps(1, bad_entry);
     page_keeps(0, 0);
     page_keeps(1, bad_entry);
+    slots_keep(WORK, 5, 1);
+    slots_keep(WORK - 1, -65536 * CHEREMYSL_NO_WORK_ROOM, 0);
+    slots_next_keeps(0, CHEREMYSL_END);
+    slots_next_keeps(1, -65536 * CHEREMYSL_NOT_BEST);
+    slots_next_keeps(2, bad_entry);
 #endif
 }
 
@@ -247,6 +327,7 @@ int main(void) {
     calls();
     no_table();
     no_room();
+    no_list();
     limits();
     version();
     measures();

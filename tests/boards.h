@@ -31,6 +31,9 @@ int64_t get_x(const uint8_t *job, size_t i);
 int64_t get_y(const uint8_t *job, size_t i);
 int64_t get_port(const uint8_t *job, size_t i);
 
+/* A height in a list of ports. */
+void put_height(uint8_t *ports, size_t q, int64_t height);
+
 enum board {
     WIDE,       /* anywhere */
     CLOSE,      /* pads beside ports, so that they share heights with these and each other */
@@ -45,14 +48,25 @@ enum board {
     BOARDS
 };
 
-/* Makes an accepted job of n records, 1 to 64. */
+/* Makes an accepted job of n records, 1 to 64; one of the second form, with p ports, n to 128. */
 void make_board(uint8_t *job, size_t n, enum board kind);
+void make_slots(uint8_t *pads, size_t n, uint8_t *ports, size_t p, enum board kind);
 
 /* Straight pads, and so many pairs half way between two ports: weights 1, 0 have 2^pairs sheets. */
 void make_tied(uint8_t *job, size_t n, size_t pairs);
 
+/* An accepted job of either form: n pads; p ports, their heights so many bytes apart. */
+#define MOST_PORTS 128
+struct plan {
+    const uint8_t *pads, *ports;
+    size_t n, p, apart;
+};
+struct plan plan_of_job(const uint8_t *job, size_t n);
+struct plan plan_of_slots(const uint8_t *pads, size_t n, const uint8_t *ports, size_t p);
+int64_t get_height(const struct plan *plan, size_t q);
+
 /* Pads joined to ports in order of height: no assignment has less length, touching or not. */
-int64_t least_length(const uint8_t *job, size_t n);
+int64_t least_length(const struct plan *plan);
 
 /* ---- tables: the figure of pad i with port q is number n * i + q ---- */
 
@@ -85,15 +99,14 @@ void plant(uint32_t *table, size_t n, const uint16_t *layout);
 void left_to_right(const uint8_t *job, size_t n, size_t *order);
 
 /*
- * A random layout without a touching pair, any of them: from left to right each pad takes the next
- * port above or below that is still free, and the port at its own height if that one is.
+ * A random layout without a touching pair, any of them: from left to right each pad takes a port,
+ * and shuts those from its own height to there, that one too: no pad further right may have them.
  */
-void any_untouching(const uint8_t *job, size_t n, uint16_t *layout);
+void any_untouching(const struct plan *plan, uint16_t *layout);
 
-/* The two ports that a pad at height y can take: the same twice if there is one. */
-struct choice {
-    uint16_t below, above;
-};
-struct choice choice_at(const uint8_t *job, size_t n, const uint8_t *taken, int64_t y);
+/* The ports that a pad at height y can take so that so many more stay open; how many these are. */
+size_t choices_at(const struct plan *plan, const uint8_t *shut, int64_t y, size_t more,
+                  uint16_t *choice);
+void shut_ports(const struct plan *plan, uint8_t *shut, int64_t y, uint16_t port);
 
 #endif

@@ -1,13 +1,13 @@
 #!/usr/bin/env python3
 """tests/draw.py PROGRAM..: draws the sample jobs and boards of every kind, and looks at the pictures as a reader does: each is well-formed, its
 leaders are those of 01 worked out here, those touch that do by 01 and no others come close, no dot or name meets a foreign leader, and no text meets
-another; a shaded area meets the leaders that it meets on the board. The last line has the counts."""
+another; the ports that stay free have their marks; a shaded area meets the leaders that it meets on the board. The last line has the counts."""
 import glob, itertools, math, os, random, struct, subprocess, sys, tempfile
 import xml.etree.ElementTree as xml
 
 SVG = '{http://www.w3.org/2000/svg}'
 LEAST = 7.98  # pixels from a line to the next: 8, and the last digit may be rounded
-WIDEST, HIGHEST = 4200, 2400  # pixels: no sound sheet has a larger picture
+SIZES = {64: (4200, 2400), 128: (5000, 4000)}  # pixels, for up to so many ports: no sound sheet has a larger picture
 passed = failed = 0
 
 def check(what, good, *seen):
@@ -49,7 +49,7 @@ class Picture:
     def __init__(self, text):
         root = xml.fromstring(text)
         self.width, self.height, self.size = (float(root.get(k)) for k in ('width', 'height', 'font-size'))
-        self.title = root.find(SVG + 'title').text
+        self.title, self.edge = root.find(SVG + 'title').text, root.find(SVG + 'path').get('d')
         self.ids = [e.get('id') for e in root.iter() if e.get('id')]
         group = root.findall(SVG + 'g')
         self.leaders = group[0].findall(SVG + 'g')
@@ -72,21 +72,21 @@ def expected_leader(record, port):
     way = [(x, y), (0.0, q)] if y == q else [(x, y), (x, q), (0.0, q)]
     return ' '.join(number(a) + ',' + number(b) for a, b in way)
 
-def check_leaders(what, picture, rs, layout):
+def check_leaders(what, picture, rs, hs, layout):
     """The leaders are Draw's, with their titles and the total."""
-    lengths = [r[2] + abs(r[3] - rs[q][4]) for r, q in zip(rs, layout)]
-    bends = [int(r[3] != rs[q][4]) for r, q in zip(rs, layout)]
+    lengths = [r[2] + abs(r[3] - hs[q]) for r, q in zip(rs, layout)]
+    bends = [int(r[3] != hs[q]) for r, q in zip(rs, layout)]
     name = lambda r: 'pad %d' % r[0] if r[0] else 'dummy pad'
     check(what + ': ids', picture.ids == ['leader-%d' % i for i in range(len(rs))], picture.ids)
-    check(what + ': points', picture.drawn == [expected_leader(r, rs[q][4]) for r, q in zip(rs, layout)], picture.drawn)
+    check(what + ': points', picture.drawn == [expected_leader(r, hs[q]) for r, q in zip(rs, layout)], picture.drawn)
     check(what + ': titles', [g.find(SVG + 'title').text for g in picture.leaders] == [
         '%s (record %d) to port %d: length %d, bends %d' % (name(r), i, layout[i], lengths[i], bends[i]) for i, r in enumerate(rs)])
     check(what + ': total', picture.title == what + ': length %d, bends %d' % (sum(lengths), sum(bends)), picture.title)
     check(what + ': total shown', picture.heading[0].text == picture.title)
 
-def check_places(what, picture, rs, layout):
+def check_places(what, picture, rs, hs):
     """Pads and ports stand in the order of their heights and x, far enough from each other, and equal heights in one place."""
-    heights = {(-r[3], dot[1]) for r, dot in zip(rs, picture.dots)} | {(-rs[q][4], line[-1][1]) for q, line in zip(layout, picture.lines)}
+    heights = {(-r[3], dot[1]) for r, dot in zip(rs, picture.dots)} | {(-h, float(t.get('y'))) for h, t in zip(hs, picture.labels[1:])}
     at = sorted(heights)
     check(what + ': one place for each height', len(at) == len(dict(at)))
     check(what + ': heights apart', all(b[1] - a[1] >= LEAST for a, b in zip(at, at[1:])), at)
@@ -99,12 +99,19 @@ def check_places(what, picture, rs, layout):
         scales = [(b[1] - a[1]) / (b[0] - a[0]) for a, b in itertools.chain(zip(at, at[1:]), zip(across, across[1:]))]
         check(what + ': to scale', max(scales) - min(scales) < 0.01 * max(scales), scales)
 
-def check_texts(what, picture, rs, layout):
-    """The labels are all there, and no two texts meet, nor does one leave the picture."""
-    named = [' '.join(str(r[0]) for r, q in zip(rs, layout) if q == k and r[0]) for k in range(len(rs))]
+def check_texts(what, picture, rs, hs, layout):
+    """The labels are all there, and no two texts meet, nor does one leave the picture. Free ports are marked on the edge, and gray."""
+    named = [' '.join(str(r[0]) for r, q in zip(rs, layout) if q == k and r[0]) for k in range(len(hs))]
     check(what + ': labels', [t.text for t in picture.labels] == ['port: pad'] + ['%d' % k + (': ' + n if n else '') for k, n in enumerate(named)])
     at = {q: line[-1][1] for q, line in zip(layout, picture.lines)}
     check(what + ': labels at their ports', all(float(picture.labels[q + 1].get('y')) == y for q, y in at.items()))
+    left, *marks = picture.edge.split('M')[1:]
+    free = [t for k, t in enumerate(picture.labels[1:]) if k not in layout]
+    middle = ['%g,%s' % (float(mark.split(',')[0]) + float(mark.split('h')[1]) / 2, mark.split(',')[1].split('h')[0]) for mark in marks]
+    check(what + ': free ports', middle == [left.split(',')[0] + ',' + t.get('y') for t in free], picture.edge)
+    check(what + ': gray', [t for t in picture.labels[1:] if t.get('fill') == 'gray'] == free)
+    below = sorted((q, line.get('stroke')) for q, line in zip(layout, picture.leaders))
+    check(what + ': colours', all(a[0] == b[0] or a[1] != b[1] for a, b in zip(below, below[1:])), below)
     check(what + ': names', [(t.text, float(t.get('y'))) for t in picture.names] == [(str(r[0]), dot[1]) for r, dot in zip(rs, picture.dots) if r[0]])
     boxes = [box(t, picture.size) for t in picture.heading + picture.names + picture.labels]
     check(what + ': texts inside', all(b[0] >= 0 and b[1] >= 0 and b[2] <= picture.width and b[3] <= picture.height for b in boxes))
@@ -117,20 +124,20 @@ def touch(a, p, b, q):
     (_, _, _, y, _), p, q = (b, p, q) if a[2] > b[2] else (a, q, p)  # the left pad's height, the right one's port, the left one's
     return min(y, q) <= p <= max(y, q)
 
-def check_touching(what, picture, rs, layout):
+def check_touching(what, picture, rs, hs, layout):
     """Leaders touch in the picture exactly if they do on the sheet, and others are far enough from each other for the width of a line."""
     bad = []
     for i, j in itertools.combinations(range(len(rs)), 2):
-        near, touching = apart(picture.segments[i], picture.segments[j]), touch(rs[i], rs[layout[i]][4], rs[j], rs[layout[j]][4])
+        near, touching = apart(picture.segments[i], picture.segments[j]), touch(rs[i], hs[layout[i]], rs[j], hs[layout[j]])
         if near > 0 if touching else near < LEAST:
             bad.append((i, j, near))
     check(what + ': leaders apart', not bad, bad)
     check(what + ': width of lines', picture.width_of_line < LEAST / 3)
 
-def check_sound(what, picture, rs, boxes):
+def check_sound(what, picture, rs, hs, boxes):
     """On a sheet without touching leaders nothing meets a foreign leader, and no two texts meet."""
-    n = len(rs)
-    check(what + ': size', picture.width <= WIDEST and picture.height <= HIGHEST and picture.size >= 10, picture.width, picture.height)
+    n, (widest, highest) = len(rs), min(size for ports, size in SIZES.items() if len(hs) <= ports)
+    check(what + ': size', picture.width <= widest and picture.height <= highest and picture.size >= 10, picture.width, picture.height)
     for i, (x, y, r) in enumerate(picture.dots):
         near = min([distance((x, y, x, y), s) for j in range(n) if j != i for s in picture.segments[j]], default=LEAST)
         check(what + ': dot of %d' % i, 2 <= r < near - picture.width_of_line, r, near)
@@ -152,24 +159,39 @@ def look(what, text):
     except (xml.ParseError, AttributeError, IndexError, TypeError) as fault:
         check('%s: well-formed' % what, False, fault)
 
-def try_board(path, layout=None, sound=True):
-    words = [] if layout is None else [str(q) for q in layout] + ['--any'] * (not sound)
-    text, rs, what = draw(path, *words), records(open(path, 'rb').read()), os.path.basename(path)
+def board_at(path, slots=None):
+    """The records of a job file, and its ports' heights, which with slots stand in a file of their own."""
+    rs = records(open(path, 'rb').read())
+    return rs, [h for h, in struct.iter_unpack('<i', open(slots, 'rb').read())] if slots else [r[4] for r in rs]
+
+def ports_shown(picture):
+    return [int(g.find(SVG + 'title').text.split(' to port ')[1].split(':')[0]) for g in picture.leaders]
+
+def least_rise(rs, hs):
+    """The least sum of distances from pads to ports of their own: some shortest sheet is led by the order of heights. least[k]: of the first k pads."""
+    least = [0] + [math.inf] * len(rs)
+    for h in hs:
+        for k, y in reversed(list(enumerate(sorted(r[3] for r in rs)))):
+            least[k + 1] = min(least[k + 1], least[k] + abs(y - h))
+    return least[-1]
+
+def try_board(path, layout=None, sound=True, slots=None):
+    words = ['--slots', slots] * bool(slots) + [str(q) for q in layout or []] + ['--any'] * (not sound)
+    text, (rs, hs), what = draw(path, *words), board_at(path, slots), os.path.basename(path)
     picture = look(what, text)
     if picture is None:
         return
-    shown = [int(g.find(SVG + 'title').text.split(' to port ')[1].split(':')[0]) for g in picture.leaders]
-    if layout is None:  # First's: no shorter sheet, which is led by the order of heights
-        check(what + ': a layout', sorted(shown) == list(range(len(rs))))
-        least = sum(abs(y - q) for y, q in zip(sorted(r[3] for r in rs), (r[4] for r in rs)))
-        check(what + ': shortest', sum(abs(r[3] - rs[q][4]) for r, q in zip(rs, shown)) == least)
+    shown = ports_shown(picture)
+    if layout is None:  # First's: no shorter sheet
+        check(what + ': a layout', len(set(shown)) == len(rs) and set(shown) <= set(range(len(hs))))
+        check(what + ': shortest', sum(abs(r[3] - hs[q]) for r, q in zip(rs, shown)) == least_rise(rs, hs))
     layout = shown if layout is None else layout
-    check_leaders(what, picture, rs, layout)
-    check_places(what, picture, rs, layout)
-    boxes = check_texts(what, picture, rs, layout)
-    check_touching(what, picture, rs, layout)
+    check_leaders(what, picture, rs, hs, layout)
+    check_places(what, picture, rs, hs)
+    boxes = check_texts(what, picture, rs, hs, layout)
+    check_touching(what, picture, rs, hs, layout)
     if sound:
-        check_sound(what, picture, rs, boxes)
+        check_sound(what, picture, rs, hs, boxes)
         check(what + ': drawn again', draw(path, *words) == text)
 
 def meets(area, record, port):
@@ -178,19 +200,19 @@ def meets(area, record, port):
     hand, arm = (x, min(y, port), x, max(y, port)), (0, port, x, port)
     return any(a[0] <= area[2] and area[0] <= a[2] and a[1] <= area[3] and area[1] <= a[3] for a in (hand, arm))
 
-def try_area(r, path):
+def try_area(r, path, slots=None):
     """In the picture a shaded area meets the leaders that it meets on the board, but for what is lost in rounding; all else is drawn as without it."""
-    rs, what, plain = records(open(path, 'rb').read()), os.path.basename(path) + ', area', draw(path)
+    words = ['--slots', slots] * bool(slots)
+    (rs, hs), what, plain = board_at(path, slots), os.path.basename(path) + ', area', draw(path, *words)
     near = lambda places: r.choice(places) + r.choice((-30, -1, 0, 1, 30))
     for _ in range(3):
         x, u = (near([0] + [s[2] for s in rs]) for _ in 'xu')
-        y, v = (near([s[3] for s in rs] + [s[4] for s in rs]) for _ in 'yv')
-        text = draw(path, '--area', '%d,%d,%d,%d' % (x, y, u, v))
+        y, v = (near([s[3] for s in rs] + hs) for _ in 'yv')
+        text = draw(path, *words, '--area', '%d,%d,%d,%d' % (x, y, u, v))
         shaded = [line for line in text.splitlines() if b'id="area"' in line]
         check(what + ': the rest', [line for line in text.splitlines() if line not in shaded] == plain.splitlines() and len(shaded) < 2)
         area, picture = (min(x, u), min(y, v), max(x, u), max(y, v)), look(what, plain)
-        layout = [int(g.find(SVG + 'title').text.split(' to port ')[1].split(':')[0]) for g in picture.leaders]
-        met = [meets(area, s, rs[q][4]) for s, q in zip(rs, layout)]
+        met = [meets(area, s, hs[q]) for s, q in zip(rs, ports_shown(picture))]
         if not shaded:
             check(what + ': not shaded', not any(met), area)
             continue
@@ -231,6 +253,32 @@ def pack(r, xs, ys, ports):
         names[r.randrange(len(xs))] = names[r.randrange(len(xs))] = 0
     return b''.join(struct.pack('<HHIii', name, 0, x, y, q) for name, x, y, q in zip(names, xs, ys, ports))
 
+def pack_heights(heights):
+    return struct.pack('<%di' % len(heights), *heights)
+
+def slots_boards(r):
+    """Boards for a strip of slots: every second of those above with some of its pads, and with more ports on either side of its own."""
+    for name, xs, ys, ports in itertools.islice(boards(r), 0, None, 2):
+        few, more = r.randint(1, len(xs)), r.randint(0, 128 - len(ports))
+        step = r.choice((8, 8, 30, 3000))
+        below, above = [ports[0] - step * k for k in range(more // 2, 0, -1)], [ports[-1] + step * (k + 1) for k in range(more - more // 2)]
+        strip = [h for h in below + ports + above if -END <= h <= END]
+        yield name + '-%d-of-%d' % (few, len(strip)), xs[:few], ys[:few], strip
+    for n in (1, 9, 64):  # as high as a picture gets, and all slots in one corner
+        high, xs = spread(r, 128, -END, END, 8), r.sample(range(1, END), n)
+        yield 'slots-%d-high' % n, xs, [r.choice(high) + 4 for _ in xs], high
+        yield 'slots-%d-corner' % n, xs, [-END] * n, [END - 8 * k for k in range(127, -1, -1)]
+        yield 'slots-%d-crowd' % n, xs, [r.randint(500, 516) for _ in xs], [8 * k for k in range(128)]
+
+def try_slots(r, room):
+    for name, xs, ys, strip in slots_boards(r):
+        path, slots = os.path.join(room, name), os.path.join(room, 'strip')
+        open(path, 'wb').write(pack(r, xs, ys, [0] * len(xs)))
+        open(slots, 'wb').write(pack_heights(strip))
+        try_board(path, slots=slots)
+        try_area(r, path, slots)
+        try_board(path, r.sample(range(len(strip)), len(xs)), False, slots)
+
 def odd_names(room):
     """Names of files, and how they are shown."""
     yield b'a & b <c> "d" \'e\'', 'a & b <c> "d" \'e\''
@@ -252,6 +300,8 @@ def main():
     try_board('examples/matrix.job', [63] * 64, False)
     with open('examples/antenna.layout') as file:
         try_board('examples/antenna.job', [int(q) for q in file.read().split()])
+    try_board('examples/sensor.pads', slots='examples/row.ports')
+    try_board('examples/sensor.pads', [31, 17, 15, 14, 18, 10, 8, 23, 0], False, 'examples/row.ports')
     with tempfile.TemporaryDirectory() as room:
         for name, xs, ys, ports in boards(r):
             path = os.path.join(room, name)
@@ -260,6 +310,7 @@ def main():
             try_area(r, path)
             if len(xs) > 1:
                 try_board(path, r.sample(range(len(xs)), len(xs)), False)
+        try_slots(r, room)
         for name, shown in odd_names(room):
             path = os.path.join(room.encode(), name)
             open(path, 'wb').write(open('examples/J1.job', 'rb').read())

@@ -28,7 +28,7 @@ says() {
 
 # ---- what is refused: the number, each record with its pad, and words
 
-made() { examples/mkjob >"$room/$1.job"; }
+made() { examples/mkjob ${2:+--$2} >"$room/$1.${2:-job}"; } # the second word: pads or ports
 J5=examples/J5.job crossing=examples/crossing.job
 touching='refused 9 record 2 (pad 403) and record 1 (pad 402): ?*'
 for any in '' --any; do
@@ -58,6 +58,46 @@ says 1 "cheremysl-draw: $J5: refused 8 record 2 (pad 103): ?*" $J5 1 2 1
 check "touching, with --any" draw --any $crossing 3 1 2 0
 check "a port twice, with --any" draw $J5 1 --any 2 1
 
+# ---- a strip of slots: the same, of the file that is at fault, and of a port's number where a port is
+
+row=examples/row.ports sensor=examples/sensor.pads
+strip() {
+    file=$1
+    shift
+    printf '%s\n' "$@" | made "$file" ports
+}
+strip far 0 8 1000001
+strip falling 0 8 16 16
+strip close 0 8 15
+strip one 5
+printf '7 1 5\n8 2 5\n' | made two pads
+printf '7 1 5\n0 0 5\n' | made x pads
+printf '7 1 5\n7 2 5\n' | made name pads
+printf '7 1 5\n8 1 5\n' | made again pads
+for any in '' --any; do
+    says 1 'cheremysl-draw: /dev/null: refused 1 record 0: ?*' $any --slots /dev/null $sensor
+    says 1 'cheremysl-draw: *.c: refused 1 record 0: ?*' $any --slots examples/audit.c $sensor 0
+    says 1 'cheremysl-draw: *.c: refused 1 record 0: ?*' $any --slots $row examples/audit.c
+    says 1 'cheremysl-draw: *sheets.c: refused 1 record 0: ?*' $any --slots examples/audit.c examples/sheets.c
+    says 1 "cheremysl-draw: $J5: refused 4 record 1 (pad 102): ?*" $any --slots $row $J5
+    says 1 'cheremysl-draw: *far.ports: refused 4 port 2: ?*' $any --slots "$room/far.ports" "$room/two.pads"
+    says 1 'cheremysl-draw: *far.ports: refused 4 port 2: ?*' $any --slots "$room/far.ports" "$room/two.pads" 0 1
+    says 1 'cheremysl-draw: *x.pads: refused 4 record 1 (dummy pad): ?*' $any --slots "$room/far.ports" "$room/x.pads"
+    says 1 'cheremysl-draw: *falling.ports: refused 5 port 3: ?*' $any --slots "$room/falling.ports" "$room/name.pads"
+    says 1 'cheremysl-draw: *close.ports: refused 12 port 2: ?*' $any --slots "$room/close.ports" "$room/name.pads" 0 1
+    says 1 'cheremysl-draw: *name.pads: refused 6 record 1 (pad 7): ?*' $any --slots $row "$room/name.pads"
+    says 1 'cheremysl-draw: *again.pads: refused 7 record 1 (pad 8): ?*' $any --slots $row "$room/again.pads" 0 1
+    says 1 'cheremysl-draw: *one.ports: refused 14 record 0: ?*' $any --slots "$room/one.ports" "$room/two.pads"
+    says 1 'cheremysl-draw: *one.ports: refused 14 record 0: ?*' $any --slots "$room/one.ports" "$room/two.pads" 0 0
+    says 1 'cheremysl-draw: *two.pads: refused 3 record 0: fewer port numbers than pads (2)' $any --slots $row "$room/two.pads" 0
+    says 1 'cheremysl-draw: *two.pads: refused: more port numbers than pads (2)' $any --slots $row "$room/two.pads" 0 1 2
+    says 1 'cheremysl-draw: *two.pads: refused 8 record 1 (pad 8): ?*' $any --slots $row "$room/two.pads" 0 32
+done
+says 1 'cheremysl-draw: *two.pads: refused 8 record 1 (pad 8): ?*' --slots $row "$room/two.pads" 31 31
+says 1 'cheremysl-draw: *two.pads: refused 9 record 1 (pad 8) and record 0 (pad 7): ?*' --slots $row "$room/two.pads" 2 1
+check "touching on a strip, with --any" draw --any --slots $row "$room/two.pads" 2 1
+check "a slot twice, with --any" draw "$room/two.pads" 31 31 --slots $row --any
+
 # ---- the command line
 
 usage='usage: cheremysl-draw *'
@@ -71,6 +111,8 @@ for area in '' 1,2,3 1,2,3,4,5 1,2,3,4x 1.5,2,3,4 1,2,3,999999999; do
     says 2 "cheremysl-draw: --area takes X1,Y1,X2,Y2*$usage" --area "$area" $J5
 done
 says 2 "cheremysl-draw: --area takes X1,Y1,X2,Y2*$usage" $J5 --area
+says 2 "cheremysl-draw: --slots takes a file of port heights*$usage" $sensor --slots
+says 2 "$usage" --slots $row
 says 2 "cheremysl-draw: '1x' is not a port number" $J5 1x 2 0
 check "--help" matches "$(draw --help)" "$usage"
 check "--version" matches "$(draw --version)" 'cheremysl-draw [0-9]*.[0-9]*'
@@ -79,6 +121,8 @@ check "--version" matches "$(draw --version)" 'cheremysl-draw [0-9]*.[0-9]*'
 
 says 2 "cheremysl-draw: cannot open $room/none: No such file or directory" "$room/none"
 says 2 "cheremysl-draw: cannot read $room: Is a directory" "$room"
+says 2 "cheremysl-draw: cannot open $room/none: No such file or directory" --slots "$room/none" $sensor
+says 2 "cheremysl-draw: cannot read $room: Is a directory" $sensor --slots "$room"
 says 2 "cheremysl-draw: cannot open --any: No such file or directory" -- --any
 
 # unwritten WORD..: with no room for what it writes, the program says so and ends with 2
@@ -107,6 +151,12 @@ svg=j5.svg
 check "First's sheet" picture $J5
 from_input() { draw - <$J5 | sed 's/standard input/J5.job/' | cmp - docs/j5.svg; }
 check "from standard input" from_input
+pads_from_input() { draw --slots $row - <$sensor | sed 's/standard input/sensor.pads/' | cmp - docs/slots.svg; }
+slots_from_input() { draw --slots - $sensor <$row | cmp - docs/slots.svg; }
+check "pads from standard input" pads_from_input
+check "slots from standard input" slots_from_input
+both_from_input() { draw --slots - - <$sensor; }
+prints 1 'cheremysl-draw: -: refused 1 record 0: The job is not 1 to 64 records of 16 bytes, or its list of ports, if it has one, not 1 to 128 heights of 4 bytes.' both_from_input
 
 # ---- what is on a picture
 

@@ -1,10 +1,10 @@
 /*
  * every [COUNT [SEED]]: First, Next, .., end on jobs of up to seven pads, over weights, with a page
- * from each sheet, or over a table, against the list of every best layout among all assignments.
- * Random and degenerate boards, tables of every kind; now and then with a port too close to the one
- * before, for which every call refuses the job. For bend weight 0, First's total on each board
- * against the least of all assignments, touching or not. Over the table of weighted lengths and
- * bends every reply is that over the weights.
+ * from each sheet, over a table, or on up to seven slots, against the list of every best layout
+ * among all assignments. Random and degenerate boards, tables of every kind; now and then with a
+ * port too close to the one before, for which every call refuses the job. For bend weight 0,
+ * First's total on each board against the least of all assignments, touching or not. Over the table
+ * of weighted lengths and bends, and on as many slots as pads, every reply is that over weights.
  */
 #include <stdio.h>
 #include <stdlib.h>
@@ -14,6 +14,7 @@
 #include "trial.h"
 
 static long sheets_listed, most_sheets, crossed, dearer, tables_dearer, tables_tied, weighed;
+static long slots_listed, slots_free; /* runs on slots, and those on more slots than pads */
 
 /* ---- a complete run ---- */
 
@@ -21,51 +22,83 @@ static long sheets_listed, most_sheets, crossed, dearer, tables_dearer, tables_t
 static bool page_from(struct question *q, const struct sheets *all, size_t k) {
     q->call = PAGE;
     lend_page(q, any_room(records_of(q)));
-    return expect(q, fills(q, all->sheet[k].port + PLAIN_PADS, PLAIN_PADS, all->found - k - 1));
+    return expect(q, fills(q, all->sheet[k].port + PLAIN_PORTS, PLAIN_PORTS, all->found - k - 1));
 }
 
-/* Over a table there are no pages. */
+/* Over a table and on slots there are no pages. */
 static bool run(struct question *q, const struct sheets *all) {
     turn_to(q, FIRST);
     for (size_t k = 0; k < all->found; k++) {
         struct reply expected = gives(q, all->total, all->sheet[k].port);
         if (!expect(q, expected)) return false;
         q->list = expected.list;
-        if (!takes_table(q->call) && !page_from(q, all, k)) return false;
+        bool paged = q->call == FIRST || q->call == NEXT;
+        if (paged && !page_from(q, all, k)) return false;
         turn_to(q, NEXT);
     }
     return expect(q, keeps(q, -1)) && expect(q, keeps(q, -1));
 }
 
-/* The run again, over the table of the weights; and Measure of a layout, best or not. */
+/*
+ * The run again, over the table of the weights and on as many slots; and Measure of a layout, best
+ * or not.
+ */
 static bool run_alike(struct question q, const struct sheets *all) {
     static uint32_t table[TABLE_ROOM];
-    q.call = FIRST;
-    struct question tabled = by_table(&q, table);
+    struct plan plan = plan_of(&q);
+    struct question tabled = by_table(&q, table), apart = by_slots(&q);
     weighed++;
     q.call = MEASURE;
-    any_untouching(q.job, records_of(&q), q.list.layout);
-    return run(&tabled, all) && alike(&q);
+    any_untouching(&plan, q.list.layout);
+    return run(&tabled, all) && run(&apart, all) && alike(&q);
+}
+
+/* Over weights, and over the table; over the table of the weights, and on slots, as over these. */
+static void from_this(struct question *q) {
+    for (q->call = 0; q->call < CALLS; q->call++) {
+        if (!takes_layout(q->call) || takes_slots(q->call)) continue;
+        expect(q, plain_reply(q));
+        if (q->call == MEASURE || q->call == NEXT) alike(q);
+    }
+}
+
+/* On slots: from a best sheet the one that comes after it, which the list has. */
+static void from_this_on_slots(struct question *q, const struct sheets *all) {
+    q->call = SLOTS_MEASURE;
+    struct reply measured = plain_reply(q), r = measured;
+    size_t k = 0;
+    expect(q, measured);
+    q->call = SLOTS_NEXT;
+    while (k < all->found &&
+           !plain_before(q->job, records_of(q), q->list.layout, all->sheet[k].port))
+        k++;
+    if (measured.answer >= 0)
+        r = measured.answer > all->total ? keeps(q, refused(10, 0))
+            : k < all->found             ? gives(q, all->total, all->sheet[k].port)
+                                         : keeps(q, -1);
+    expect(q, r);
 }
 
 /*
- * From every assignment: a later sheet, a page, the end, the total, or the refusal it deserves,
- * over weights and over the table; and over the table of the weights as over these.
+ * From every assignment: a later sheet, a page, the end, the total, or the refusal it deserves. To
+ * few slots also with ports that stand twice, and one that is not there.
  */
-static void from_each(struct question *q, size_t i) {
-    size_t n = records_of(q);
-    if (i == n) {
-        for (q->call = 0; q->call < CALLS; q->call++) {
-            if (takes_layout(q->call)) expect(q, plain_reply(q));
-            if (q->call == MEASURE || q->call == NEXT) alike(q);
-        }
+static void from_each(struct question *q, const struct sheets *all, size_t i) {
+    bool slots = takes_slots(q->call), any = slots && records_of(q) <= 2;
+    enum call call = q->call;
+    if (i == records_of(q)) {
+        if (slots)
+            from_this_on_slots(q, all);
+        else
+            from_this(q);
+        q->call = call;
         return;
     }
-    for (uint16_t port = 0; port < n; port++) {
+    for (uint16_t port = 0; port < ports_of(q) + any; port++) {
         q->list.layout[i] = port;
         bool fresh = true;
         for (size_t j = 0; j < i; j++) fresh &= q->list.layout[j] != port;
-        if (fresh) from_each(q, i + 1);
+        if (fresh || any) from_each(q, all, i + 1);
     }
 }
 
@@ -74,27 +107,31 @@ static size_t any_size(void) {
     return likely[below(20)];
 }
 
-/* The job with one port less than 8 above the one before: every call refuses. */
+/* The job with one port less than 8 above the one before: every call of its form refuses. */
 static void too_close(struct question q) {
-    size_t i = 1 + below((uint32_t)records_of(&q) - 1);
-    put_port(q.job, i, get_port(q.job, i - 1) + 1 + below(7));
+    bool slots = takes_slots(q.call);
+    size_t i = 1 + below((uint32_t)ports_of(&q) - 1);
+    set_port(&q, i, port_of(&q, i - 1) + 1 + below(7));
     q.count = LIST_ROOM;
-    for (q.call = 0; q.call < CALLS; q.call++) expect(&q, keeps(&q, refused(12, (int)i)));
+    for (q.call = 0; q.call < CALLS; q.call++)
+        if (takes_slots(q.call) == slots) expect(&q, keeps(&q, refused(12, (int)i)));
 }
 
-static size_t assignments(size_t n) { return n == 0 ? 1 : n * assignments(n - 1); }
+/* Of n pads to p ports. */
+static size_t assignments(size_t n, size_t p) { return n == 0 ? 1 : p * assignments(n - 1, p - 1); }
 
 /* For bend weight 0 First's total is the least of all assignments, touching or not. */
 static void least_of_all(struct question q) {
     static struct sheets all;
-    q.call = FIRST;
+    q.call = takes_slots(q.call) ? SLOTS_FIRST : FIRST;
     q.a = below(4) ? 1 + below(1000) : below(2);
     q.b = 0;
     struct given g = given_of(&q);
+    struct plan plan = plan_of(&q);
     plain_sheets(&g, &all);
     expect(&q, gives(&q, all.least, all.sheet[0].port));
-    check(all.tried == assignments(records_of(&q)), &q, "not every assignment was tried");
-    check(all.least == q.a * least_length(q.job, records_of(&q)), &q, "another least length");
+    check(all.tried == assignments(plan.n, plan.p), &q, "not every assignment was tried");
+    check(all.least == q.a * least_length(&plan), &q, "another least length");
     crossed += q.a > 0 && all.crossed;
 }
 
@@ -104,6 +141,8 @@ static void count_sheets(const struct question *q, const struct sheets *all) {
     check(tabled || q->b != 0 || all->total == all->least, q, "not the least of all assignments");
     *(tabled ? &tables_dearer : &dearer) += all->total > all->least;
     tables_tied += tabled && all->found > 1;
+    slots_listed += takes_slots(q->call);
+    slots_free += ports_of(q) > records_of(q);
     sheets_listed += (long)all->found;
     if ((long)all->found > most_sheets) most_sheets = (long)all->found;
 }
@@ -111,14 +150,14 @@ static void count_sheets(const struct question *q, const struct sheets *all) {
 static void one_job(void) {
     static struct question q;
     static struct sheets all;
-    sound_job(&q, any_size());
-    if (records_of(&q) > 1 && below(8) == 0) too_close(q);
+    sound_job(&q, any_size(), PLAIN_PORTS);
+    if (ports_of(&q) > 1 && below(8) == 0) too_close(q);
     least_of_all(q);
     struct given g = given_of(&q);
     plain_sheets(&g, &all);
     count_sheets(&q, &all);
-    if (!takes_table(q.call) && below(4) == 0 && !run_alike(q, &all)) return;
-    if (run(&q, &all) && records_of(&q) <= 4 && below(4) == 0) from_each(&q, 0);
+    if (q.call == FIRST && below(4) == 0 && !run_alike(q, &all)) return;
+    if (run(&q, &all) && records_of(&q) <= 4 && below(4) == 0) from_each(&q, &all, 0);
 }
 
 int main(int argc, char **argv) {
@@ -133,8 +172,10 @@ int main(int argc, char **argv) {
     printf("with a bend weight: in %ld jobs touching leaders have a smaller total\n", dearer);
     printf("over tables: in %ld jobs they have; %ld jobs with several sheets; %ld runs as over "
            "weights\n", tables_dearer, tables_tied, weighed);
+    printf("on slots: %ld jobs, %ld of them with free ones\n", slots_listed, slots_free);
     check(count < 1000 || (crossed > 0 && dearer > 0), NULL, "no touching leaders were weighed");
     check(count < 1000 || (tables_dearer > 0 && tables_tied > 0 && weighed > 0), NULL,
           "no such tables");
+    check(count < 1000 || slots_free > 0, NULL, "no slots were free");
     return done();
 }

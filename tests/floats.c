@@ -31,7 +31,7 @@ typedef void (*function)(void);
 /* ---- the way in, in assembly: these are its names ---- */
 
 function entrance;                  /* the call to make .. */
-uint64_t arguments[ARGUMENTS];      /* .. and what it is given, the last two on the stack */
+uint64_t arguments[ARGUMENTS];      /* .. and what it is given, the last four on the stack */
 uint64_t filled[REGISTERS][WORDS];  /* what the vector registers hold */
 uint64_t seen[REGISTERS][WORDS];    /* what see_registers finds there */
 uint8_t wide;                       /* all their words are there */
@@ -52,6 +52,8 @@ void multiply(void);
 __asm__(".text\n"
         "enter:\n"
         "    subq $8, %rsp\n" /* the stack is aligned at the call */
+        "    pushq arguments+72(%rip)\n"
+        "    pushq arguments+64(%rip)\n"
         "    pushq arguments+56(%rip)\n"
         "    pushq arguments+48(%rip)\n"
         "    movq arguments+40(%rip), %r9\n"
@@ -74,7 +76,7 @@ __asm__(".text\n"
         "    stmxcsr left_mxcsr(%rip)\n"
         "    fnstenv left_x87(%rip)\n"
         "    call calm\n"
-        "    addq $24, %rsp\n"
+        "    addq $40, %rsp\n"
         "    ret\n"
         "calm:\n"
         "    fninit\n"
@@ -219,12 +221,15 @@ static const function entrances[CALLS] = {
     [MEASURE] = (function)cheremysl_measure,
     [DRAW] = (function)cheremysl_draw,
     [TABLE_MEASURE] = (function)cheremysl_table_measure,
+    [SLOTS_MEASURE] = (function)cheremysl_slots_measure,
 #ifndef NO_SEARCH
     [FIRST] = (function)cheremysl_first,
     [NEXT] = (function)cheremysl_next,
     [PAGE] = (function)cheremysl_page,
     [TABLE_FIRST] = (function)cheremysl_table_first,
     [TABLE_NEXT] = (function)cheremysl_table_next,
+    [SLOTS_FIRST] = (function)cheremysl_slots_first,
+    [SLOTS_NEXT] = (function)cheremysl_slots_next,
 #endif
 };
 

@@ -28,20 +28,34 @@ static uint32_t take(struct bytes *b, uint64_t k) {
 
 static uint32_t take_bits(struct bytes *b) { return take(b, (uint64_t)UINT32_MAX + 1); }
 
+/*
+ * How many pads and, where they stand apart, how many ports: few that can all be tried, or more; a
+ * search on very many takes too long.
+ */
+static void take_counts(struct bytes *b, struct question *q) {
+    static const size_t small[] = {1, 2, 3, 3, 4, 4, 5, 6};
+    bool few = take(b, 8) > 0, apart = takes_slots(q->call);
+    size_t n = few ? small[take(b, 8)] : 1 + take(b, takes_work(q->call) ? 8 : 64);
+    size_t most = few ? PLAIN_PORTS : takes_work(q->call) ? 12 : MOST_PORTS;
+    q->job_bytes = 16 * n;
+    if (apart) q->port_bytes = 4 * (n + take(b, most - n + 1));
+}
+
 /* An accepted job, unless the scale puts a height too far out. */
 static void take_job(struct bytes *b, struct question *q) {
     static const int64_t scales[] = {1, 1, 1, 1, 2, 250, 1500, 15625};
-    static const size_t small[] = {1, 2, 3, 3, 4, 4, 5, 6};
-    size_t n = take(b, 8) > 0 ? small[take(b, 8)] : 1 + take(b, 64);
-    int64_t scale = scales[take(b, 8)], port[64] = {-(int64_t)take(b, 65)};
-    for (size_t i = 1; i < n; i++) port[i] = port[i - 1] + 8 + take(b, 3);
+    take_counts(b, q);
+    size_t n = records_of(q), p = ports_of(q);
+    int64_t scale = scales[take(b, 8)], port[MOST_PORTS] = {-(int64_t)take(b, 65)};
+    for (size_t i = 1; i < p; i++) port[i] = port[i - 1] + 8 + take(b, 3);
     for (size_t i = 0; i < n; i++) {
         int64_t name = take(b, 8) > 0 ? 101 + (int64_t)i : 0, x = 64 * take(b, 256) + i + 1;
         bool close = take(b, 2);
-        int64_t y = close ? port[take(b, n)] - 1 + take(b, 3) : port[0] - 2 + take(b, 9 * n + 4);
-        put_record(q->job, i, name, x, scale * y, scale * port[i]);
+        int64_t y = close ? port[take(b, p)] - 1 + take(b, 3) : port[0] - 2 + take(b, 9 * p + 4);
+        put_record(q->job, i, name, x, scale * y, 0);
     }
-    q->job_bytes = 16 * n;
+    for (size_t i = 0; i < p; i++) set_port(q, i, scale * port[i]);
+    if (takes_work(q->call)) lend_work(q, take(b, 3));
 }
 
 static uint32_t take_weight(struct bytes *b) {
@@ -68,23 +82,28 @@ static void best_layout(struct question *q, uint32_t steps) {
     for (turn_to(&search, NEXT); steps > 0; steps--) call_library(&search);
     q->list = search.list;
 #else
+    struct plan plan = plan_of(q);
     (void)steps;
-    any_untouching(q->job, records_of(q), q->list.layout);
+    any_untouching(&plan, q->list.layout);
 #endif
 }
 
-static void any_order(struct bytes *b, uint16_t *layout, size_t n) {
-    for (size_t i = 0; i < n; i++) {
+/* Each entry another port. */
+static void any_order(struct bytes *b, struct question *q) {
+    uint16_t port[MOST_PORTS];
+    for (size_t i = 0; i < ports_of(q); i++) {
         size_t k = take(b, i + 1);
-        layout[i] = layout[k];
-        layout[k] = (uint16_t)i;
+        port[i] = port[k];
+        port[k] = (uint16_t)i;
     }
+    memcpy(q->list.layout, port, records_of(q) * sizeof *port);
 }
 
 static void take_layout(struct bytes *b, struct question *q) {
+    struct plan plan = plan_of(q);
     switch (take(b, 4)) {
-    case 0: any_order(b, q->list.layout, records_of(q)); break;
-    case 1: any_untouching(q->job, records_of(q), q->list.layout); break;
+    case 0: any_order(b, q); break;
+    case 1: any_untouching(&plan, q->list.layout); break;
     default: best_layout(q, take(b, 4));
     }
 }
@@ -114,6 +133,20 @@ static void damage_numbers(struct bytes *b, struct question *q, uint32_t *number
         *number = take_bits(b);
 }
 
+/* Pads or ports of another length, or another height; a work list shorter by up to two, or by any. */
+static void damage_sizes(struct bytes *b, struct question *q) {
+    size_t of_ports = take(b, 2) && takes_slots(q->call) ? 1 + take(b, 4) : 0, p = ports_of(q), less;
+    switch (of_ports) {
+    case 0: q->job_bytes = take(b, JOB_ROOM + 1); break;
+    case 1: q->port_bytes = take(b, PORTS_ROOM + 1); break;
+    case 2: q->port_bytes = 4 * take(b, records_of(q) + 1); break;
+    case 3: put_number(q->ports + 4 * take(b, p + (p == 0)), 4, take_bits(b)); break;
+    default:
+        less = take(b, take(b, 2) ? 3 : q->numbers + 1);
+        q->numbers -= less < q->numbers ? less : q->numbers;
+    }
+}
+
 static void damage(struct bytes *b, struct question *q) {
     static const int64_t limits[] = {0,        1,        1000000,   1000001,
                                      -1000000, -1000001, INT32_MAX, INT32_MIN};
@@ -122,7 +155,7 @@ static void damage(struct bytes *b, struct question *q) {
     uint16_t *list = q->list.layout, kept = list[i];
     switch (take(b, 12)) {
     case 0: q->job[take(b, JOB_ROOM)] = (uint8_t)take(b, 256); break;
-    case 1: q->job_bytes = take(b, JOB_ROOM + 1); break;
+    case 1: damage_sizes(b, q); break;
     case 2: q->count = take(b, take(b, 2) ? n + 1 : LIST_ROOM + 1); break;
     case 3: damage_numbers(b, q, &q->a); break;
     case 4: damage_numbers(b, q, &q->b); break;
@@ -130,7 +163,7 @@ static void damage(struct bytes *b, struct question *q) {
     case 6: q->a = q->call == DRAW ? (uint32_t)j : 1001; break;
     case 7: put_number(q->job + 16 * i + field, 4, limits[take(b, 8)]); break;
     case 8: memcpy(q->job + 16 * i + field, q->job + 16 * j + field, 4); break;
-    case 9: put_port(q->job, i, get_port(q->job, i - (i > 0)) + 6 + take(b, 4)); break;
+    case 9: set_port(q, i, port_of(q, i - (i > 0)) + 6 + take(b, 4)); break;
     case 10: memcpy(q->job + 16 * i + early, q->job + 16 * j + early, 4); break; /* name or x */
     default:
         list[i] = list[j];
@@ -190,7 +223,8 @@ static bool before(const struct question *q, const union list *a, const union li
 static bool passed_over(const struct reply *first, const struct question *next,
                         const struct reply *reply) {
     union list found = next->list;
-    any_untouching(next->job, records_of(next), found.layout);
+    struct plan plan = plan_of(next);
+    any_untouching(&plan, found.layout);
     int64_t total = measured(next, &found);
     if (total > first->answer) return false;
     if (total < first->answer || before(next, &found, &first->list)) return true;
@@ -200,15 +234,15 @@ static bool passed_over(const struct reply *first, const struct question *next,
 
 /* First's sheet; Next of the question's layout, or of a random one if it asks First; and Page. */
 static bool large_sheet(const struct question *q) {
-    size_t n = records_of(q);
+    struct plan plan = plan_of(q);
     struct question first = *q, next = *q;
     turn_to(&first, FIRST);
     turn_to(&next, NEXT);
-    if (q->call == first.call) any_untouching(q->job, n, next.list.layout);
+    if (q->call == first.call) any_untouching(&plan, next.list.layout);
     struct reply f = ask(&first, AT_END), r = ask(&next, AT_START);
     int64_t given = measured(&next, &next.list);
     bool ok = is_sheet(&first, &f, f.answer);
-    if (!takes_table(q->call) && q->b == 0) ok &= f.answer == q->a * least_length(q->job, n);
+    if (!takes_table(q->call) && q->b == 0) ok &= f.answer == q->a * least_length(&plan);
     if (given != f.answer)
         r = keeps(&next, refused(10, 0));
     else if (r.answer == -1)

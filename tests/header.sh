@@ -41,12 +41,22 @@ refuses() {
 cat >"$room/user.c" <<'C'
 #include <cheremysl.h>
 
-#if CHEREMYSL_VERSION_NUMBER < 1002000
+#if CHEREMYSL_VERSION_NUMBER < 1003000
 #error "too old"
 #endif
+#if CHEREMYSL_SLOTS_WORK(CHEREMYSL_MAX_RECORDS, CHEREMYSL_MAX_SLOTS) != CHEREMYSL_MAX_SLOTS_WORK
+#error "the largest work list"
+#endif
+
+static uint64_t work[CHEREMYSL_SLOTS_WORK(CHEREMYSL_MAX_RECORDS, CHEREMYSL_MAX_SLOTS)];
+
+static size_t numbers(size_t pad_bytes, size_t port_bytes) {
+    size_t n = pad_bytes / CHEREMYSL_RECORD_BYTES, p = port_bytes / CHEREMYSL_PORT_BYTES;
+    return CHEREMYSL_SLOTS_WORK(n, p);
+}
 
 int main(void) {
-    uint8_t job[CHEREMYSL_MAX_JOB_BYTES] = {0};
+    uint8_t job[CHEREMYSL_MAX_JOB_BYTES] = {0}, ports[CHEREMYSL_MAX_PORT_BYTES] = {0};
     uint16_t layout[CHEREMYSL_MAX_RECORDS], page[2 * CHEREMYSL_MAX_RECORDS];
     uint32_t table[CHEREMYSL_MAX_FIGURES] = {0};
     float points[CHEREMYSL_DRAW_FLOATS];
@@ -67,6 +77,14 @@ int main(void) {
     if (cheremysl_is_end(answer)) return cheremysl_refusal_record(answer);
     answer = cheremysl_table_measure(job, sizeof job, table, CHEREMYSL_MAX_FIGURES, layout, CHEREMYSL_MAX_RECORDS);
     if (cheremysl_is_refusal(answer)) return cheremysl_refusal_record(answer);
+    answer = cheremysl_slots_first(job, sizeof job, ports, sizeof ports, 1, 0, layout, CHEREMYSL_MAX_RECORDS, work,
+                                   CHEREMYSL_MAX_SLOTS_WORK);
+    if (cheremysl_refusal_number(answer) == CHEREMYSL_TOO_FEW_PORTS) return *text;
+    answer = cheremysl_slots_next(job, sizeof job, ports, sizeof ports, 1, 0, layout, CHEREMYSL_MAX_RECORDS, work,
+                                  numbers(sizeof job, sizeof ports));
+    if (cheremysl_refusal_number(answer) == CHEREMYSL_NO_WORK_ROOM) return *text;
+    answer = cheremysl_slots_measure(job, sizeof job, ports, sizeof ports, 1, 0, layout, CHEREMYSL_MAX_RECORDS);
+    if (answer > CHEREMYSL_MAX_TOTAL) return cheremysl_refusal_record(answer);
     answer = cheremysl_draw(job, sizeof job, 0, 0, points, CHEREMYSL_DRAW_FLOATS);
     return answer == 2 && points[0] > points[1];
 }
@@ -128,6 +146,11 @@ warned stringop-overflow 'float points[5]; return cheremysl_draw(job, bytes, 0, 
 warned stringop-overflow 'uint16_t list[4]; return cheremysl_table_first(job, bytes, table, 16, list, 64);'
 warned stringop-overflow 'uint16_t list[4] = {0}; return cheremysl_table_next(job, bytes, table, 16, list, 64);'
 warned stringop-overread 'uint16_t list[4] = {0}; return cheremysl_table_measure(job, bytes, table, 16, list, 64);'
+warned stringop-overflow 'uint16_t list[4]; return cheremysl_slots_first(job, bytes, job, 4, 1, 0, list, 64, 0, 0);'
+warned stringop-overflow 'uint16_t list[4] = {0}; return cheremysl_slots_next(job, bytes, job, 4, 1, 0, list, 64, 0, 0);'
+warned stringop-overread 'uint16_t list[4] = {0}; return cheremysl_slots_measure(job, bytes, job, 4, 1, 0, list, 64);'
+warned stringop-overflow 'uint64_t work[35]; return cheremysl_slots_first(job, 16, job, 4, 1, 0, 0, 0, work, CHEREMYSL_SLOTS_WORK(1, 1));'
+warned stringop-overflow 'uint64_t work[35]; return cheremysl_slots_next(job, 16, job, 4, 1, 0, 0, 0, work, CHEREMYSL_SLOTS_WORK(1, 1));'
 
 warned stringop-overread 'uint8_t a[15] = {0}; uint16_t list[1]; return cheremysl_first(a, 16, 1, 0, list, 1);'
 warned stringop-overread 'uint8_t a[15] = {0}; uint16_t list[1] = {0}; return cheremysl_next(a, 16, 1, 0, list, 1);'
@@ -137,6 +160,11 @@ warned stringop-overread 'uint8_t a[15] = {0}; float points[6]; return cheremysl
 warned stringop-overread 'uint8_t a[15] = {0}; uint16_t list[1]; return cheremysl_table_first(a, 16, table, 1, list, 1);'
 warned stringop-overread 'uint8_t a[15] = {0}; uint16_t list[1] = {0}; return cheremysl_table_next(a, 16, table, 1, list, 1);'
 warned stringop-overread 'uint8_t a[15] = {0}; return cheremysl_table_measure(a, 16, table, 1, given, 1);'
+for lists in 'a, 16, job, 4' 'job, 16, a, 16'; do # the pads, the ports
+    warned stringop-overread "uint8_t a[15] = {0}; uint16_t list[1]; return cheremysl_slots_first($lists, 1, 0, list, 1, 0, 0);"
+    warned stringop-overread "uint8_t a[15] = {0}; uint16_t list[1] = {0}; return cheremysl_slots_next($lists, 1, 0, list, 1, 0, 0);"
+    warned stringop-overread "uint8_t a[15] = {0}; return cheremysl_slots_measure($lists, 1, 0, given, 1);"
+done
 
 warned stringop-overread 'uint32_t t[3] = {0}; uint16_t list[2]; return cheremysl_table_first(job, 32, t, 4, list, 2);'
 warned stringop-overread 'uint32_t t[3] = {0}; uint16_t list[2] = {0}; return cheremysl_table_next(job, 32, t, 4, list, 2);'
@@ -147,26 +175,36 @@ warned nonnull 'return cheremysl_measure(0, 16, 1, 0, given, 1);'
 warned nonnull 'return cheremysl_page(job, bytes, 1, 0, given, 1, 0, 1);'
 warned nonnull 'uint16_t list[1]; return cheremysl_table_first(job, bytes, 0, 1, list, 1);'
 warned nonnull 'return cheremysl_table_measure(job, bytes, 0, 1, given, 1);'
+warned nonnull 'uint16_t list[1]; return cheremysl_slots_first(job, bytes, job, 4, 1, 0, list, 1, 0, 36);'
+warned nonnull 'return cheremysl_slots_measure(job, bytes, 0, 4, 1, 0, given, 1);'
 quiet 'return cheremysl_first(0, 0, 1, 0, 0, 0) + cheremysl_next(0, 0, 1, 0, 0, 0) + cheremysl_measure(0, 0, 1, 0, 0, 0);'
 quiet 'return cheremysl_draw(0, 0, 0, 0, 0, 0) + cheremysl_page(job, bytes, 1, 0, given, 1, 0, 0);'
 quiet 'return cheremysl_table_first(0, 0, 0, 0, 0, 0) + cheremysl_table_next(0, 0, 0, 0, 0, 0);'
 quiet 'return cheremysl_table_measure(job, bytes, 0, 0, given, 1);'
+quiet 'return cheremysl_slots_first(0, 0, 0, 0, 1, 0, 0, 0, 0, 0) + cheremysl_slots_next(0, 0, 0, 0, 1, 0, 0, 0, 0, 0);'
+quiet 'return cheremysl_slots_measure(job, bytes, 0, 0, 1, 0, given, 1);'
 
 # What a call only writes need not be filled; what it reads must, if only in part.
 quiet 'uint16_t list[64]; return cheremysl_first(job, bytes, 1, 0, list, 64);'
 quiet 'uint16_t page[64]; return cheremysl_page(job, bytes, 1, 0, given, 4, page, 64);'
 quiet 'uint16_t list[64]; return cheremysl_table_first(job, bytes, table, 16, list, 64);'
+quiet 'uint16_t list[64]; uint64_t work[36]; return cheremysl_slots_first(job, bytes, job, 4, 1, 0, list, 64, work, 36);'
 quiet 'float points[6]; return cheremysl_draw(job, bytes, 0, 0, points, 6);'
 quiet 'uint16_t list[64]; list[0] = 1; list[1] = 0; return cheremysl_measure(job, 32, 1, 0, list, 64);'
 quiet 'uint16_t list[64]; list[0] = 1; list[1] = 0; return cheremysl_next(job, 32, 1, 0, list, 64);'
 quiet 'uint16_t list[64]; list[0] = 1; list[1] = 0; return cheremysl_table_measure(job, 32, table, 4, list, 64);'
 quiet 'uint16_t list[64]; list[0] = 1; list[1] = 0; return cheremysl_table_next(job, 32, table, 4, list, 64);'
+quiet 'uint16_t list[64]; list[0] = 1; list[1] = 0; return cheremysl_slots_measure(job, 32, job, 8, 1, 0, list, 64);'
+quiet 'uint16_t list[64]; list[0] = 1; uint64_t work[36]; return cheremysl_slots_next(job, 16, job, 4, 1, 0, list, 64, work, 36);'
 warned '\(maybe-\)*uninitialized' 'uint16_t list[64]; return cheremysl_next(job, bytes, 1, 0, list, 64);'
 warned '\(maybe-\)*uninitialized' 'uint16_t list[64]; return cheremysl_measure(job, bytes, 1, 0, list, 64);'
 warned '\(maybe-\)*uninitialized' 'uint16_t list[64]; return cheremysl_page(job, bytes, 1, 0, list, 64, 0, 0);'
 warned '\(maybe-\)*uninitialized' 'uint16_t list[64]; return cheremysl_table_next(job, bytes, table, 16, list, 64);'
 warned '\(maybe-\)*uninitialized' 'uint16_t list[64]; return cheremysl_table_measure(job, bytes, table, 16, list, 64);'
 warned '\(maybe-\)*uninitialized' 'uint32_t t[16]; return cheremysl_table_measure(job, bytes, t, 16, given, 4);'
+warned '\(maybe-\)*uninitialized' 'uint16_t list[64]; return cheremysl_slots_next(job, bytes, job, 4, 1, 0, list, 64, 0, 0);'
+warned '\(maybe-\)*uninitialized' 'uint16_t list[64]; return cheremysl_slots_measure(job, bytes, job, 4, 1, 0, list, 64);'
+warned '\(maybe-\)*uninitialized' 'uint8_t heights[4]; return cheremysl_slots_measure(job, bytes, heights, 4, 1, 0, given, 1);'
 
 # ---- an answer that nobody looks at
 
@@ -177,7 +215,10 @@ for ignored in 'uint16_t list[64]; cheremysl_first(job, bytes, 1, 0, list, 64)' 
     'float points[6]; cheremysl_draw(job, bytes, 0, 0, points, 6)' \
     'uint16_t list[64]; cheremysl_table_first(job, bytes, table, 16, list, 64)' \
     'uint16_t list[64] = {0}; cheremysl_table_next(job, bytes, table, 16, list, 64)' \
-    'cheremysl_table_measure(job, bytes, table, 16, given, 4)'; do
+    'cheremysl_table_measure(job, bytes, table, 16, given, 4)' \
+    'uint16_t list[64]; cheremysl_slots_first(job, bytes, job, 4, 1, 0, list, 64, 0, 0)' \
+    'uint16_t list[64] = {0}; cheremysl_slots_next(job, bytes, job, 4, 1, 0, list, 64, 0, 0)' \
+    'cheremysl_slots_measure(job, bytes, job, 4, 1, 0, given, 4)'; do
     call "$ignored; return 0;"
     for compiler in "$gcc" "$gxx" "$clang" "$clangxx"; do
         check "$compiler does not say unused-result: $ignored" says '\[-Wunused-result' "$room/call.c" $compiler
@@ -196,6 +237,9 @@ static_assert(noexcept(cheremysl_draw(nullptr, 0, 0, 0, nullptr, 0)), "Draw");
 static_assert(noexcept(cheremysl_table_first(nullptr, 0, nullptr, 0, nullptr, 0)), "First over a table");
 static_assert(noexcept(cheremysl_table_next(nullptr, 0, nullptr, 0, nullptr, 0)), "Next over a table");
 static_assert(noexcept(cheremysl_table_measure(nullptr, 0, nullptr, 0, nullptr, 0)), "Measure over a table");
+static_assert(noexcept(cheremysl_slots_first(nullptr, 0, nullptr, 0, 0, 0, nullptr, 0, nullptr, 0)), "First over slots");
+static_assert(noexcept(cheremysl_slots_next(nullptr, 0, nullptr, 0, 0, 0, nullptr, 0, nullptr, 0)), "Next over slots");
+static_assert(noexcept(cheremysl_slots_measure(nullptr, 0, nullptr, 0, 0, 0, nullptr, 0)), "Measure over slots");
 C
 check "$cxx: no call throws" silent "$room/throw.c" $gxx -std=c++11
 check "clang: no call throws" silent "$room/throw.c" $clangxx -std=c++11
@@ -237,7 +281,7 @@ text=$(printf '#include <cheremysl.h>\nCHEREMYSL_VERSION_TEXT\n' | $gcc -E -P $i
 check "version $lines, text $text" [ "${lines:-none}" = "$text" ]
 
 # A refusal without a sentence is a warning.
-sed 's/CHEREMYSL_BAD_TABLE = 13/&, CHEREMYSL_NEW = 14/' include/cheremysl.h >"$room/cheremysl.h"
+sed 's/CHEREMYSL_NO_WORK_ROOM = 24/&, CHEREMYSL_NEW = 25/' include/cheremysl.h >"$room/cheremysl.h"
 include=-I$room
 for compiler in "$gcc" "$gxx" "$clang" "$clangxx"; do
     check "$compiler: a refusal without a sentence" says 'CHEREMYSL_NEW.*\[-Wswitch' "$room/header.c" $compiler -Wall

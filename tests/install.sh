@@ -83,7 +83,7 @@ strict="-std=c99 -Wall -Wextra -Werror -pedantic"
 compile() { $cc $strict -o "$room/$1" "$2" $flags $libs -Wl,-rpath,"$lib"; }
 compile_archive() { $cc $strict $static -o "$room/sheets-archive" "$share/sheets.c" $flags "$lib/libcheremysl.a"; }
 uses_shared() { $readelf -d "$room/$1" | grep -qF "[$soname]"; }
-for program in sheets audit antenna; do
+for program in sheets audit antenna slots; do
     check "$program.c" compile $program "$share/$program.c"
     check "$program uses the shared library" uses_shared $program
 done
@@ -166,17 +166,33 @@ shortest='8 3 9 1 2 10 0 11 5 6 12 4 7'
 prints 0 "$shortest" antenna "$share/antenna.job" 2000,0,3000,9
 prints 1 "$shortest" sh -c '"$@" 2>/dev/null' sh $run "$room/antenna" "$share/antenna.job" 0,0,2000,2000
 prints 0 'antenna: leaders that meet the area: 13; no sheet has fewer' antenna_errors "$share/antenna.job" 0,0,2000,2000
-prints 1 'refused 1 record 0: The job is not 1 to 64 records of 16 bytes.' antenna "$share/antenna.c" $area
-prints 1 'refused 12 record 1: The port of this record is less than 8 above the port of the record before.' antenna "$room/close.job" $area
+size='The job is not 1 to 64 records of 16 bytes, or its list of ports, if it has one, not 1 to 128 heights of 4 bytes.'
+prints 1 "refused 1 record 0: $size" antenna "$share/antenna.c" $area
+prints 1 'refused 12 record 1: This port is less than 8 above the port before it.' antenna "$room/close.job" $area
 for words in '' "$share/antenna.job" "$share/antenna.job 1,2,3" "$share/antenna.job 1,2,3,4 5"; do
     prints 0 'usage: antenna JOB X1,Y1,X2,Y2: a job file, and two corners of an area' antenna_errors $words
 done
+
+# The strip of slots: every best sheet of the board, as the README shows them; what is refused, of the pads and of the ports.
+slots() { $run "$room/slots" "$@" 2>&1 | sed "s|$room/||"; }
+on_strip='length 3593: 16 17 15 14 18 9 8 23 24
+length 3593: 16 17 15 14 18 10 8 23 24
+length 3593: 16 17 15 14 18 9 8 23 25
+length 3593: 16 17 15 14 18 10 8 23 25'
+prints 0 "$on_strip" $run "$room/slots" "$share/sensor.pads" "$share/row.ports"
+check "the README's strip of slots" [ "$(grep '^    length 3593: ' README.md)" = "$(echo "$on_strip" | sed 's/^/    /')" ]
+prints 1 "refused 1 record 0: $size" $run "$room/slots" "$share/sensor.pads" "$share/slots.c"
+prints 0 'refused 4 record 1: A number of this record, or the height of this port, is outside its range.' slots "$share/J5.job" "$share/row.ports"
+printf '%s\n' 1 9 | "$share/mkjob" --ports >"$room/two.ports"
+prints 0 'refused 14 record 0: There are fewer ports than pads.' slots "$share/sensor.pads" "$room/two.ports"
+for words in '' one 'one two three'; do prints 0 'usage: slots PADS PORTS: a file of pads, and one of port heights' slots $words; done
 
 # A file that is not there is named.
 unopened() { $run "$@" 2>&1 | sed "s|.*cannot open $room/none: No such|No such|"; }
 prints 0 'No such file or directory' unopened "$room/sheets" "$room/none"
 prints 0 'No such file or directory' unopened "$room/audit" "$room/none" 0
 prints 0 'No such file or directory' unopened "$room/antenna" "$room/none" $area
+prints 0 'No such file or directory' unopened "$room/slots" "$share/sensor.pads" "$room/none"
 
 # The README's example is the one that was compiled.
 readme_example() { sed -n '/^```c$/,/^```$/{/^```/!p}' README.md | cmp - examples/sheets.c; }
@@ -184,15 +200,19 @@ check "the README's example" readme_example
 
 # ---- the sample jobs: each is what its list says, can be listed and made again, and is accepted
 
-made_from_list() { "$share/mkjob" "$1.txt" | cmp - "$1.job"; }
-made_again() { "$share/mkjob" --list "$1.job" "$room/list" && "$share/mkjob" "$room/list" | cmp - "$1.job"; }
+made_from_list() { "$share/mkjob" --$2 "$1.txt" | cmp - "$1.$2"; }
+made_again() { "$share/mkjob" --$2 --list "$1.$2" "$room/list" && "$share/mkjob" --$2 "$room/list" | cmp - "$1.$2"; }
 ports_apart() { awk '!/^#/ { if (seen && $4 < port + 8) near = 1; port = $4; seen = 1 } END { exit near || !seen }' "$room/list"; }
 for job in "$share"/*.job; do
     job=${job%.job}
-    check "made from its list" made_from_list "$job"
-    check "made again" made_again "$job"
+    check "made from its list" made_from_list "$job" job
+    check "made again" made_again "$job" job
     check "ports 8 apart" ports_apart
     check "accepted" $run "$room/sheets" "$job.job"
+done
+for file in sensor.pads row.ports; do
+    check "made from its list" made_from_list "$share/${file%.*}" ${file#*.}
+    check "made again" made_again "$share/${file%.*}" ${file#*.}
 done
 
 # ---- the printing program and the Python binding
@@ -216,6 +236,7 @@ binding() { LD_LIBRARY_PATH=$lib "$share/cheremysl.py" "$@"; }
 if [ -z "$run" ]; then
     prints 0 'total 40: 1 0
 total 40: 0 1' binding "$share/J3.job"
+    prints 0 "$(echo "$on_strip" | sed 's/length/total/')" binding "$share/sensor.pads" "$share/row.ports"
 fi
 
 # ---- the manual: it has a page under the name of every program and of every function of the header
@@ -225,7 +246,7 @@ for page in "$installed"/share/man/man?/*; do
 done
 for program in "$installed"/bin/*; do check "manual" [ -f "$installed/share/man/man1/${program##*/}.1" ]; done
 functions=$(sed -nE 's/^(static inline |int64_t ).*(cheremysl_[a-z_]+)\(.*/\2/p' include/cheremysl.h)
-check "functions of the header: $functions" [ "$(echo $functions | wc -w)" -ge 14 ]
+check "functions of the header: $functions" [ "$(echo $functions | wc -w)" -ge 17 ]
 for function in $functions; do
     check "manual of each function" grep -q "$function(" "$installed/share/man/man3/$function.3"
 done

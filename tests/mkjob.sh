@@ -88,8 +88,33 @@ prints 0 "$back" of $job --list - -
 prints 0 "$back, reserved field 513" of '\002\001\001\002\003\002\001\000\376\377\377\377\007\000\000\000' --list
 prints 1 'mkjob: standard input has 15 bytes, not whole records of 16' of '123456789012345' --list
 prints 1 'mkjob: README.md has '"$(($(wc -c <README.md)))"' bytes, not whole records of 16' $mkjob --list README.md
-again() { $mkjob --list "$1" | $mkjob - "$room/again" && cmp "$room/again" "$1"; }
-check "listed and made again" again examples/matrix.job
+again() { $mkjob $1 --list "$2" | $mkjob $1 - "$room/again" && cmp "$room/again" "$2"; }
+check "listed and made again" again --job examples/matrix.job
+
+# ---- pads without ports, and ports alone
+
+pad='02 01 00 00 03 02 01 00 fe ff ff ff 00 00 00 00'
+prints 0 "$odd" bytes_of '258 66051 -2 7' --job
+prints 0 "$pad" bytes_of '258 66051 -2 # 7' --pads
+prints 0 "$pad
+$pad" bytes_of '258 66051 -2\n\n 258 66051 -2' --pads - -
+prints 0 '07 00 00 00 fe ff ff ff 00 00 00 80 ff ff ff 7f
+00 00 00 00' bytes_of '7\n-2 # a slot\n-2147483648\n2147483647\n\n-0' - --ports
+prints 0 '' bytes_of '# nothing' --ports
+prints 1 "mkjob: line 2: 'name x y' is 3 words, not 4" of '1 2 3\n1 2 3 4\n' --pads
+prints 1 "mkjob: line 2: 'height' is 1 word, not 2" of '1\n2 3\n' --ports
+prints 1 "mkjob: line 1: y 2147483648 does not fit its field (-2147483648 to 2147483647)" of '1 2 2147483648' --pads
+prints 1 "mkjob: line 3: height -2147483649 does not fit its field (-2147483648 to 2147483647)" of '1\n2\n-2147483649' --ports
+prints 1 "mkjob: line 1: height '1,5' is not a whole number" of '1,5' --ports
+prints 0 '# name        x        y
+   258    66051       -2  # record 0, last field 7' of $job --list --pads
+prints 0 '# height
+       7  # port 0
+      -2  # port 1' of '\007\000\000\000\376\377\377\377' --ports --list
+prints 1 'mkjob: standard input has 6 bytes, not whole ports of 4' of '123456' --list --ports
+prints 1 'mkjob: standard input has 4 bytes, not whole records of 16' of '1234' --list --pads
+check "pads listed and made again" again --pads examples/sensor.pads
+check "ports listed and made again" again --ports examples/row.ports
 
 # ---- files
 
@@ -126,5 +151,7 @@ usage=$(sed -n '/^"""/,/^"""/p' examples/mkjob | sed 's/^"""//')
 prints 1 "$usage" $mkjob --lists examples/J5.job
 prints 1 "$usage" $mkjob one two three
 prints 1 "$usage" $mkjob --list one two three
+prints 1 "$usage" $mkjob --pads --ports examples/row.txt
+prints 1 "$usage" $mkjob --slots examples/row.txt
 
 counts

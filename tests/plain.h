@@ -10,20 +10,28 @@
 #include <stddef.h>
 #include <stdint.h>
 
-#define PLAIN_PADS 7            /* these three try every assignment up to so many pads .. */
+#define PLAIN_PORTS 7           /* these three try every assignment up to so many ports .. */
 #define PLAIN_UNKNOWN INT64_MIN /* .. and answer this for an accepted job with more */
-#define PLAIN_SHEETS 5040       /* assignments of seven pads */
+#define PLAIN_SHEETS 5040       /* assignments of seven pads, or of six, to seven ports */
 
-#define PLAIN_REFUSALS 14 /* one more than the largest refusal number */
+#define PLAIN_REFUSALS 25 /* one more than the largest refusal number */
 
 /* The refusal numbers a call can give, in the order of its checks; 0 ends it. Page has Next's. */
 extern const int first_checks[], next_checks[], measure_checks[], draw_checks[];
 extern const int table_first_checks[], table_next_checks[], table_measure_checks[];
+extern const int slots_first_checks[], slots_next_checks[], slots_measure_checks[];
 
-/* What a call is given. First's and Draw's lists have a size only; Draw has no weights. */
+/*
+ * What a call is given. First's and Draw's lists and the work list have a size only; Draw has no
+ * weights.
+ */
 struct given {
-    const uint8_t *job;
+    const uint8_t *job; /* in the second form the pads .. */
     size_t job_bytes;
+    bool slots;           /* .. whose ports stand apart, .. */
+    const uint8_t *ports; /* .. here */
+    size_t port_bytes;
+    size_t numbers; /* of the work list */
     uint32_t length_weight, bend_weight;
     const uint32_t *table;
     size_t figures;
@@ -48,18 +56,25 @@ int plain_fault(const struct given *g, int number);
 /* The first record before record i whose leader touches that of record i; -1 if none does. */
 int plain_earlier(const struct given *g, size_t i);
 
+/* Pads and ports of a job; a pad's x, how far it is above a port, what its leader there costs. */
+size_t plain_pads(const struct given *g);
+size_t plain_ports(const struct given *g);
+int64_t plain_x(const struct given *g, size_t i);
+int64_t plain_over(const struct given *g, size_t i, size_t q);
+int64_t plain_cost(const struct given *g, size_t i, size_t q);
+
 /* The total of any assignment, touching or not. */
 int64_t plain_total(const struct given *g, const uint16_t *layout);
 
 /* Pads of records i and j, led to the ports p and q: do the leaders share a point? */
-bool plain_touch(const uint8_t *job, size_t i, size_t p, size_t j, size_t q);
+bool plain_touch(const struct given *g, size_t i, size_t p, size_t j, size_t q);
 
 /* Does layout a come before layout b in the paper's order? n pads. */
 bool plain_before(const uint8_t *job, size_t n, const uint16_t *a, const uint16_t *b);
 
-/* All best layouts in the paper's order, and how many. For jobs of up to PLAIN_PADS pads. */
+/* All best layouts in the paper's order, and how many. For jobs of up to PLAIN_PORTS ports. */
 struct sheet {
-    uint16_t port[PLAIN_PADS];
+    uint16_t port[PLAIN_PORTS];
 };
 struct sheets {
     size_t found;

@@ -2,7 +2,7 @@
 """tests/python.py TEXTS [LIBRARY JOBS SEED]: the Python binding, examples/cheremysl.py. Its sentences against those in the file TEXTS, from the C header; its
 job maker; and, given the shared library, every call on random jobs against 01 worked out in plain Python, all assignments tried, and the binding as a program.
 The last line has the counts."""
-import contextlib, importlib.util, io, itertools, os, random, signal, struct, subprocess, sys
+import contextlib, ctypes, importlib.util, io, itertools, os, random, signal, struct, subprocess, sys
 
 def module_at(path, *words):
     """A Python file as a module; a program runs with these words, and its definitions stay."""
@@ -41,22 +41,23 @@ def reply(call, *words):
         return type(fault)
 
 class Board:
-    """A job as 01 reads it."""
-    def __init__(self, job):
-        self.bad, self.n, self.apart = plain.refusal(job), len(job) // 16, []
+    """A job as 01 reads it, or with a strip of slots one of the second form."""
+    def __init__(self, job, strip=None):
+        self.bad, self.n, self.apart = plain.refusal(job, strip), len(job) // 16, []
         if self.bad:
             return
-        self.records = list(struct.iter_unpack('<HHIii', job))
+        self.records, self.ports = list(struct.iter_unpack('<HHIii', job)), plain.heights(job, strip)
         self.right = sorted(range(self.n), key=lambda i: -self.records[i][2])
-        self.on = {(i, q): plain.points(*self.records[i][2:4], self.records[q][4]) for i in range(self.n) for q in range(self.n)}
+        self.pairs = list(itertools.product(range(self.n), range(len(self.ports))))
+        self.on = {(i, q): plain.points(*self.records[i][2:4], self.ports[q]) for i, q in self.pairs}
 
     def weighted(self, lengths, bends):
         """The table of weighted lengths and bends."""
-        rise = lambda i, q: abs(self.records[i][3] - self.records[q][4])
-        return [lengths * (self.records[i][2] + rise(i, q)) + bends * (rise(i, q) > 0) for i in range(self.n) for q in range(self.n)]
+        rise = lambda i, q: abs(self.records[i][3] - self.ports[q])
+        return [lengths * (self.records[i][2] + rise(i, q)) + bends * (rise(i, q) > 0) for i, q in self.pairs]
 
     def total(self, table, f):
-        return sum(table[i * self.n + f[i]] for i in range(self.n))
+        return sum(table[i * len(self.ports) + f[i]] for i in range(self.n))
 
     def touching(self, f):
         for i in range(self.n):
@@ -67,78 +68,103 @@ class Board:
     def best(self, table):
         """The least total, and the layouts that have it, in order."""
         if not self.apart:
-            self.apart = [f for f in itertools.permutations(range(self.n)) if not self.touching(f)]
+            self.apart = [f for f in itertools.permutations(range(len(self.ports)), self.n) if not self.touching(f)]
         apart = [(self.total(table, f), [f[i] for i in self.right], list(f)) for f in self.apart]
         least = min(apart)[0]
         return least, [f for t, _, f in sorted(apart) if t == least]
 
-    def refusal(self, layout, second):
-        """Measure's; without a layout, First's. second: 2 or 13, if the weights or the table deserve it, else 0."""
+    def refusal(self, layout, second, work=True):
+        """Measure's; without a layout, First's. second: 2 or 13, if the weights or the table deserve it, else 0. work: if there is room in it."""
         if self.bad and self.bad[0] == 1:
             return 1, 0, None
         if second:
             return second, 0, None
         if layout is not None and len(layout) < self.n:
             return 3, 0, None
+        if not work and not (self.bad and self.bad[0] == 14):
+            return 24, 0, None
         if self.bad:
             return (*self.bad, None)
         for i in range(self.n) if layout else ():
-            if layout[i] >= self.n or layout[i] in layout[:i]:
+            if layout[i] >= len(self.ports) or layout[i] in layout[:i]:
                 return 8, i, None
         pair = self.touching(layout) if layout else None
         return (9, *pair) if pair else None
 
     def points(self, i, q):
         _, _, x, y, _ = self.records[i]
-        port = self.records[q][4]
+        port = self.ports[q]
         return [(a / 4, -b / 4) for a, b in ([(x, y)] if y == port else [(x, y), (x, port)]) + [(0, port)]]
 
-def try_best(library, job, board, weights):
-    total, best = board.best(board.weighted(*weights))
-    every = [(total, f) for f in best]
-    binding.PAGE_SHEETS = len(best) % 4 + 1
-    check('first', library.first(job, *weights), every[0])
-    check('sheets', list(library.sheets(job, *weights)), every)
-    for at, f in enumerate(best[:30]):
-        check('next', library.next_(job, f, *weights), every[at + 1] if at + 1 < len(best) else None)
-        check('next, a longer list', library.next_(job, tuple(f) + (0, 65535), *weights), every[at + 1] if at + 1 < len(best) else None)
-        for sheets in 0, 1, 3, len(best):
-            check('page', library.page(job, f, sheets, *weights), best[at + 1:at + 1 + sheets])
-    return total, best
-
-def try_given(library, job, board, weights, layout, total, best):
-    """A layout from anywhere: measured, and refused or not as one to go on from."""
-    bad = board.refusal(layout, 2 if max(weights) > 1000 else 0)
-    f = layout[:board.n]
-    measured = bad or board.total(board.weighted(*weights), f)
-    check('measure', reply(library.measure, job, layout, *weights), measured)
-    if bad or f not in best:
-        bad = bad or (10, 0, None)
-        check('next', reply(library.next_, job, layout, *weights), bad)
-        check('page', reply(library.page, job, layout, 2, *weights), bad)
-
-def try_table_best(library, job, board, table):
-    """Every best sheet by a table, one after the other."""
-    total, best = board.best(table)
-    every = [(total, f) for f in best] + [None]
-    check('table_first', library.table_first(job, table), every[0])
-    for at, f in enumerate(best[:30]):
-        check('table_next', library.table_next(job, tuple(table), tuple(f) + (0, 65535)), every[at + 1])
-    return best
-
-def try_table(library, job, board, table, given):
-    """The table calls, on these layouts too."""
-    second, best = 13 if len(table) != board.n ** 2 else 0, []
+def try_calls(what, calls, board, table, second, given):
+    """First, Next and Measure, by weights or a table, on a job of either form and from these layouts too. Answers the best sheets, as First does."""
+    first, next_, measure = calls
     bad = board.refusal(None, second)
-    if bad:
-        check('table_first', reply(library.table_first, job, table), bad)
-    else:
-        best = try_table_best(library, job, board, table)
+    total, best = (None, []) if bad else board.best(table)
+    every = [(total, f) for f in best] + [None]
+    check(what + 'first', reply(first), bad or every[0])
+    for at, f in enumerate(best[:30]):
+        check(what + 'next', reply(next_, f), every[at + 1])
+        check(what + 'next, a longer list', reply(next_, tuple(f) + (0, 65535)), every[at + 1])
     for layout in given:
         bad, f = board.refusal(layout, second), layout[:board.n]
-        check('table_measure', reply(library.table_measure, job, table, layout), bad or board.total(table, f))
+        check(what + 'measure', reply(measure, layout), bad or board.total(table, f))
         if bad or f not in best:
-            check('table_next', reply(library.table_next, job, table, layout), bad or (10, 0, None))
+            check(what + 'next', reply(next_, layout), bad or (10, 0, None))
+    return every[:-1]
+
+def try_weights(library, job, board, weights, given):
+    """The calls by weights, Page and the listing among them."""
+    second, table = 2 if max(weights) > 1000 else 0, [] if board.bad else board.weighted(*weights)
+    calls = lambda: library.first(job, *weights), lambda f: library.next_(job, f, *weights), lambda f: library.measure(job, f, *weights)
+    every = try_calls('', calls, board, table, second, given)
+    best = [f for _, f in every]
+    binding.PAGE_SHEETS = len(best) % 4 + 1
+    check('sheets', reply(list, library.sheets(job, *weights)), board.refusal(None, second) or every)
+    for at, f in enumerate(best[:30]):
+        for sheets in 0, 1, 3, len(best):
+            check('page', library.page(job, f, sheets, *weights), best[at + 1:at + 1 + sheets])
+    for layout in given:
+        bad = board.refusal(layout, second)
+        if bad or layout[:board.n] not in best:
+            check('page', reply(library.page, job, layout, 2, *weights), bad or (10, 0, None))
+
+def try_table(library, job, board, table, given):
+    calls = lambda: library.table_first(job, table), lambda f: library.table_next(job, tuple(table), f), lambda f: library.table_measure(job, table, f)
+    try_calls('table_', calls, board, table, 13 if len(table) != board.n ** 2 else 0, given)
+
+def try_slots(library, pads, strip, weights, r):
+    """The calls on a strip of slots, with a work list that holds anything, and too short by one number."""
+    board, work = Board(pads, strip), binding.work_of(pads, strip)
+    second, table = 2 if max(weights) > 1000 else 0, [] if board.bad else board.weighted(*weights)
+    ctypes.memset(work, r.randrange(256), ctypes.sizeof(work))
+    calls = (lambda: library.slots_first(pads, strip, *weights, *r.choice([[], [work]])),
+             lambda f: library.slots_next(pads, strip, f, *weights, *r.choice([[], [work]])),
+             lambda f: library.slots_measure(pads, strip, f, *weights))
+    given = list(layouts(r, min(board.n, 5), len(strip) // 4)) if board.n else [[], [0]]
+    every = try_calls('slots_', calls, board, table, second, given)
+    check('slots_sheets', reply(list, library.slots_sheets(pads, strip, *weights)), board.refusal(None, second) or every)
+    short = (ctypes.c_uint64 * (len(work) - 1)).from_buffer(work)
+    held = bytes(work)
+    check('slots_first, a short work list', reply(library.slots_first, pads, strip, *weights, short), board.refusal(None, second, False))
+    for layout in given:
+        check('slots_next, a short work list', reply(library.slots_next, pads, strip, layout, *weights, short), board.refusal(layout, second, False))
+    check('a work list after a refusal', bytes(work), held)
+
+def on_strip(r, job):
+    """Pads and a strip of slots, made of a job: its ports and some more, or fewer; some have a fault."""
+    pads, heights = bytearray(job), [h for *_, h in struct.iter_unpack('<HHIii', job[:len(job) // 16 * 16])]
+    for at in range(12, len(job) - 3, 16):
+        struct.pack_into('<i', pads, at, r.choice([-1, 1, 2 ** 31 - 1]) if r.random() < .02 else 0)
+    for _ in range(r.randint(0, max(0, 6 - len(heights)))):
+        heights += [min(2 ** 31 - 1, max(heights, default=0) + r.randint(8, 12))]
+    if r.random() < .1:
+        heights = heights[1:]
+    if heights and r.random() < .2:
+        at = r.randrange(len(heights))
+        heights[at] = r.choice([-1000001, 1000001, -2 ** 31, heights[at - 1], heights[at - 1] + 7 * (heights[at - 1] < 1000000)])
+    strip = binding.ports_of(heights)
+    return bytes(pads), r.choice([b'', strip[:-1], strip * 129]) if r.random() < .05 else strip
 
 def tables(r, board):
     """Tables of every kind: random, with ties, with the largest figure, of weighted leaders; and of another length."""
@@ -156,32 +182,27 @@ def try_draw(library, job, board):
         check('draw', drawn, board.points(i, q) if there else (11, 0, None))
         check('a zero is positive', there and any(str(number) == '-0.0' for point in drawn for number in point), False)
 
-def layouts(r, n):
-    """Some of all: whole, spoilt, shorter, longer."""
-    f = r.sample(range(n), n)
+def layouts(r, n, p):
+    """Some of all, for n pads and p ports: whole, spoilt, shorter, longer."""
+    f = r.sample(range(max(n, p)), n)
     yield f
     yield f + [r.randrange(65536)]
     yield f[:-1]
-    yield [r.choice([q, r.randrange(n + 1), 65535]) for q in f]
+    yield [r.choice([q, r.randrange(p + 1), 65535]) for q in f]
+
+WEIGHTS = [(1, 0), (0, 0), (0, 1), (1, 1), (2, 3), (1000, 1000), (1001, 0), (0, 4294967295)]
 
 def try_job(library, job, r):
-    weights = r.choice([(1, 0), (0, 0), (0, 1), (1, 1), (2, 3), (1000, 1000), (r.randint(0, 9), r.randint(0, 9)), (1001, 0), (0, 4294967295)])
-    board, total, best = Board(job), None, []
-    bad = board.refusal(None, 2 if max(weights) > 1000 else 0)
-    if bad:
-        check('first', reply(library.first, job, *weights), bad)
-        check('sheets', reply(list, library.sheets(job, *weights)), bad)
-    else:
-        total, best = try_best(library, job, board, weights)
-    given = list(layouts(r, min(board.n, 64))) if board.n else [[], [0]]
-    for layout in given:
-        try_given(library, job, board, weights, layout, total, best)
+    weights, board = r.choice(WEIGHTS + [(r.randint(0, 9), r.randint(0, 9))]), Board(job)
+    given = list(layouts(r, min(board.n, 64), min(board.n, 64))) if board.n else [[], [0]]
+    try_weights(library, job, board, weights, given)
     for table in tables(r, board):
         try_table(library, job, board, table, given)
     if not board.bad:
         try_draw(library, job, board)
     else:
         check('draw', reply(library.draw, job, 0, 0), (*board.bad, None))
+    try_slots(library, *on_strip(r, job), weights, r)
 
 def many(n):
     """A job of many best sheets: all pads in the middle gap, half of them to be led up, half down."""
@@ -210,6 +231,14 @@ def try_numbers(library):
     for bad in -1, 65536, 2 ** 32:
         check('entry', reply(library.measure, job, [bad]), OverflowError)
         check('entry', reply(library.table_measure, job, [0], [bad]), OverflowError)
+    strip = binding.ports_of([3, 11])
+    for bad in -1, 2 ** 32:
+        check('weight', reply(library.slots_first, job, strip, bad, 0), OverflowError)
+        check('weight', reply(library.slots_next, job, strip, [0], 0, bad), OverflowError)
+        check('weight', reply(library.slots_measure, job, strip, [0], bad, 0), OverflowError)
+        check('entry', reply(library.slots_measure, job, strip, [bad]), OverflowError)
+    for bad in 16, 'x' * 16, None:
+        check('strip', reply(library.slots_measure, job, bad, [0]), TypeError)
     for bad in 0.5, None, 'x':
         check('figure', reply(library.table_first, job, [bad]), TypeError)
     for bad in 16, 'x' * 16, [0] * 16, None:
@@ -222,18 +251,22 @@ def try_numbers(library):
     check('a long list of ports', library.measure(most, list(range(1000))), sum(range(100, 164)))
     check('largest figures', library.table_first(most, iter([4294967295] * 4096))[0], 274877906880)
     check('largest figures', library.table_measure(most, [4294967295] * 4096, range(64)), 274877906880)
+    pads, strip = binding.pads_of((i, 100 + i, 8 * i) for i in range(64)), binding.ports_of(8 * q - 256 for q in range(128))
+    check('64 pads, 128 ports', library.slots_first(pads, strip), (sum(range(100, 164)), list(range(32, 96))))
+    check('64 pads, 128 ports', library.slots_next(pads, bytearray(strip), range(32, 96)), None)
+    check('129 ports', reply(library.slots_first, pads, strip + binding.ports_of([10000])), (1, 0, None))
+    check('a long list of ports', library.slots_measure(pads, strip, list(range(32, 1000))), sum(range(100, 164)))
     level = binding.job_of([(101, 10, 20, 0), (102, 20, 10, 10)])  # by this table the leaders that touch cost nothing
     check('crossing pays', library.table_first(level, [0, 1, 1, 0]), (2, [1, 0]))
     check('crossing pays', library.table_next(level, [0, 1, 1, 0], [1, 0]), None)
     check('crossing pays', reply(library.table_measure, level, [0, 1, 1, 0], [0, 1]), (9, 1, 0))
 
 def try_texts(texts):
-    check('texts', [binding.TEXTS.get(number) for number in range(1, len(texts) + 1)], texts)
-    check('texts', len(binding.TEXTS), len(texts))
-    check('text', str(binding.Refusal(12, 1)), 'refused 12 record 1: ' + texts[11])
-    check('text', str(binding.Refusal(9, 2, 0)), 'refused 9 record 2 and record 0: ' + texts[8])
+    check('texts', binding.TEXTS, texts)
+    check('text', str(binding.Refusal(12, 1)), 'refused 12 record 1: ' + texts[12])
+    check('text', str(binding.Refusal(9, 2, 0)), 'refused 9 record 2 and record 0: ' + texts[9])
     check('text', str(binding.Refusal(99, 0))[:20], 'refused 99 record 0:')
-    for number, record, earlier in itertools.product(range(1, 14), [0, 1, 63], [0, 1, 63]):
+    for number, record, earlier in itertools.product(texts, [0, 1, 63, 127], [0, 1, 63]):
         if number == 9 or not earlier:
             answer = -(4294967296 * earlier + 65536 * number + record)
             check('answer', reply(binding.taken_apart, answer), (number, record, earlier if number == 9 else None))
@@ -247,6 +280,11 @@ def try_jobs():
             job = file.read()
         records = [(a, x, y, q) for a, _, x, y, q in struct.iter_unpack('<HHIii', job)]
         check('job', (binding.job_of(records), binding.records_in(job)), (job, len(records)))
+    with open(examples + 'sensor.pads', 'rb') as pads, open(examples + 'row.ports', 'rb') as ports:
+        pads, ports = pads.read(), ports.read()
+    check('pads', binding.pads_of((a, x, y) for a, _, x, y, _ in struct.iter_unpack('<HHIii', pads)), pads)
+    check('ports', binding.ports_of(range(10, 640, 20)), ports)
+    check('work', len(binding.work_of(pads, ports)), 2 * 10 * 34 * 34)
 
 def try_program(library, texts):
     """The binding as a program: its status, and what it writes."""
@@ -257,9 +295,15 @@ def try_program(library, texts):
     says = lambda words: (2, '', 'cheremysl.py: %s\n' % words)
     check('program', program([examples + 'J3.job'], **given), (0, j3, ''))
     check('found', program([examples + 'J3.job'], LD_LIBRARY_PATH=os.path.dirname(library)), (0, j3, ''))
-    check('refused', program(['/dev/zero'], **given), (1, 'refused 1 record 0: %s\n' % texts[0], ''))
+    slots = 'total 3593: 16 17 15 14 18 9 8 23 24\ntotal 3593: 16 17 15 14 18 10 8 23 24\n'
+    slots += slots.replace('24', '25')
+    check('program', program([examples + 'sensor.pads', examples + 'row.ports'], **given), (0, slots, ''))
+    check('refused', program(['/dev/zero'], **given), (1, 'refused 1 record 0: %s\n' % texts[1], ''))
+    check('refused', program([examples + 'sensor.pads', '/dev/zero'], **given), (1, 'refused 1 record 0: %s\n' % texts[1], ''))
+    check('refused', program([examples + 'sensor.pads', '/dev/null'], **given), (1, 'refused 1 record 0: %s\n' % texts[1], ''))
     check('no file', program(['none'], **given), says("[Errno 2] No such file or directory: 'none'"))
-    check('no word', program([], **given), says('usage: cheremysl.py JOB'))
+    for words in [], ['one', 'two', 'three']:
+        check('words', program(words, **given), says('usage: cheremysl.py JOB, or cheremysl.py PADS PORTS'))
     check('no library', program([examples + 'J3.job'], CHEREMYSL_LIBRARY='/none/lib.so'),
           says('/none/lib.so: cannot open shared object file: No such file or directory'))
     with open('/dev/full', 'wb') as full:
@@ -277,7 +321,7 @@ def try_reader(library):
     check('enough', (line[:6], run.stderr.read(), run.wait()), (b'total ', b'', -signal.SIGPIPE))
 
 with open(sys.argv[1]) as file:
-    texts = file.read().splitlines()
+    texts = {int(number): text for number, text in (line.split(' ', 1) for line in file.read().splitlines())}
 try_texts(texts)
 try_jobs()
 if len(sys.argv) > 2:
@@ -290,6 +334,6 @@ if len(sys.argv) > 2:
     try_numbers(library)
     try_program(sys.argv[2], texts)
     try_reader(sys.argv[2])
-    check('refusals seen', seen, set(range(1, 14)))
+    check('refusals seen', seen, set(texts))
 print('%d passed, %d failed' % (passed, failed))
 sys.exit(failed > 0 or passed == 0)

@@ -13,8 +13,13 @@ trap 'rm -rf "$room"' EXIT
 cat >"$room/texts.c" <<'END'
 #include <cheremysl.h>
 #include <stdio.h>
+#include <string.h>
 int main(void) {
-    for (int64_t number = CHEREMYSL_BAD_SIZE; number <= CHEREMYSL_BAD_TABLE; number++) puts(cheremysl_refusal_text(-65536 * number));
+    const char *unknown = cheremysl_refusal_text(-65536 * 99);
+    for (int number = 1; number < 99; number++) {
+        const char *text = cheremysl_refusal_text(-65536 * number);
+        if (strcmp(text, unknown) != 0) printf("%d %s\n", number, text);
+    }
     return 0;
 }
 END

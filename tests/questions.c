@@ -5,23 +5,31 @@
 
 #include "boards.h"
 
-/* A random record number; any record's place in the buffer is there even if the job is shorter. */
+/* A random record or port; any one's place in the buffer is there even if the job is shorter. */
 static size_t any_record(const struct question *q) {
     return below((uint32_t)records_of(q) + (records_of(q) == 0));
 }
 
+static size_t any_port(const struct question *q) {
+    return below((uint32_t)ports_of(q) + (ports_of(q) == 0));
+}
+
 /* ---- questions that are accepted, or touch ---- */
 
-static void any_layout(const uint8_t *job, size_t n, uint16_t *layout) {
+static void any_layout(const struct question *q, uint16_t *layout) {
+    uint16_t port[MOST_PORTS];
+    size_t n = records_of(q), p = ports_of(q);
+    struct plan plan = plan_of(q);
     if (below(4)) {
-        any_untouching(job, n, layout);
+        any_untouching(&plan, layout);
         return;
     }
-    for (size_t i = 0; i < n; i++) {
+    for (size_t i = 0; i < p; i++) {
         size_t k = below((uint32_t)i + 1);
-        layout[i] = layout[k];
-        layout[k] = (uint16_t)i;
+        port[i] = port[k];
+        port[k] = (uint16_t)i;
     }
+    memcpy(layout, port, n * sizeof *layout);
 }
 
 /* A best layout: the first, or one some steps on. */
@@ -36,18 +44,40 @@ size_t any_room(size_t n) {
     return n * below(below(4) ? 4 : 21) + (below(2) ? below((uint32_t)n) : 0);
 }
 
+/* Makes an accepted job, and lends work: n pads and, if they stand apart, p ports. */
+static void any_pads(struct question *q, size_t n, size_t p) {
+    q->job_bytes = 16 * n;
+    if (!takes_slots(q->call)) {
+        make_board(q->job, n, below(BOARDS));
+        return;
+    }
+    q->port_bytes = 4 * p;
+    make_slots(q->job, n, q->ports, p, below(BOARDS));
+    lend_work(q, below(2) ? 0 : below(4));
+}
+
+/* A search on slots takes time that grows with n times p cubed: large ones are not for here. */
+static size_t any_count(enum call call) {
+    return 1 + below(below(3) ? 5 : takes_work(call) ? 10 : 64);
+}
+
+static size_t any_ports(enum call call, size_t n) {
+    size_t most = n <= 5 ? PLAIN_PORTS : takes_work(call) ? n + 4 : MOST_PORTS;
+    return n + below((uint32_t)(most - n) + 1);
+}
+
 void sound_question(struct question *q, enum call call) {
     static uint32_t table[TABLE_ROOM];
-    size_t n = 1 + below(below(3) ? 5 : 64);
+    size_t n = any_count(call);
     memset(q, 0, sizeof *q);
     q->call = call;
     for (size_t k = 0; k < JOB_ROOM; k++) q->job[k] = (uint8_t)below(256);
+    for (size_t k = 0; k < PORTS_ROOM; k++) q->ports[k] = (uint8_t)below(256);
     for (size_t k = 0; k < LIST_ROOM; k++) {
         uint32_t bits = any_bits();
         memcpy(q->list.points + k, &bits, sizeof bits);
     }
-    make_board(q->job, n, below(BOARDS));
-    q->job_bytes = 16 * n;
+    any_pads(q, n, any_ports(call, n));
     q->count = (q->call == DRAW ? 6 : n) + below(4);
     any_weights(&q->a, &q->b);
     if (q->call == DRAW) {
@@ -58,21 +88,25 @@ void sound_question(struct question *q, enum call call) {
     if (takes_best(call) && n <= 5 && below(2))
         best_layout(q, q->list.layout);
     else if (takes_layout(call))
-        any_layout(q->job, n, q->list.layout);
+        any_layout(q, q->list.layout);
     if (call == PAGE) lend_page(q, any_room(n));
 }
 
-void sound_job(struct question *q, size_t n) {
+void sound_job_of(struct question *q, enum call call, size_t n, size_t p) {
     static uint32_t table[TABLE_ROOM];
-    make_board(q->job, n, below(BOARDS));
-    q->job_bytes = 16 * n;
+    q->call = call;
+    any_pads(q, n, p);
     q->count = n + below(3);
     any_weights(&q->a, &q->b);
-    lend_table(q, table, below(FIGURES));
+    if (!takes_slots(call)) lend_table(q, table, below(FIGURES));
     uint32_t noise = below(2) ? 65536 : 8;
     for (size_t k = 0; k < LIST_ROOM; k++) q->list.layout[k] = (uint16_t)below(noise);
     lend_page(q, any_room(n));
-    q->call = below(3) ? FIRST : TABLE_FIRST;
+}
+
+void sound_job(struct question *q, size_t n, size_t most) {
+    static const enum call calls[] = {FIRST, FIRST, TABLE_FIRST, SLOTS_FIRST};
+    sound_job_of(q, calls[below(4)], n, n + below((uint32_t)(most - n) + 1));
 }
 
 /* ---- damage ---- */
@@ -82,36 +116,49 @@ static int64_t far_out(void) {
     return below(4) ? values[below(5)] : (int64_t)any_bits();
 }
 
+/* Another number of ports, which may be too few. */
+static void damage_ports(struct question *q) {
+    static const size_t sizes[] = {0, 3, 5, 511, 513, 516, PORTS_ROOM};
+    if (below(2))
+        q->port_bytes = 4 * below((uint32_t)records_of(q) + 1);
+    else
+        q->port_bytes = below(2) ? sizes[below(7)] : below(PORTS_ROOM + 1);
+}
+
 static void damage_size(struct question *q) {
     static const size_t sizes[] = {0, 15, 17, 1023, 1025, 1040, JOB_ROOM};
-    q->job_bytes = below(2) ? sizes[below(7)] : below(JOB_ROOM + 1);
+    if (takes_slots(q->call) && below(3))
+        damage_ports(q);
+    else
+        q->job_bytes = below(2) ? sizes[below(7)] : below(JOB_ROOM + 1);
 }
 
 static void damage_field(struct question *q) {
     size_t i = any_record(q);
-    switch (below(7)) {
+    switch (below(8)) {
     case 0: put_reserved(q->job, i, below(2) ? 1u << below(16) : below(65536)); break;
     case 1: put_x(q->job, i, below(2) ? 0 : far_out()); break;
     case 2: put_y(q->job, i, far_out()); break;
     case 3: put_port(q->job, i, far_out()); break;
     case 4: q->job[16 * i + below(16)] = (uint8_t)below(256); break;
     case 5: q->job[16 * i + below(16)] ^= (uint8_t)(1 << below(8)); break;
+    case 6: set_port(q, any_port(q), far_out()); break;
     default: put_number(q->job + 16 * i, 4, any_bits());
     }
 }
 
 static void damage_against_another(struct question *q) {
-    size_t i = any_record(q), j = any_record(q);
-    int64_t port = get_port(q->job, i);
+    size_t i = any_record(q), j = any_record(q), one = any_port(q), other = any_port(q);
+    int64_t port = port_of(q, one);
     switch (below(6)) {
     case 0: put_name(q->job, i, get_name(q->job, j)); break;
     case 1: put_x(q->job, i, get_x(q->job, j)); break;
-    case 2: put_port(q->job, i, get_port(q->job, j) - below(2)); break;
-    case 3: put_y(q->job, i, get_port(q->job, j)); break;
-    case 4: put_port(q->job, i, get_port(q->job, i - (i > 0)) + 6 + below(4)); break;
+    case 2: set_port(q, one, port_of(q, other) - below(2)); break;
+    case 3: put_y(q->job, i, port); break;
+    case 4: set_port(q, one, port_of(q, one - (one > 0)) + 6 + below(4)); break;
     default:
-        put_port(q->job, i, get_port(q->job, j));
-        put_port(q->job, j, port);
+        set_port(q, one, port_of(q, other));
+        set_port(q, other, port);
     }
 }
 
@@ -120,7 +167,7 @@ static void damage_entries(struct question *q) {
     uint16_t *list = q->list.layout, kept = list[i];
     if (q->call == DRAW) return;
     switch (below(4)) {
-    case 0: list[i] = (uint16_t)(records_of(q) + below(2)); break;
+    case 0: list[i] = (uint16_t)(ports_of(q) + below(2)); break;
     case 1: list[i] = (uint16_t)any_bits(); break;
     case 2: list[i] = list[j]; break;
     default:
@@ -142,10 +189,21 @@ static void damage_table(struct question *q) {
     }
 }
 
-/* The numbers, or the table that a call has in their place. */
+/* A work list of one number too few, of any length up to that, of just enough, of more. */
+static void damage_work(struct question *q) {
+    lend_work(q, 0);
+    size_t enough = q->numbers, others[] = {enough - 1, 0, below((uint32_t)enough), enough};
+    q->numbers = below(5) ? others[below(4)] : enough + below(9);
+}
+
+/* The numbers, or the table that a call has in their place; or the work list. */
 static void damage_numbers(struct question *q) {
     if (takes_table(q->call)) {
         damage_table(q);
+        return;
+    }
+    if (takes_work(q->call) && below(2)) {
+        damage_work(q);
         return;
     }
     uint32_t *number = below(2) ? &q->a : &q->b;

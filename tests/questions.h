@@ -10,8 +10,12 @@
  */
 void sound_question(struct question *q, enum call call);
 
-/* First on an accepted job of n pads, by weights or by a table, which stands until the next job. */
-void sound_job(struct question *q, size_t n);
+/*
+ * First on an accepted job of n pads, by weights, by a table, which stands until the next job, or
+ * on n to `most` slots; one of these, on p slots.
+ */
+void sound_job(struct question *q, size_t n, size_t most);
+void sound_job_of(struct question *q, enum call call, size_t n, size_t p);
 
 /* Changes one thing; the question may then deserve a refusal, or another. */
 void damage(struct question *q);

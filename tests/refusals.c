@@ -2,7 +2,8 @@
  * Every refusal of every call, at every record and in every way; every pair of refusals that one
  * input can deserve, wherever both stand; and all of them at once, mended one by one. Each time
  * nothing is written, and Page refuses alike with room for some and with room for none. Tables of
- * other lengths than the right one, for 1 to 64 pads, and of lengths that no memory has.
+ * other lengths than the right one, for 1 to 64 pads, and of lengths that no memory has. Work lists
+ * of just enough numbers and of one too few, for up to 64 pads and 128 ports.
  */
 #include <stdio.h>
 #include <string.h>
@@ -11,11 +12,13 @@
 #include "trial.h"
 
 #define N 6
-#define WAYS 6
+#define P 7 /* ports, where they stand apart */
+#define WAYS 8
 
 /*
  * Records 0 to 3 are straight; 4 and 5 are a pair that can be led both ways without touching, one
- * way longer than the other. The layout is best: pad i to port i. The table has the lengths.
+ * way longer than the other. The layout is best: pad i to port i. The table has the lengths. Ports
+ * that stay free are far above.
  */
 static struct question good(enum call call) {
     static const int64_t x[N] = {30, 10, 40, 20, 50, 60}, y[N] = {0, 10, 20, 30, 45, 90};
@@ -25,8 +28,11 @@ static struct question good(enum call call) {
     q.call = call;
     q.job_bytes = 16 * N;
     q.count = N + 2;
-    for (size_t i = 0; i < N; i++)
-        put_record(q.job, i, 101 + (int64_t)i, x[i], y[i], 10 * (int64_t)i);
+    q.port_bytes = 4 * P;
+    for (size_t i = 0; i < N; i++) put_record(q.job, i, 101 + (int64_t)i, x[i], y[i], 0);
+    for (size_t i = 0; i < ports_of(&q); i++)
+        set_port(&q, i, 10 * (int64_t)i + (i < N ? 0 : 100000));
+    if (takes_work(call)) lend_work(&q, 0);
     memset(&q.list, 0xC3, sizeof q.list);
     lend_page(&q, 2 * N + 1);
     if (call == DRAW) {
@@ -52,13 +58,48 @@ static void swap_entries(struct question *q, size_t i, size_t j) {
 /* The earlier record whose leader record i's will touch. */
 static size_t touched_by(size_t i, int way) { return way == 0 ? i - 1 : 0; }
 
-static void bad_field(struct question *q, size_t i, int way) {
+/* The last two ways are of pads and ports that stand apart; a port may have no record. */
+static bool bad_field(struct question *q, size_t i, int way) {
     if (way == 0) put_reserved(q->job, i, 1);
     if (way == 1) put_x(q->job, i, 0);
     if (way == 2) put_x(q->job, i, 1000001);
     if (way == 3) put_y(q->job, i, -1000001);
     if (way == 4) put_y(q->job, i, 1000001);
-    if (way == 5) put_port(q->job, i, i == 0 ? -1000001 : 1000001);
+    if (way == 5) set_port(q, i, i == 0 ? -1000001 : 1000001);
+    if (way >= 6) put_port(q->job, i, way == 6 ? 1 : -16777216);
+    return (way < 6 || takes_slots(q->call)) && (i < N || way == 5);
+}
+
+/* Of the job; then, if there is one, of the list of ports. */
+static bool bad_size(struct question *q, int way) {
+    static const size_t sizes[6] = {16 * N + 1, 16 * N + 15, 0, 1040, 1025, 16 * N - 1};
+    static const size_t port_sizes[6] = {4 * P + 1, 4 * P + 3, 0, 516, 513, 4 * P - 1};
+    if (way >= 6)
+        q->port_bytes = port_sizes[way - 6];
+    else
+        q->job_bytes = sizes[way];
+    return way < 6 || takes_slots(q->call);
+}
+
+/* A work list of one number too few, or far fewer. */
+static void short_work(struct question *q, int way) {
+    size_t p2 = (P + 2) * (P + 2), enough = 2 * (N + 1) * p2;
+    size_t others[WAYS] = {enough - 1, 0, 1, enough / 2, 2 * N * p2, enough - p2,
+                           2 * (N + 1) * (P + 1) * (P + 1), enough - 2};
+    q->numbers = others[way];
+}
+
+/* Those of the whole input name record 0. */
+static bool is_whole(int number) {
+    return number <= 3 || number == 10 || number == 11 || number == 13 || number >= 14;
+}
+
+/* Ports stand in records, or there are more of them. */
+static bool is_there(const struct question *q, int number, size_t i) {
+    bool of_port = number == 4 || number == 5 || number == 12;
+    bool needs_earlier = number >= 5 && number != 8;
+    if (is_whole(number)) return i == 0;
+    return i < (of_port ? ports_of(q) : N) && (i > 0 || !needs_earlier);
 }
 
 /*
@@ -66,29 +107,29 @@ static void bad_field(struct question *q, size_t i, int way) {
  * False if there is no such record or way.
  */
 static bool spoil(struct question *q, int number, size_t i, int way) {
-    static const size_t sizes[WAYS] = {16 * N + 1, 16 * N + 15, 0, 1040, 1025, 16 * N - 1};
     static const int64_t weights[2] = {1001, UINT32_MAX};
-    static const size_t tables[WAYS] = {N * N - 1, N * N + 1, 0, N, (N + 1) * (N + 1), 64 * 64};
-    bool whole = number <= 3 || number == 10 || number == 11 || number == 13;
-    bool needs_earlier = number >= 5 && number != 8 && !whole;
-    if ((whole && i > 0) || (needs_earlier && i == 0)) return false;
+    static const size_t tables[WAYS] = {N * N - 1, N * N + 1, 0, N, (N + 1) * (N + 1), 64 * 64,
+                                        N * P, P * P};
+    if (!is_there(q, number, i)) return false;
     switch (number) {
-    case 1: q->job_bytes = sizes[way]; return true;
+    case 1: return bad_size(q, way);
     case 2: *(way % 2 ? &q->a : &q->b) = (uint32_t)weights[way / 2 % 2]; return way < 4;
-    case 3: q->count = (size_t)way; return true;
-    case 4: bad_field(q, i, way); return true;
-    case 5: put_port(q->job, i, get_port(q->job, i - 1) - way); return way < 2;
+    case 3: q->count = (size_t)way; return way < N;
+    case 4: return bad_field(q, i, way);
+    case 5: set_port(q, i, port_of(q, i - 1) - way); return way < 2;
     case 6: put_name(q->job, i, get_name(q->job, copied_from(i, way))); return way < 2;
     case 7: put_x(q->job, i, get_x(q->job, copied_from(i, way))); return way < 2;
     case 8:
-        if (way < 2) q->list.layout[i] = way ? 65535 : N;
+        if (way < 2) q->list.layout[i] = way ? 65535 : (uint16_t)ports_of(q);
         if (way >= 2 && i > 0) q->list.layout[i] = q->list.layout[copied_from(i, way)];
         return way < (i > 0 ? 4 : 2);
     case 9: swap_entries(q, touched_by(i, way), i); return i < 4 && way < (i == 2 ? 2 : 1);
     case 10: swap_entries(q, 4, 5); return way == 0;
     case 11: *(way % 2 ? &q->a : &q->b) = way < 2 ? N : UINT32_MAX; return way < 4;
-    case 12: put_port(q->job, i, get_port(q->job, i - 1) + (way ? 1 : 7)); return way < 2;
+    case 12: set_port(q, i, port_of(q, i - 1) + (way ? 1 : 7)); return way < 2;
     case 13: q->figures = tables[way]; return true;
+    case 14: q->port_bytes = 4 * (size_t)(N - 1 - way); return way < N - 1;
+    case 24: short_work(q, way); return true;
     default: return false;
     }
 }
@@ -105,7 +146,7 @@ static void is_refused(struct question q, int number, int record) {
 
 /* Each refusal alone. */
 static void alone(enum call call, int number) {
-    for (size_t i = 0; i < N; i++)
+    for (size_t i = 0; i < P; i++)
         for (int way = 0; way < WAYS; way++) {
             struct question q = good(call);
             if (!spoil(&q, number, i, way)) continue;
@@ -116,14 +157,14 @@ static void alone(enum call call, int number) {
         }
 }
 
-/* Two refusals, the first checked before the other; how many inputs deserved both. */
-static long both(enum call call, int one, int other) {
+/* A question that deserves one refusal made to deserve another, which is checked later. */
+static long spoilt_more(const struct question *spoilt, int one, int other) {
     long deserved = 0;
-    for (int k = 0; k < N * WAYS * N * WAYS; k++) {
-        size_t i = (size_t)(k % N), j = (size_t)(k / N % N);
-        int way = k / N / N % WAYS, other_way = k / N / N / WAYS;
-        struct question q = good(call);
-        if (!spoil(&q, one, i, way) || !spoil(&q, other, j, other_way)) continue;
+    for (int k = 0; k < P * WAYS; k++) {
+        size_t i = (size_t)(k % P);
+        if (!is_there(spoilt, other, i)) continue;
+        struct question q = *spoilt;
+        if (!spoil(&q, other, i, k / P)) continue;
         if (fault_of(&q, one) < 0 || fault_of(&q, other) < 0) continue;
         deserved++;
         is_refused(q, one, fault_of(&q, one));
@@ -131,9 +172,22 @@ static long both(enum call call, int one, int other) {
     return deserved;
 }
 
-/* 10 is about the total of a layout with no touching pair: not where 3, 8, 9 or 13 is deserved. */
+/* Two refusals, the first checked before the other; how many inputs deserved both. */
+static long both(enum call call, int one, int other) {
+    long deserved = 0;
+    struct question sound = good(call);
+    for (int k = 0; k < P * WAYS; k++) {
+        size_t i = (size_t)(k % P);
+        struct question q = sound;
+        if (!is_there(&q, one, i) || !spoil(&q, one, i, k / P)) continue;
+        deserved += spoilt_more(&q, one, other);
+    }
+    return deserved;
+}
+
+/* 10 is of a layout that has all its ports and no touching pair, and with it its total. */
 static bool exclude_each_other(int one, int other) {
-    return other == 10 && (one == 3 || one == 8 || one == 9 || one == 13);
+    return other == 10 && (one == 3 || one == 8 || one == 9 || one == 13 || one == 14);
 }
 
 static void pairs(enum call call) {
@@ -157,7 +211,7 @@ static void longer_and_wrong(enum call call) {
 
 /* Earlier checks at later records, as far as can be: a 12 at record 3 would mend the 5 at 4. */
 static size_t record_for(int number) {
-    static const size_t records[PLAIN_REFUSALS] = {0, 0, 0, 0, 5, 4, 3, 2, 1, 3, 0, 0, 5, 0};
+    static const size_t records[PLAIN_REFUSALS] = {0, 0, 0, 0, 5, 4, 3, 2, 1, 3, 0, 0, 5};
     return records[number];
 }
 
@@ -169,6 +223,18 @@ static void mended_one_by_one(enum call call) {
             spoil(&q, *number, record_for(*number), 0);
         is_refused(q, *unmended, (int)record_for(*unmended));
     }
+}
+
+/* 4 of the last pad comes before that of the first port, and 4 of the last port before 5. */
+static void pads_and_then_ports(enum call call) {
+    struct question q = good(call);
+    set_port(&q, 1, 0);
+    set_port(&q, P - 1, 1000001);
+    is_refused(q, 4, P - 1);
+    set_port(&q, 0, -1000001);
+    is_refused(q, 4, 0);
+    put_y(q.job, N - 1, 1000001);
+    is_refused(q, 4, N - 1);
 }
 
 /* ---- tables of another length ---- */
@@ -215,6 +281,58 @@ static void endless_tables(enum call call) {
     }
 }
 
+/* ---- work lists of another length ---- */
+
+/* Straight leaders of n pads to the first of p ports. */
+static struct question strip_of(enum call call, size_t n, size_t p) {
+    struct question q = good(call);
+    q.job_bytes = 16 * n;
+    q.port_bytes = 4 * p;
+    q.count = n;
+    for (size_t i = 0; i < n; i++) put_record(q.job, i, 0, 1 + (int64_t)i, 10 * (int64_t)i, 0);
+    for (size_t i = 0; i < p; i++) set_port(&q, i, 10 * (int64_t)i);
+    lend_work(&q, 0);
+    return q;
+}
+
+/* Fewer numbers are refused before the pads are looked at; just enough are not. */
+static void work_lengths(enum call call, size_t n, size_t p) {
+    struct question q = strip_of(call, n, p);
+    size_t enough = q.numbers, layer = (p + 2) * (p + 2);
+    size_t fewer[] = {enough - 1, 0, enough / 2, enough - layer, enough - 2 * layer,
+                      2 * (n + 1) * (p + 1) * (p + 2)};
+    put_x(q.job, n - 1, 0);
+    is_refused(q, 4, (int)n - 1);
+    for (size_t k = 0; k < sizeof fewer / sizeof *fewer; k++) {
+        q.numbers = fewer[k];
+        is_refused(q, 24, 0);
+    }
+}
+
+/* Lengths that no memory has, as below: they are enough, and a refusal writes nothing. */
+static void endless_work(enum call call) {
+    struct question q = strip_of(call, N, P);
+    put_x(q.job, 0, 0);
+    for (int bit = 24; bit < 64; bit++) {
+        q.numbers = (size_t)1 << bit;
+        is_refused(q, 4, 0);
+    }
+    q.numbers = SIZE_MAX;
+    is_refused(q, 4, 0);
+}
+
+static void works(enum call call) {
+    static const size_t some[] = {1, 2, 3, 7, 16, 31, 63, 64, 65, 100, 127, 128};
+    for (size_t k = 0; k < sizeof some / sizeof *some; k++)
+        for (size_t n = 1; n <= 64 && n <= some[k]; n += 1 + n / 2) work_lengths(call, n, some[k]);
+    for (size_t n = 60; n <= 64; n++) work_lengths(call, n, 128);
+    endless_work(call);
+    for (size_t n = 1; n <= 12; n += 1 + n / 2) {
+        struct question q = strip_of(call, n, n + n % 3);
+        check(ask(&q, AT_END).answer >= -1, &q, "just enough numbers");
+    }
+}
+
 /* Nothing at all: NULL with 0 for every list. */
 static void nothing(enum call call) {
     struct question q;
@@ -231,6 +349,8 @@ int main(void) {
         pairs(call);
         if (takes_layout(call)) longer_and_wrong(call);
         mended_one_by_one(call);
+        if (takes_slots(call)) pads_and_then_ports(call);
+        if (takes_work(call)) works(call);
         if (!takes_table(call)) continue;
         for (size_t n = 1; n <= 64; n++) table_lengths(call, n);
         endless_tables(call);

@@ -7,19 +7,30 @@ def points(x, y, q):
     lo, hi = min(y, q), max(y, q)
     return {(x, h) for h in range(lo, hi + 1)} | {(w, q) for w in range(x + 1)}
 
-def refusal(job):
-    if len(job) == 0 or len(job) % 16 or len(job) > 1024:
+def heights(job, strip=None):
+    """Of a job's ports, or of those of a strip of slots."""
+    return [h for h, in struct.iter_unpack('<i', strip)] if strip is not None else [r[4] for r in struct.iter_unpack('<HHIii', job)]
+
+def refusal(job, strip=None):
+    """That of a job; with a strip, of a job of the second form: its pads, and a list of port heights."""
+    if len(job) == 0 or len(job) % 16 or len(job) > 1024 or strip is not None and (len(strip) == 0 or len(strip) % 4 or len(strip) > 512):
         return 1, 0
     rs = [struct.unpack_from('<HHIii', job, 16 * i) for i in range(len(job) // 16)]
+    ports = heights(job, strip)
+    if len(ports) < len(rs):
+        return 14, 0
     for i, (name, reserved, x, y, q) in enumerate(rs):
-        if reserved or not 1 <= x <= 1000000 or abs(y) > 1000000 or abs(q) > 1000000:
+        if reserved or not 1 <= x <= 1000000 or abs(y) > 1000000 or abs(q) > (1000000 if strip is None else 0):
             return 4, i
-    for i in range(1, len(rs)):
-        if rs[i][4] <= rs[i - 1][4]:
-            return 5, i
-    for i in range(1, len(rs)):
-        if rs[i][4] - rs[i - 1][4] < 8:
-            return 12, i
+    for q in range(len(ports)):
+        if abs(ports[q]) > 1000000:
+            return 4, q
+    for q in range(1, len(ports)):
+        if ports[q] <= ports[q - 1]:
+            return 5, q
+    for q in range(1, len(ports)):
+        if ports[q] - ports[q - 1] < 8:
+            return 12, q
     for i in range(len(rs)):
         if rs[i][0] and rs[i][0] in [r[0] for r in rs[:i]]:
             return 6, i

@@ -11,14 +11,19 @@ struct record {
     int x, y, port;
 };
 
+/* As many ports as pads, also where they stand apart. */
 static struct question about(enum call call, size_t n, const struct record *records) {
     static uint32_t table[TABLE_ROOM];
     struct question q;
     memset(&q, 0, sizeof q);
     q.call = call;
     q.job_bytes = 16 * n;
-    for (size_t i = 0; i < n; i++)
-        put_record(q.job, i, 101 + (int64_t)i, records[i].x, records[i].y, records[i].port);
+    q.port_bytes = 4 * n;
+    for (size_t i = 0; i < n; i++) {
+        put_record(q.job, i, 101 + (int64_t)i, records[i].x, records[i].y, 0);
+        set_port(&q, i, records[i].port);
+    }
+    lend_work(&q, 0);
     for (size_t k = 0; k < LIST_ROOM; k++) q.list.layout[k] = (uint16_t)(KEPT + k);
     q.count = n + 2;
     lend_page(&q, 2 * n + 1);
@@ -163,6 +168,68 @@ static const struct {
      TOUCHING(1, 0), NONE},
 };
 
+/* The same on slots: pads, and ports that stand apart. */
+static const struct {
+    const char *mark;
+    const struct record *pads;
+    size_t n;
+    int ports[4];
+    size_t p;
+    enum call call;
+    uint32_t length_weight, bend_weight;
+    int given[3];
+    int64_t answer;
+    int written[3];
+} slots_sheets[] = {
+    {"a free slot", J1, 1, {3, 13}, 2, SLOTS_FIRST, 1, 0, NONE, 5, {0}},
+    {"a free slot", J1, 1, {3, 13}, 2, SLOTS_NEXT, 1, 0, {0}, END, NONE},
+    {"a free slot", J1, 1, {3, 13}, 2, SLOTS_NEXT, 1, 0, {1}, REFUSED(10, 0), NONE},
+    {"a free slot", J1, 1, {3, 13}, 2, SLOTS_MEASURE, 1, 0, {1}, 15, NONE},
+    {"a free slot", J1, 1, {3, 13}, 2, SLOTS_MEASURE, 1, 0, {2}, REFUSED(8, 0), NONE},
+    {"free below", J1, 1, {-7, 3}, 2, SLOTS_FIRST, 1, 0, NONE, 5, {1}},
+    {"J2, a third port", J2, 2, {10, 20, 30}, 3, SLOTS_FIRST, 1, 0, NONE, 40, {0, 2}},
+    {"J2, a third port", J2, 2, {10, 20, 30}, 3, SLOTS_NEXT, 1, 0, {0, 2}, END, NONE},
+    {"J2, a third port", J2, 2, {10, 20, 30}, 3, SLOTS_NEXT, 1, 0, {0, 1}, REFUSED(10, 0), NONE},
+    {"J2, a third port", J2, 2, {10, 20, 30}, 3, SLOTS_NEXT, 1, 0, {1, 0}, TOUCHING(1, 0), NONE},
+    {"J3, a third port", J3, 2, {10, 20, 30}, 3, SLOTS_FIRST, 1, 0, NONE, 40, {1, 0}},
+    {"J3, a third port", J3, 2, {10, 20, 30}, 3, SLOTS_NEXT, 1, 0, {1, 0}, 40, {0, 1}},
+    {"J3, a third port", J3, 2, {10, 20, 30}, 3, SLOTS_NEXT, 1, 0, {0, 1}, END, NONE},
+    {"J3, a third port", J3, 2, {10, 20, 30}, 3, SLOTS_NEXT, 1, 0, {0, 2}, REFUSED(10, 0), NONE},
+    {"J3, a third port", J3, 2, {10, 20, 30}, 3, SLOTS_MEASURE, 1, 0, {2, 0}, 50, NONE},
+    {"J3, a third port", J3, 2, {10, 20, 30}, 3, SLOTS_MEASURE, 1, 0, {2, 1}, TOUCHING(1, 0), NONE},
+    {"J3, a third port", J3, 2, {10, 20, 30}, 3, SLOTS_NEXT, 1, 0, {2, 2}, REFUSED(8, 1), NONE},
+    {"J3, a third port", J3, 2, {10, 20, 30}, 3, SLOTS_NEXT, 1, 0, {0, 3}, REFUSED(8, 1), NONE},
+    /* With weights 0, 0 every untouching layout is best, the ones with a gap too. */
+    {"J3, weights 0, 0", J3, 2, {10, 20, 30}, 3, SLOTS_FIRST, 0, 0, NONE, 0, {1, 0}},
+    {"J3, weights 0, 0", J3, 2, {10, 20, 30}, 3, SLOTS_NEXT, 0, 0, {1, 0}, 0, {2, 0}},
+    {"J3, weights 0, 0", J3, 2, {10, 20, 30}, 3, SLOTS_NEXT, 0, 0, {2, 0}, 0, {0, 1}},
+    {"J3, weights 0, 0", J3, 2, {10, 20, 30}, 3, SLOTS_NEXT, 0, 0, {0, 1}, 0, {0, 2}},
+    {"J3, weights 0, 0", J3, 2, {10, 20, 30}, 3, SLOTS_NEXT, 0, 0, {0, 2}, 0, {1, 2}},
+    {"J3, weights 0, 0", J3, 2, {10, 20, 30}, 3, SLOTS_NEXT, 0, 0, {1, 2}, END, NONE},
+    /* A free port may save a bend, or all of them. */
+    {"level pad", level_pad, 2, {0, 10, 20}, 3, SLOTS_FIRST, 1, 1, NONE, 30, {2, 1}},
+    {"J5, a fourth port", J5, 3, {0, 10, 20, 30}, 4, SLOTS_FIRST, 2, 3, NONE, 120, {1, 2, 3}},
+    {"J5, a fourth port", J5, 3, {0, 10, 20, 30}, 4, SLOTS_MEASURE, 2, 3, {1, 2, 0}, 183, NONE},
+    {"J5, a fourth port", J5, 3, {0, 10, 20, 30}, 4, SLOTS_MEASURE, 1, 0, {1, 0, 2}, TOUCHING(2, 1),
+     NONE},
+    /* As many ports as pads: P5, P6, P7, P11, P12. */
+    {"P5", J3, 2, {10, 20}, 2, SLOTS_FIRST, 1, 0, NONE, 40, {1, 0}},
+    {"P6", J3, 2, {10, 20}, 2, SLOTS_NEXT, 1, 0, {1, 0}, 40, {0, 1}},
+    {"P7", J3, 2, {10, 20}, 2, SLOTS_NEXT, 1, 0, {0, 1}, END, NONE},
+    {"P11", J5, 3, {0, 10, 20}, 3, SLOTS_FIRST, 2, 3, NONE, 183, {1, 2, 0}},
+    {"P12", J5, 3, {0, 10, 20}, 3, SLOTS_MEASURE, 1, 0, {0, 1, 2}, TOUCHING(1, 0), NONE},
+    /* Too few of them, also where the one that there is will not do. */
+    {"one port", J3, 2, {10}, 1, SLOTS_FIRST, 1, 0, NONE, REFUSED(14, 0), NONE},
+    {"one port", J3, 2, {1000001}, 1, SLOTS_NEXT, 1, 0, {0, 1}, REFUSED(14, 0), NONE},
+    {"one port", J3, 2, {10}, 1, SLOTS_MEASURE, 1, 0, {0, 1}, REFUSED(14, 0), NONE},
+    {"no port", J3, 2, {0}, 0, SLOTS_MEASURE, 1, 0, {0, 1}, REFUSED(1, 0), NONE},
+    /* The port's number, also where no record has it. */
+    {"7 apart", J1, 1, {3, 11, 18}, 3, SLOTS_FIRST, 1, 0, NONE, REFUSED(12, 2), NONE},
+    {"8 apart", J1, 1, {3, 11, 19}, 3, SLOTS_FIRST, 1, 0, NONE, 5, {0}},
+    {"falling", J1, 1, {3, 10, 2}, 3, SLOTS_MEASURE, 1, 0, {0}, REFUSED(5, 2), NONE},
+    {"too high", J1, 1, {3, 0, 1000001}, 3, SLOTS_MEASURE, 1, 0, {0}, REFUSED(4, 2), NONE},
+};
+
 static void put_layout(uint16_t *list, const int *layout, size_t n) {
     if (layout[0] < 0) return;
     for (size_t i = 0; i < n; i++) list[i] = (uint16_t)layout[i];
@@ -197,6 +264,20 @@ static void worked_tables(void) {
         memcpy(q.table, table_sheets[k].figures, sizeof table_sheets[k].figures);
         worked(q, table_sheets[k].mark, table_sheets[k].given, table_sheets[k].answer,
                table_sheets[k].written);
+    }
+}
+
+static void worked_slots(void) {
+    for (size_t k = 0; k < sizeof slots_sheets / sizeof *slots_sheets; k++) {
+        if (slots_sheets[k].call >= CALLS) continue;
+        struct question q = about(slots_sheets[k].call, slots_sheets[k].n, slots_sheets[k].pads);
+        q.port_bytes = 4 * slots_sheets[k].p;
+        for (size_t i = 0; i < slots_sheets[k].p; i++) set_port(&q, i, slots_sheets[k].ports[i]);
+        lend_work(&q, 0);
+        q.a = slots_sheets[k].length_weight;
+        q.b = slots_sheets[k].bend_weight;
+        worked(q, slots_sheets[k].mark, slots_sheets[k].given, slots_sheets[k].answer,
+               slots_sheets[k].written);
     }
 }
 
@@ -320,8 +401,7 @@ static void is_straight(const struct question *q) {
     int64_t n = (int64_t)records_of(q);
     int64_t none_follows = q->call == PAGE ? 0 : END;
     struct reply r = keeps(q, takes_best(q->call) ? none_follows : 5 * n * (n + 1));
-    bool first = q->call == FIRST || q->call == TABLE_FIRST;
-    for (int64_t i = 0; i < n && first; i++) r.list.layout[i] = (uint16_t)i;
+    for (int64_t i = 0; i < n && gives_first(q->call); i++) r.list.layout[i] = (uint16_t)i;
     if (q->call == DRAW)
         drawn(q, 2, (const uint32_t[]){0x40200000, 0, 0, 0});
     else
@@ -351,6 +431,83 @@ static void sizes(enum call call) {
     is_refused(&q, 1, 0);
     q.job_bytes = 1023;
     is_refused(&q, 1, 0);
+}
+
+/* 4 to 512 bytes of ports, in fours. */
+static void port_sizes(enum call call) {
+    static const size_t bad[] = {0, 1, 3, 5, 15, 17, 511, 513, 516, 520, PORTS_ROOM};
+    if (!takes_slots(call)) return;
+    struct question q = good(call, 3);
+    for (size_t k = 0; k < sizeof bad / sizeof *bad; k++) {
+        q.port_bytes = bad[k];
+        is_refused(&q, 1, 0);
+    }
+    q.job_bytes = 0;
+    is_refused(&q, 1, 0);
+    q.port_bytes = 0;
+    is_refused(&q, 1, 0);
+}
+
+/* Straight leaders to the first ports of so many. */
+static struct question on_strip(enum call call, size_t n, size_t p, int apart) {
+    struct question q = spaced(call, n, apart);
+    q.port_bytes = 4 * p;
+    for (size_t i = n; i < p; i++) set_port(&q, i, apart * (int64_t)i);
+    lend_work(&q, 0);
+    return q;
+}
+
+/* Straight leaders of eight pads to eight of 128 ports, from some port on. */
+static void straight_from(enum call call, uint16_t port) {
+    struct question q = on_strip(call, 8, 128, 8);
+    struct reply r = keeps(&q, takes_best(call) ? END : 5 * 8 * 9);
+    for (uint16_t i = 0; i < 8; i++) {
+        put_y(q.job, i, port_of(&q, port + i));
+        if (takes_layout(call)) q.list.layout[i] = port + i;
+        r.list.layout[i] = port + i;
+    }
+    expect(&q, r);
+}
+
+/* 128 ports, of which any may be at fault, and 129; as many ports as pads, and one fewer. */
+static void strips(enum call call) {
+    if (!takes_slots(call)) return;
+    struct question q;
+    for (uint16_t port = 0; port <= 120; port += 24) straight_from(call, port);
+    for (size_t i = 1; i < 128; i += 1 + i / 3) {
+        q = on_strip(call, 3, 128, 8);
+        set_port(&q, i, port_of(&q, i) - 1);
+        is_refused(&q, 12, (int)i);
+        set_port(&q, i, port_of(&q, i - 1));
+        is_refused(&q, 5, (int)i);
+        set_port(&q, i, i % 2 ? 1000001 : -1000001);
+        is_refused(&q, 4, (int)i);
+    }
+    q = on_strip(call, 3, 129, 8);
+    is_refused(&q, 1, 0);
+    for (size_t n = 1; n <= 64; n += 1 + n / 2) {
+        q = on_strip(call, n, n, 10);
+        q.port_bytes -= 4;
+        is_refused(&q, n == 1 ? 1 : 14, 0);
+    }
+}
+
+/* Just enough numbers, more of them, and fewer. */
+static void works(enum call call) {
+    if (!takes_work(call)) return;
+    struct question q = on_strip(call, 3, 5, 10);
+    size_t enough = q.numbers;
+    check(enough == 392, &q, "2 times 4 times 7 times 7");
+    for (q.numbers = enough; q.numbers < enough + 40; q.numbers += 13) passes(&q);
+    for (q.numbers = 0; q.numbers < enough; q.numbers += 17) is_refused(&q, 24, 0);
+    q.numbers = enough - 1;
+    is_refused(&q, 24, 0);
+    put_x(q.job, 0, 0);
+    is_refused(&q, 24, 0);
+    q.port_bytes = 8;
+    is_refused(&q, 14, 0);
+    q.count = 2;
+    is_refused(&q, 3, 0);
 }
 
 static void weights(enum call call) {
@@ -411,16 +568,23 @@ static void room(enum call call) {
 
 typedef void put_field(uint8_t *job, size_t i, int64_t value);
 
+static void put_in(struct question *q, put_field *put, size_t i, int64_t value) {
+    if (put == put_port)
+        set_port(q, i, value);
+    else
+        put(q->job, i, value);
+}
+
 static void inside(enum call call, put_field *put, size_t record, int64_t value) {
     struct question q = good(call, 3);
-    put(q.job, record, value);
+    put_in(&q, put, record, value);
     give_best(&q);
     passes(&q);
 }
 
 static void outside(enum call call, put_field *put, size_t record, int64_t value) {
     struct question q = good(call, 3);
-    put(q.job, record, value);
+    put_in(&q, put, record, value);
     is_refused(&q, 4, (int)record);
 }
 
@@ -448,14 +612,23 @@ static void fields(enum call call) {
     inside(call, put_port, 2, 1000000);
 }
 
+/* Where ports stand apart, a pad's last field is 0, in each of its bits. */
+static void last_fields(enum call call) {
+    for (int bit = 0; bit < 32 && takes_slots(call); bit++) {
+        struct question q = good(call, 3);
+        put_port(q.job, (size_t)bit % 3, (int64_t)1 << bit);
+        is_refused(&q, 4, bit % 3);
+    }
+}
+
 static void job_rules(enum call call) {
     struct question q = good(call, 3);
-    put_port(q.job, 1, 0); /* equal port heights */
+    set_port(&q, 1, 0); /* equal port heights */
     is_refused(&q, 5, 1);
     put_x(q.job, 1, 0); /* and x = 0 in the same record */
     is_refused(&q, 4, 1);
     q = good(call, 3);
-    put_port(q.job, 1, -1);
+    set_port(&q, 1, -1);
     is_refused(&q, 5, 1);
     q = good(call, 3);
     put_name(q.job, 2, 101);
@@ -470,8 +643,8 @@ static void job_rules(enum call call) {
 /* n straight leaders: port i is so much above the one before, every other 10. */
 static struct question rising(enum call call, size_t n, size_t i, int64_t by) {
     struct question q = good(call, n);
-    for (int64_t port = get_port(q.job, i - 1) + by; i < n; i++, port += 10) {
-        put_port(q.job, i, port);
+    for (int64_t port = port_of(&q, i - 1) + by; i < n; i++, port += 10) {
+        set_port(&q, i, port);
         put_y(q.job, i, port);
     }
     return q;
@@ -502,36 +675,36 @@ static void wide_rises(enum call call) {
     static const int64_t rises[] = {128, 256, 263, 32768, 65536, 65543, 1 << 20, 2000000};
     for (size_t k = 0; k < sizeof rises / sizeof *rises; k++) {
         struct question q = good(call, 2);
-        put_port(q.job, 0, -1000000);
-        put_port(q.job, 1, rises[k] - 1000000);
+        set_port(&q, 0, -1000000);
+        set_port(&q, 1, rises[k] - 1000000);
         give_best(&q);
         passes(&q);
-        put_port(q.job, 0, rises[k] - 1000000);
-        put_port(q.job, 1, -1000000);
+        set_port(&q, 0, rises[k] - 1000000);
+        set_port(&q, 1, -1000000);
         is_refused(&q, 5, 1);
     }
     struct question q = good(call, 2);
-    put_port(q.job, 0, INT32_MIN);
-    put_port(q.job, 1, INT32_MAX);
+    set_port(&q, 0, INT32_MIN);
+    set_port(&q, 1, INT32_MAX);
     is_refused(&q, 4, 0);
 }
 
 /* 5 before 12 before 6, wherever they stand. */
 static void spacing_in_its_place(enum call call) {
     struct question q = good(call, 5);
-    put_port(q.job, 1, 7);
+    set_port(&q, 1, 7);
     put_name(q.job, 1, get_name(q.job, 0));
     put_x(q.job, 1, get_x(q.job, 0));
     is_refused(&q, 12, 1);
-    put_port(q.job, 4, 30);
+    set_port(&q, 4, 30);
     is_refused(&q, 5, 4);
     q = good(call, 5);
-    put_port(q.job, 4, 37);
+    set_port(&q, 4, 37);
     put_x(q.job, 1, get_x(q.job, 0));
     is_refused(&q, 12, 4);
     put_name(q.job, 1, get_name(q.job, 0));
     is_refused(&q, 12, 4);
-    put_port(q.job, 4, 38);
+    set_port(&q, 4, 38);
     is_refused(&q, 6, 1);
 }
 
@@ -556,22 +729,36 @@ static void given_numbers(enum call call) {
     is_refused(&q, 8, 2);
     q.list.layout[2] = 1;
     is_refused(&q, 8, 2);
+    if (!takes_slots(call)) return;
+    q = on_strip(call, 3, 5, 10);
+    for (uint16_t port = 2; port < 5; port++) {
+        q.list.layout[2] = port;
+        int64_t total = 60 + 10 * (port - 2);
+        expect(&q, keeps(&q, call == SLOTS_MEASURE ? total : port == 2 ? END : REFUSED(10, 0)));
+    }
+    q.list.layout[2] = 5;
+    is_refused(&q, 8, 2);
 }
 
 int main(void) {
     begin();
     worked_sheets();
     worked_tables();
+    worked_slots();
     worked_short_list();
     bends_can_cost();
     drawn_sheets();
     drawn_range();
     for (enum call call = 0; call < CALLS; call++) {
         sizes(call);
+        port_sizes(call);
+        strips(call);
+        works(call);
         weights(call);
         tables(call);
         room(call);
         fields(call);
+        last_fields(call);
         job_rules(call);
         spacing(call);
         wide_rises(call);

@@ -31,20 +31,26 @@ typedef void (*function)(void);
 /* So many bytes more than stated fail: less than a list of one byte a pad. */
 #define SLACK 48
 
+/* No slots call may take more, whatever is stated. */
+#define SLOTS_STACK 16384
+
 /* The calls, and how many bytes of stack each takes, as the header and the README say. */
 static const struct {
     function enter;
     size_t stated;
 } calls[CALLS] = {
-    [MEASURE] = {(function)cheremysl_measure, 224},
-    [DRAW] = {(function)cheremysl_draw, 40},
-    [TABLE_MEASURE] = {(function)cheremysl_table_measure, 208},
+    [MEASURE] = {(function)cheremysl_measure, 424},
+    [DRAW] = {(function)cheremysl_draw, 136},
+    [TABLE_MEASURE] = {(function)cheremysl_table_measure, 408},
+    [SLOTS_MEASURE] = {(function)cheremysl_slots_measure, 456},
 #ifndef NO_SEARCH
-    [FIRST] = {(function)cheremysl_first, 37440},
-    [NEXT] = {(function)cheremysl_next, 37584},
-    [PAGE] = {(function)cheremysl_page, 37584},
-    [TABLE_FIRST] = {(function)cheremysl_table_first, 20992},
-    [TABLE_NEXT] = {(function)cheremysl_table_next, 21136},
+    [FIRST] = {(function)cheremysl_first, 38480},
+    [NEXT] = {(function)cheremysl_next, 38656},
+    [PAGE] = {(function)cheremysl_page, 38672},
+    [TABLE_FIRST] = {(function)cheremysl_table_first, 22032},
+    [TABLE_NEXT] = {(function)cheremysl_table_next, 22208},
+    [SLOTS_FIRST] = {(function)cheremysl_slots_first, 3328},
+    [SLOTS_NEXT] = {(function)cheremysl_slots_next, 3472},
 #endif
 };
 
@@ -86,17 +92,18 @@ static void prepare(void) {
 /*
  * Runs a function as if called from the top of the small stack, with what the question gives, and
  * returns where its return address stood. Every call has its first six arguments in the same
- * registers; the other two, which only Page reads, lie above the return address. glibc hands on 64
- * bits of each.
+ * registers; the others, which few calls read, lie above the return address. glibc hands on 64 bits
+ * of each.
  */
 static const unsigned char *run(function enter) {
-    uint64_t a[ARGUMENTS];
+    uint64_t a[ARGUMENTS] = {0};
     put_arguments(&question, a);
     getcontext(&away);
     away.uc_stack.ss_sp = stack;
     away.uc_stack.ss_size = STACK;
     away.uc_link = &home;
-    makecontext(&away, enter, ARGUMENTS, a[0], a[1], a[2], a[3], a[4], a[5], a[6], a[7]);
+    makecontext(&away, enter, ARGUMENTS, a[0], a[1], a[2], a[3], a[4], a[5], a[6], a[7], a[8],
+                a[9]);
     swapcontext(&home, &away);
     return (unsigned char *)away.uc_mcontext.gregs[REG_RSP];
 }
@@ -134,17 +141,34 @@ static void ask_on_small_stack(void) {
     came[call][outcome_of(answer)]++;
 }
 
+/* A search on slots takes long: the most of them on one board, and few on the others. */
+static size_t pads_of(enum call call, enum board board) {
+    return !takes_work(call) || board == CLOSE ? PADS : 16;
+}
+
+static void make_job(enum board board) {
+    static uint32_t table[TABLE_ROOM];
+    size_t n = pads_of(question.call, board);
+    question.job_bytes = 16 * n;
+    if (takes_slots(question.call)) {
+        question.port_bytes = n < PADS ? 4 * (n + 4) : CHEREMYSL_MAX_PORT_BYTES;
+        make_slots(question.job, n, question.ports, ports_of(&question), board);
+        lend_work(&question, 0);
+        return;
+    }
+    make_board(question.job, n, board);
+    lend_table(&question, table, below(FIGURES));
+}
+
 /* 64 pads and a layout that does not touch; Draw gets a leader that is straight. */
 static void make_question(enum call call, enum board board) {
-    static uint32_t table[TABLE_ROOM];
     memset(&question, 0, sizeof question);
     question.call = call;
-    question.job_bytes = CHEREMYSL_MAX_JOB_BYTES;
     question.count = call == DRAW ? CHEREMYSL_DRAW_FLOATS : PADS;
-    make_board(question.job, PADS, board);
+    make_job(board);
     any_weights(&question.a, &question.b);
-    lend_table(&question, table, below(FIGURES));
-    any_untouching(question.job, PADS, question.list.layout);
+    struct plan plan = plan_of(&question);
+    any_untouching(&plan, question.list.layout);
     lend_page(&question, PAGE_ROOM);
     if (call != DRAW) return;
     question.a = PADS - 1;
@@ -175,7 +199,8 @@ static void on_board(enum call call, enum board board) {
         check(answer >= -1, &question, "refused");
     }
     sound = question;
-    for (int k = 0; k < DAMAGED; k++) {
+    int times = takes_work(call) && records_of(&sound) == PADS ? DAMAGED / 10 : DAMAGED;
+    for (int k = 0; k < times; k++) {
         question = sound;
         lend_page(&question, any_room(PADS));
         damage(&question);
@@ -190,6 +215,7 @@ static void hold_to_figure(enum call call) {
     snprintf(what, sizeof what, "%s takes %zu bytes of stack, not %zu", call_names[call], used,
              stated);
     check(used < stated + SLACK, NULL, what);
+    check(!takes_slots(call) || used <= SLOTS_STACK, NULL, "more than a slots call may take");
 }
 
 int main(void) {

@@ -1,6 +1,7 @@
 /*
  * touching [COUNT [SEED]]: which pair refusal 9 names, in Measure, Next and Page, over weights and
- * over tables: the smallest record that touches an earlier one, with the smallest that it touches.
+ * over tables, and at times on slots some of which stay free: the smallest record that touches an
+ * earlier one, with the smallest that it touches.
  * Boards whose touching pairs are known; every pair of 64 records; every board of up to three pads,
  * and every layout of some larger ones, with leaders tried point by point; random boards against
  * the plain account.
@@ -47,10 +48,11 @@ static bool touch(const struct question *q, size_t i, size_t j) {
 /* The plain account's touching is the same. */
 static void plain_points(void) {
     uint8_t job[16 * 3];
+    struct given g = {.job = job, .job_bytes = sizeof job};
     for (int k = 0; k < 300; k++) {
         size_t p = below(3), q = (p + 1 + below(2)) % 3;
         make_board(job, 3, below(2) ? CLOSE : LEVEL);
-        check(plain_touch(job, 0, p, 1, q) == share_a_point(job, 0, p, 1, q), NULL, "touching");
+        check(plain_touch(&g, 0, p, 1, q) == share_a_point(job, 0, p, 1, q), NULL, "touching");
     }
 }
 
@@ -73,6 +75,32 @@ static struct pair first_pair(const struct question *q) {
     return first;
 }
 
+/* The job with its ports apart, and others, which stay free, below and above them. */
+static struct question on_strip(const struct question *q) {
+    struct question apart = by_slots(q);
+    size_t n = records_of(q), under = below(4), over = below(4);
+    int64_t low = port_of(q, 0), high = port_of(q, n - 1);
+    if (low - 8 * (int64_t)under < -CHEREMYSL_MAX_HEIGHT) under = 0;
+    if (high + 8 * (int64_t)over > CHEREMYSL_MAX_HEIGHT) over = 0;
+    apart.port_bytes = 4 * (under + n + over);
+    for (size_t k = 0; k < under; k++) set_port(&apart, k, low - 8 * (int64_t)(under - k));
+    for (size_t k = 0; k < n; k++) set_port(&apart, under + k, port_of(q, k));
+    for (size_t k = 0; k < over; k++) set_port(&apart, under + n + k, high + 8 * (int64_t)(k + 1));
+    for (size_t i = 0; i < n; i++) apart.list.layout[i] += (uint16_t)under;
+    lend_work(&apart, 0);
+    return apart;
+}
+
+/* The slots calls name the pair too. */
+static bool names_on_slots(struct question q, int64_t answer) {
+    q.call = MEASURE;
+    struct question apart = on_strip(&q);
+    bool ok = check(plain_reply(&apart).answer == answer, &apart, "or another pair on slots");
+    ok &= expect(&apart, keeps(&apart, answer));
+    apart.call = SLOTS_NEXT;
+    return ok && (SLOTS_NEXT >= CALLS || expect(&apart, keeps(&apart, answer)));
+}
+
 /* Every call that is given a layout names the pair; Page also with room for none. */
 static bool names(struct question *q, struct pair pair) {
     static uint32_t table[TABLE_ROOM];
@@ -80,8 +108,9 @@ static bool names(struct question *q, struct pair pair) {
     lend_table(q, table, EQUAL);
     q->call = MEASURE;
     bool ok = check(plain_reply(q).answer == answer, q, "the plain account names another pair");
+    if (below(4) == 0) ok &= names_on_slots(*q, answer);
     for (; q->call < CALLS; q->call++) {
-        if (!takes_layout(q->call)) continue;
+        if (!takes_layout(q->call) || takes_slots(q->call)) continue;
         lend_page(q, 2 * records_of(q) + 1);
         ok &= expect(q, keeps(q, answer));
         q->page_entries = 0;
@@ -288,7 +317,8 @@ static void random_board(size_t n) {
     static struct question q;
     begin_question(&q, n);
     make_board(q.job, n, below(BOARDS));
-    any_untouching(q.job, n, q.list.layout);
+    struct plan plan = plan_of(&q);
+    any_untouching(&plan, q.list.layout);
     for (uint32_t swaps = 1 + below(2); swaps > 0; swaps--)
         swap_entries(&q, below((uint32_t)n), below((uint32_t)n));
     int64_t answer = plain_reply(&q).answer;

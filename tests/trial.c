@@ -17,12 +17,14 @@ const int *const refusals_of[] = {
     [MEASURE] = measure_checks, [TABLE_MEASURE] = table_measure_checks,
     [FIRST] = first_checks,     [TABLE_FIRST] = table_first_checks,
     [NEXT] = next_checks,       [TABLE_NEXT] = table_next_checks,
-    [PAGE] = next_checks,       [DRAW] = draw_checks,
+    [PAGE] = next_checks,       [SLOTS_MEASURE] = slots_measure_checks,
+    [DRAW] = draw_checks,       [SLOTS_FIRST] = slots_first_checks,
+    [SLOTS_NEXT] = slots_next_checks,
 };
 const char *const call_names[] = {
-    [MEASURE] = "Measure", [TABLE_MEASURE] = "TableMeasure",
-    [FIRST] = "First",     [TABLE_FIRST] = "TableFirst",
-    [NEXT] = "Next",       [TABLE_NEXT] = "TableNext",
+    [MEASURE] = "Measure", [TABLE_MEASURE] = "TableMeasure", [SLOTS_MEASURE] = "SlotsMeasure",
+    [FIRST] = "First",     [TABLE_FIRST] = "TableFirst",     [SLOTS_FIRST] = "SlotsFirst",
+    [NEXT] = "Next",       [TABLE_NEXT] = "TableNext",       [SLOTS_NEXT] = "SlotsNext",
     [PAGE] = "Page",       [DRAW] = "Draw",
 };
 
@@ -64,13 +66,21 @@ static void show_table(const struct question *q) {
     printf("\n  ");
 }
 
-static void show(const struct question *q) {
-    printf("  %s, numbers %" PRIu32 " %" PRIu32 ", job of %zu bytes:", call_names[q->call], q->a,
-           q->b, q->job_bytes);
-    for (size_t k = 0; k < q->job_bytes; k++)
-        printf("%s%02x", k % 16 == 0 ? "\n    " : k % 4 == 0 ? " " : "", (unsigned)q->job[k]);
+static void show_bytes(const char *what, const uint8_t *bytes, size_t count) {
+    printf("%s of %zu bytes:", what, count);
+    for (size_t k = 0; k < count; k++)
+        printf("%s%02x", k % 16 == 0 ? "\n    " : k % 4 == 0 ? " " : "", (unsigned)bytes[k]);
     printf("\n  ");
+}
+
+static const char *content_name(void);
+
+static void show(const struct question *q) {
+    printf("  %s, numbers %" PRIu32 " %" PRIu32 ", ", call_names[q->call], q->a, q->b);
+    show_bytes("job", q->job, q->job_bytes);
     if (takes_table(q->call)) show_table(q);
+    if (takes_slots(q->call)) show_bytes("ports", q->ports, q->port_bytes);
+    if (takes_work(q->call)) printf("work list of %zu, %s, ", q->numbers, content_name());
     show_lists(q, &q->list, q->page);
 }
 
@@ -106,27 +116,42 @@ void begin(void) {
 
 /* ---- questions ---- */
 
-static bool measures(enum call call) { return call == MEASURE || call == TABLE_MEASURE; }
+/* Measure, First and Next: by weights, by a table, on slots. */
+static const enum call families[3][3] = {{MEASURE, FIRST, NEXT},
+                                         {TABLE_MEASURE, TABLE_FIRST, TABLE_NEXT},
+                                         {SLOTS_MEASURE, SLOTS_FIRST, SLOTS_NEXT}};
 
-bool can_end(enum call call) { return call == NEXT || call == TABLE_NEXT; }
+/* Which of the three it is; 3 if none. */
+static int kind_of(enum call call) {
+    for (int k = 0; k < 9; k++)
+        if (families[k / 3][k % 3] == call) return k % 3;
+    return 3;
+}
+
+static bool measures(enum call call) { return kind_of(call) == 0; }
+
+bool gives_first(enum call call) { return kind_of(call) == 1; }
+bool can_end(enum call call) { return kind_of(call) == 2; }
 bool takes_best(enum call call) { return can_end(call) || call == PAGE; }
 bool takes_layout(enum call call) { return measures(call) || takes_best(call); }
 
-bool takes_table(enum call call) {
-    return call == TABLE_MEASURE || call == TABLE_FIRST || call == TABLE_NEXT;
+static bool in_family(int family, enum call call) {
+    int kind = kind_of(call);
+    return kind < 3 && families[family][kind] == call;
 }
 
-static enum call over_table(enum call call) {
-    switch (call) {
-    case MEASURE: return TABLE_MEASURE;
-    case FIRST: return TABLE_FIRST;
-    case NEXT: return TABLE_NEXT;
-    default: abort();
-    }
+bool takes_table(enum call call) { return in_family(1, call); }
+bool takes_slots(enum call call) { return in_family(2, call); }
+bool takes_work(enum call call) { return takes_slots(call) && !measures(call); }
+
+static enum call turned(enum call call, int family) {
+    int kind = kind_of(call);
+    if (kind == 3) abort();
+    return families[family][kind];
 }
 
 void turn_to(struct question *q, enum call call) {
-    q->call = takes_table(q->call) ? over_table(call) : call;
+    q->call = turned(call, takes_table(q->call) ? 1 : takes_slots(q->call) ? 2 : 0);
 }
 
 static size_t lend_figures(struct question *q, uint32_t *table) {
@@ -147,9 +172,26 @@ void lend_weights(struct question *q, uint32_t *table, uint32_t length_weight,
 
 struct question by_table(const struct question *q, uint32_t *table) {
     struct question tabled = *q;
-    tabled.call = over_table(q->call);
+    tabled.call = turned(q->call, 1);
     lend_weights(&tabled, table, q->a, q->b);
     return tabled;
+}
+
+void lend_work(struct question *q, size_t more) {
+    size_t n = records_of(q), p = ports_of(q);
+    q->numbers = 2 * (n + 1) * (p + 2) * (p + 2) + more;
+}
+
+struct question by_slots(const struct question *q) {
+    struct question apart = *q;
+    apart.call = turned(q->call, 2);
+    apart.port_bytes = 4 * records_of(q);
+    for (size_t i = 0; i < records_of(q); i++) {
+        set_port(&apart, i, port_of(q, i));
+        put_port(apart.job, i, 0);
+    }
+    lend_work(&apart, 0);
+    return apart;
 }
 
 void lend_page(struct question *q, size_t entries) {
@@ -160,11 +202,35 @@ void lend_page(struct question *q, size_t entries) {
 
 size_t records_of(const struct question *q) { return q->job_bytes / 16; }
 
+size_t ports_of(const struct question *q) {
+    return takes_slots(q->call) ? q->port_bytes / 4 : records_of(q);
+}
+
+struct plan plan_of(const struct question *q) {
+    size_t n = records_of(q);
+    return takes_slots(q->call) ? plan_of_slots(q->job, n, q->ports, ports_of(q))
+                                : plan_of_job(q->job, n);
+}
+
+int64_t port_of(const struct question *q, size_t i) {
+    struct plan plan = plan_of(q);
+    return get_height(&plan, i);
+}
+
+void set_port(struct question *q, size_t i, int64_t height) {
+    if (takes_slots(q->call))
+        put_height(q->ports, i, height);
+    else
+        put_port(q->job, i, height);
+}
+
 struct given given_of(const struct question *q) {
     bool draw = q->call == DRAW, by_table = takes_table(q->call);
     struct given g = {.job = q->job, .job_bytes = q->job_bytes, .layout = q->list.layout,
                       .entries = q->count, .floats = q->count, .draw = draw,
-                      .table = q->table, .figures = q->figures, .by_table = by_table};
+                      .table = q->table, .figures = q->figures, .by_table = by_table,
+                      .ports = q->ports, .port_bytes = q->port_bytes, .numbers = q->numbers,
+                      .slots = takes_slots(q->call)};
     if (draw) {
         g.record = q->a;
         g.port = q->b;
@@ -224,7 +290,7 @@ struct reply plain_reply(const struct question *q) {
     struct given g = given_of(q);
     if (measures(q->call)) r.answer = plain_measure(&g);
     if (q->call == DRAW) r.answer = plain_draw(&g, r.list.points);
-    if (q->call == FIRST || q->call == TABLE_FIRST) r.answer = plain_first(&g, r.list.layout);
+    if (gives_first(q->call)) r.answer = plain_first(&g, r.list.layout);
     if (can_end(q->call)) r.answer = plain_next(&g, r.list.layout);
     if (q->call == PAGE) r.answer = plain_page(&g, r.page, q->page_entries);
     return r;
@@ -254,14 +320,52 @@ static size_t table_bytes_of(const struct question *q) {
     return q->figures <= TABLE_ROOM ? q->figures * sizeof *q->table : 0;
 }
 
+/* ---- the work list ---- */
+
+/* What it holds when it is lent: in turn, what the last call left, zeros, ones, any numbers. */
+enum content { LEFT, ALL_ZEROS, ALL_ONES, ANY_NUMBERS, CONTENTS };
+static enum content content;
+static uint64_t held[WORK_ROOM], after[WORK_ROOM]; /* when it is lent; when a call refused */
+
+static const char *content_name(void) {
+    static const char *const names[] = {"as a call left it", "zeros", "ones", "any numbers"};
+    return names[content];
+}
+
+static uint64_t any_number(void) {
+    uint64_t bits = (uint64_t)any_bits() << 32 | any_bits();
+    return bits >> below(64);
+}
+
+/* From some number on they come again. */
+static void change_held(size_t bytes) {
+    size_t again = 61;
+    content = (content + 1) % CONTENTS;
+    if (content == ALL_ZEROS) memset(held, 0, bytes);
+    if (content == ALL_ONES) memset(held, 255, bytes);
+    if (content != ANY_NUMBERS) return;
+    for (size_t k = 0; k < bytes / sizeof *held; k++)
+        held[k] = k < again ? any_number() : held[k - again];
+}
+
+/* Sizes of memory for it, each twice the one before. */
+#define SMALL_WORK ((size_t)4400) /* bytes; the largest has room for WORK_ROOM numbers */
+#define WORK_SIZES 13
+
+/* More numbers than there is room for are lent with no memory behind them. */
+static size_t work_bytes_of(const struct question *q) {
+    return takes_work(q->call) && q->numbers <= WORK_ROOM ? q->numbers * sizeof *held : 0;
+}
+
 /* ---- asking the library ---- */
 
 /* A question's job and lists, wherever they stand. */
 struct lent {
-    const uint8_t *job;
+    const uint8_t *job, *ports;
     const uint32_t *table;
     void *list;
     uint16_t *page;
+    uint64_t *work;
 };
 
 static int64_t call_over(const struct question *q, struct lent at) {
@@ -271,6 +375,9 @@ static int64_t call_over(const struct question *q, struct lent at) {
     case DRAW: return cheremysl_draw(at.job, bytes, q->a, q->b, at.list, count);
     case TABLE_MEASURE:
         return cheremysl_table_measure(at.job, bytes, at.table, figures, at.list, count);
+    case SLOTS_MEASURE:
+        return cheremysl_slots_measure(at.job, bytes, at.ports, q->port_bytes, q->a, q->b, at.list,
+                                       count);
 #ifndef NO_SEARCH
     case FIRST: return cheremysl_first(at.job, bytes, q->a, q->b, at.list, count);
     case NEXT: return cheremysl_next(at.job, bytes, q->a, q->b, at.list, count);
@@ -280,26 +387,39 @@ static int64_t call_over(const struct question *q, struct lent at) {
         return cheremysl_table_first(at.job, bytes, at.table, figures, at.list, count);
     case TABLE_NEXT:
         return cheremysl_table_next(at.job, bytes, at.table, figures, at.list, count);
+    case SLOTS_FIRST:
+        return cheremysl_slots_first(at.job, bytes, at.ports, q->port_bytes, q->a, q->b, at.list,
+                                     count, at.work, q->numbers);
+    case SLOTS_NEXT:
+        return cheremysl_slots_next(at.job, bytes, at.ports, q->port_bytes, q->a, q->b, at.list,
+                                    count, at.work, q->numbers);
 #endif
     default: abort();
     }
 }
 
 int64_t call_library(struct question *q) {
-    struct lent own = {q->job, q->table, &q->list, q->page};
+    struct lent own = {q->job, q->ports, q->table, &q->list, q->page, held};
     return call_over(q, own);
 }
 
+/* Job, then ports or table if it takes them, weights, layout, page or work list. */
 void put_arguments(struct question *q, uint64_t *arguments) {
-    bool tabled = takes_table(q->call);
-    arguments[0] = (uintptr_t)q->job;
-    arguments[1] = q->job_bytes;
-    arguments[2] = tabled ? (uintptr_t)q->table : q->a;
-    arguments[3] = tabled ? q->figures : q->b;
-    arguments[4] = (uintptr_t)&q->list;
-    arguments[5] = q->count;
-    arguments[6] = (uintptr_t)q->page;
-    arguments[7] = q->page_entries;
+    bool tabled = takes_table(q->call), apart = takes_slots(q->call);
+    *arguments++ = (uintptr_t)q->job;
+    *arguments++ = q->job_bytes;
+    if (tabled || apart) {
+        *arguments++ = tabled ? (uintptr_t)q->table : (uintptr_t)q->ports;
+        *arguments++ = tabled ? q->figures : q->port_bytes;
+    }
+    if (!tabled) {
+        *arguments++ = q->a;
+        *arguments++ = q->b;
+    }
+    *arguments++ = (uintptr_t)&q->list;
+    *arguments++ = q->count;
+    *arguments++ = apart ? (uintptr_t)held : (uintptr_t)q->page;
+    *arguments++ = apart ? q->numbers : q->page_entries;
 }
 
 /* Can the call answer so? A refusal is one of its own; 9, and no other, names an earlier record. */
@@ -313,52 +433,98 @@ static bool can_answer(enum call call, int64_t answer) {
     return *own != 0 && earlier < record && answer == refused_pair(record, earlier);
 }
 
-static struct guarded jobs, tables, read_only, writable, pages;
+static struct guarded jobs, ports, tables, read_only, writable, pages;
+static struct guarded works[WORK_SIZES], unwritable; /* for work lists */
 
 static void need_memory(void) {
     if (jobs.size != 0) return;
     jobs = guard_memory(false, 1, JOB_ROOM);
+    ports = guard_memory(false, 1, PORTS_ROOM);
     tables = guard_memory(false, sizeof(uint32_t), TABLE_ROOM * sizeof(uint32_t));
     read_only = guard_memory(false, sizeof(uint16_t), LIST_ROOM * sizeof(uint16_t));
     writable = guard_memory(true, sizeof(float), sizeof(union list));
     pages = guard_memory(true, sizeof(uint16_t), PAGE_ROOM * sizeof(uint16_t));
+    unwritable = guard_memory(false, sizeof(uint64_t), WORK_ROOM * sizeof(uint64_t));
 }
 
-static const struct guarded *memory_of(enum call call) {
+static struct guarded *memory_of(enum call call) {
     return measures(call) || call == PAGE ? &read_only : &writable;
 }
 
-static struct lent lend(const struct question *q, enum side side) {
-    struct lent at = {NULL, NULL, NULL, NULL};
+/* Memory of about the list's size: what stands around a list is looked at too. */
+static struct guarded *work_memory(size_t bytes) {
+    int k = 0;
+    while (SMALL_WORK << k < bytes) k++;
+    if (works[k].size == 0) works[k] = guard_memory(true, sizeof(uint64_t), SMALL_WORK << k);
+    return &works[k];
+}
+
+/* A large list that must not be written is lent where that can not be, whatever it holds. */
+static uint64_t *lend_held(const struct question *q, enum side side, bool spared) {
+    size_t bytes = work_bytes_of(q);
+    if (q->numbers > WORK_ROOM) return guard_at(&unwritable, AT_END, 0);
+    if (spared) return guard_at(&unwritable, side, bytes);
+    change_held(bytes);
+    return guard_put(work_memory(bytes), side, held, bytes);
+}
+
+static struct lent lend(const struct question *q, enum side side, bool spared) {
+    struct lent at = {NULL, NULL, NULL, NULL, NULL, NULL};
     need_memory();
     at.job = guard_put(&jobs, side, q->job, q->job_bytes);
     at.list = guard_put(memory_of(q->call), side, &q->list, bytes_of(q));
     if (takes_table(q->call)) at.table = guard_put(&tables, side, q->table, table_bytes_of(q));
+    if (takes_slots(q->call)) at.ports = guard_put(&ports, side, q->ports, q->port_bytes);
+    if (takes_work(q->call)) at.work = lend_held(q, side, spared);
     if (q->call == PAGE) at.page = guard_put(&pages, side, q->page, page_bytes_of(q));
     return at;
 }
 
 /* False if what the library may only read is another than it was. */
-static bool kept(const struct guarded *memory, enum side side, const void *list, size_t bytes) {
+static bool kept(struct guarded *memory, enum side side, const void *list, size_t bytes) {
     static uint8_t now[TABLE_ROOM * sizeof(uint32_t)];
     return guard_get(memory, side, now, bytes) && (bytes == 0 || memcmp(now, list, bytes) == 0);
 }
 
-struct reply ask(const struct question *q, enum side side) {
+static bool spares_work(int64_t answer) {
+    return cheremysl_is_refusal(answer) && cheremysl_refusal_number(answer) != 10;
+}
+
+/* False if a refusal but 10 changed the work list, or anything was written beside it. */
+static bool kept_work(const struct question *q, enum side side, int64_t answer) {
+    size_t bytes = work_bytes_of(q);
+    bool spares = spares_work(answer);
+    if (q->numbers > WORK_ROOM) return true;
+    if (!guard_get(work_memory(bytes), side, spares ? after : held, bytes)) return false;
+    return !spares || memcmp(after, held, bytes) == 0;
+}
+
+static void check_kept(const struct question *q, enum side side) {
+    if (!kept(&jobs, side, q->job, q->job_bytes)) check(false, q, "the job was changed");
+    if (takes_table(q->call) && !kept(&tables, side, q->table, table_bytes_of(q)))
+        check(false, q, "the table was changed");
+    if (takes_slots(q->call) && !kept(&ports, side, q->ports, q->port_bytes))
+        check(false, q, "the ports were changed");
+}
+
+/* Spared: a work list that can not be written. */
+static struct reply ask_sparing(const struct question *q, enum side side, bool spared) {
     struct reply r = keeps(q, 0);
-    struct lent at = lend(q, side);
+    struct lent at = lend(q, side, spared);
     asked = q;
     r.answer = call_over(q, at);
     asked = NULL;
     if (!guard_get(memory_of(q->call), side, &r.list, bytes_of(q)) ||
         (q->call == PAGE && !guard_get(&pages, side, r.page, page_bytes_of(q))))
         check(false, q, "written beside the list");
-    if (!kept(&jobs, side, q->job, q->job_bytes)) check(false, q, "the job was changed");
-    if (takes_table(q->call) && !kept(&tables, side, q->table, table_bytes_of(q)))
-        check(false, q, "the table was changed");
+    check_kept(q, side);
+    if (takes_work(q->call) && !spared && !kept_work(q, side, r.answer))
+        check(false, q, "the work list was changed, or something beside it");
     if (!can_answer(q->call, r.answer)) check(false, q, "an answer that the call does not have");
     return r;
 }
+
+struct reply ask(const struct question *q, enum side side) { return ask_sparing(q, side, false); }
 
 static bool same(const struct question *q, const struct reply *r, const struct reply *expected) {
     if (r->answer == expected->answer && memcmp(&r->list, &expected->list, bytes_of(q)) == 0 &&
@@ -374,9 +540,9 @@ static bool same(const struct question *q, const struct reply *r, const struct r
 }
 
 bool expect(const struct question *q, struct reply expected) {
-    bool ok = true;
+    bool ok = true, large = work_bytes_of(q) > 8 * SMALL_WORK;
     for (enum side side = AT_END; side < SIDES; side++) {
-        struct reply r = ask(q, side);
+        struct reply r = ask_sparing(q, side, large && spares_work(expected.answer));
         ok &= same(q, &r, &expected);
     }
     return check(ok, q, "another reply");
@@ -384,6 +550,8 @@ bool expect(const struct question *q, struct reply expected) {
 
 bool alike(const struct question *q) {
     static uint32_t table[TABLE_ROOM];
-    struct question tabled = by_table(q, table);
-    return expect(&tabled, ask(q, AT_END));
+    struct question tabled = by_table(q, table), apart = by_slots(q);
+    struct reply r = ask(q, AT_END);
+    bool ok = expect(&tabled, r);
+    return expect(&apart, r) && ok;
 }

@@ -13,18 +13,23 @@
 #include "guard.h"
 #include "plain.h"
 
-/* With NO_SEARCH the tests keep to the calls that search for nothing: the first three. */
-enum call { MEASURE, DRAW, TABLE_MEASURE, FIRST, NEXT, PAGE, TABLE_FIRST, TABLE_NEXT };
+/* With NO_SEARCH the tests keep to the calls that search for nothing: the first four. */
+enum call {
+    MEASURE, DRAW, TABLE_MEASURE, SLOTS_MEASURE,
+    FIRST, NEXT, PAGE, TABLE_FIRST, TABLE_NEXT, SLOTS_FIRST, SLOTS_NEXT
+};
 #ifdef NO_SEARCH
-#define CALLS 3
+#define CALLS 4
 #else
-#define CALLS 8
+#define CALLS 11
 #endif
 
 #define JOB_ROOM 1056 /* two records more than the largest job */
+#define PORTS_ROOM 528 /* four ports more than the longest list */
 #define LIST_ROOM 80
 #define TABLE_ROOM 4356 /* figures for as many records */
 #define PAGE_ROOM 1343 /* 20 layouts of the largest job, and an entry too few for one more */
+#define WORK_ROOM 2197008 /* eight numbers more than the largest job needs */
 
 union list {
     uint16_t layout[LIST_ROOM];
@@ -33,8 +38,10 @@ union list {
 
 struct question {
     enum call call;
-    uint8_t job[JOB_ROOM];
+    uint8_t job[JOB_ROOM]; /* the slots calls have pads here .. */
     size_t job_bytes;
+    uint8_t ports[PORTS_ROOM]; /* .. and ports here */
+    size_t port_bytes;
     uint32_t a, b; /* length weight and bend weight; Draw: record number and port number */
     union list list;
     size_t count; /* of the list's entries or floats */
@@ -42,6 +49,7 @@ struct question {
     size_t page_entries;
     uint32_t *table; /* the table calls have it in place of the numbers; copies share it */
     size_t figures; /* more than TABLE_ROOM stand nowhere, and must not be read */
+    size_t numbers; /* of the work list; the same for more than WORK_ROOM */
 };
 
 struct reply {
@@ -59,10 +67,15 @@ bool takes_layout(enum call call);
 bool takes_best(enum call call);
 bool takes_table(enum call call);
 
-/* Can it answer the end? */
+/* Is the job of the second form? And is a work list lent? */
+bool takes_slots(enum call call);
+bool takes_work(enum call call);
+
+/* Does it give the first layout? Can it answer the end? */
+bool gives_first(enum call call);
 bool can_end(enum call call);
 
-/* Makes it a question of First, Next or Measure: over its table if it was over that before. */
+/* Makes it a question of First, Next or Measure: over its table or on slots, as it was before. */
 void turn_to(struct question *q, enum call call);
 
 /* Lends a table with a figure for each pad and port of the job, which is accepted. */
@@ -70,14 +83,27 @@ void lend_table(struct question *q, uint32_t *table, enum figures kind);
 void lend_weights(struct question *q, uint32_t *table, uint32_t length_weight,
                   uint32_t bend_weight);
 
-/* A question of First, Next or Measure over weights, over the table of these: the same reply. */
+/*
+ * A question of First, Next or Measure over weights, over the table of these, or with its ports
+ * apart: the same reply.
+ */
 struct question by_table(const struct question *q, uint32_t *table);
+struct question by_slots(const struct question *q);
+
+/* As many numbers in the work list as pads and ports need, and so many more. */
+void lend_work(struct question *q, size_t more);
+
+/* Where port number i stands, in the job or apart: its height, and another one. */
+int64_t port_of(const struct question *q, size_t i);
+void set_port(struct question *q, size_t i, int64_t height);
 
 /* Lends a page of so many entries, which hold other numbers each time, all different. */
 void lend_page(struct question *q, size_t entries);
 
-/* How many records the job has, and the question as the plain account is given it. */
+/* How many records and ports the job has, and the question as the plain account is given it. */
 size_t records_of(const struct question *q);
+size_t ports_of(const struct question *q);
+struct plan plan_of(const struct question *q);
 struct given given_of(const struct question *q);
 
 /* The answer of a refusal that names one record; of refusal 9, which names two. */
@@ -109,20 +135,21 @@ int earlier_of(const struct question *q, int record);
 /* The library's answer, over the question's own job and lists. */
 int64_t call_library(struct question *q);
 
-/* The call's arguments as the machine passes them; only Page has the last two. */
-#define ARGUMENTS 8
+/* The call's arguments as the machine passes them; few calls have those after the sixth. */
+#define ARGUMENTS 10
 void put_arguments(struct question *q, uint64_t *arguments);
 
 /*
  * The library's reply. It fails if anything but the list that it may write was changed, or if the
- * answer is none that the call can give.
+ * answer is none that the call can give. A work list holds something else each time: what an
+ * earlier call left, zeros, ones, any numbers. Refusals but 10 must leave all of it as it was.
  */
 struct reply ask(const struct question *q, enum side side);
 
 /* Asks the library, the lists at every side, and compares with the expected reply, to the bit. */
 bool expect(const struct question *q, struct reply expected);
 
-/* Is what the library replies to a question of weights also its reply over their table? */
+/* Is what the library replies to a question of weights also its reply over their table or slots? */
 bool alike(const struct question *q);
 
 /* Counts a success or a failure; the question, if any, is printed with a failure. */

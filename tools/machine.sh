@@ -8,7 +8,8 @@ if [ "${MACHINE:-$(uname -m)}" = x86_64 ]; then
     cross= run= static= headers=/usr/include compilers="gcc g++ libc6-dev"
 else
     cross=x86_64-linux-gnu- static=-static headers=/usr/x86_64-linux-gnu/include
-    run="qemu-x86_64 -L /usr/x86_64-linux-gnu -E LD_LIBRARY_PATH=/usr/x86_64-linux-gnu/lib"
+    # Without erms: with it libc fills and copies by one instruction, which the emulator runs byte by byte.
+    run="qemu-x86_64 -cpu max,-erms -L /usr/x86_64-linux-gnu -E LD_LIBRARY_PATH=/usr/x86_64-linux-gnu/lib"
     compilers="gcc-x86-64-linux-gnu g++-x86-64-linux-gnu libc6-dev-amd64-cross qemu-user"
 fi
 cc=${cross}gcc cxx=${cross}g++ nm=${cross}nm
