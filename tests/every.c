@@ -157,7 +157,8 @@ static void one_job(void) {
     plain_sheets(&g, &all);
     count_sheets(&q, &all);
     if (q.call == FIRST && below(4) == 0 && !run_alike(q, &all)) return;
-    if (run(&q, &all) && records_of(&q) <= 4 && below(4) == 0) from_each(&q, &all, 0);
+    if (run(&q, &all) && records_of(&q) <= 4 && below(takes_slots(q.call) ? 8 : 4) == 0)
+        from_each(&q, &all, 0);
 }
 
 int main(int argc, char **argv) {

@@ -133,10 +133,10 @@ static void damage_numbers(struct bytes *b, struct question *q, uint32_t *number
         *number = take_bits(b);
 }
 
-/* Pads or ports of another length, or another height; a work list shorter by up to two, or by any. */
+/* Pads or ports of another length, or another height; a work list shorter by any, or by up to 2. */
 static void damage_sizes(struct bytes *b, struct question *q) {
-    size_t of_ports = take(b, 2) && takes_slots(q->call) ? 1 + take(b, 4) : 0, p = ports_of(q), less;
-    switch (of_ports) {
+    size_t p = ports_of(q), less;
+    switch (take(b, 4) && takes_slots(q->call) ? 1 + take(b, 4) : 0) {
     case 0: q->job_bytes = take(b, JOB_ROOM + 1); break;
     case 1: q->port_bytes = take(b, PORTS_ROOM + 1); break;
     case 2: q->port_bytes = 4 * take(b, records_of(q) + 1); break;
@@ -145,6 +145,14 @@ static void damage_sizes(struct bytes *b, struct question *q) {
         less = take(b, take(b, 2) ? 3 : q->numbers + 1);
         q->numbers -= less < q->numbers ? less : q->numbers;
     }
+}
+
+/* The last of a record's fields is the port, wherever that stands. */
+static void copy_field(struct question *q, size_t to, size_t from, size_t field) {
+    if (field == 12)
+        set_port(q, to, port_of(q, from));
+    else
+        memcpy(q->job + 16 * to + field, q->job + 16 * from + field, 4);
 }
 
 static void damage(struct bytes *b, struct question *q) {
@@ -162,7 +170,7 @@ static void damage(struct bytes *b, struct question *q) {
     case 5: list[i] = (uint16_t)take_bits(b); break;
     case 6: q->a = q->call == DRAW ? (uint32_t)j : 1001; break;
     case 7: put_number(q->job + 16 * i + field, 4, limits[take(b, 8)]); break;
-    case 8: memcpy(q->job + 16 * i + field, q->job + 16 * j + field, 4); break;
+    case 8: copy_field(q, i, j, field); break;
     case 9: set_port(q, i, port_of(q, i - (i > 0)) + 6 + take(b, 4)); break;
     case 10: memcpy(q->job + 16 * i + early, q->job + 16 * j + early, 4); break; /* name or x */
     default:
@@ -287,7 +295,7 @@ int LLVMFuzzerTestOneInput(const uint8_t *data, size_t size) {
 #define SIZE 400                        /* the longest input */
 #define SIZES (8 + JOB_ROOM / 128 + 1)  /* classes of numbers of records */
 #define KEPT (CALLS * OUTCOMES * SIZES) /* one input for each kind of outcome */
-#define ENOUGH (5000 * CALLS)           /* inputs for every refusal to have come */
+#define ENOUGH (15000 * CALLS)          /* inputs for every refusal to have come */
 
 struct input {
     uint8_t data[SIZE];

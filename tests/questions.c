@@ -61,8 +61,10 @@ static size_t any_count(enum call call) {
     return 1 + below(below(3) ? 5 : takes_work(call) ? 10 : 64);
 }
 
+/* Of few pads the plain account finds a best layout, which takes it long on many ports. */
 static size_t any_ports(enum call call, size_t n) {
-    size_t most = n <= 5 ? PLAIN_PORTS : takes_work(call) ? n + 4 : MOST_PORTS;
+    size_t most = takes_work(call) ? n + 4 : MOST_PORTS;
+    if (n <= 5) most = takes_best(call) && n > 3 ? 6 : PLAIN_PORTS;
     return n + below((uint32_t)(most - n) + 1);
 }
 
@@ -104,9 +106,10 @@ void sound_job_of(struct question *q, enum call call, size_t n, size_t p) {
     lend_page(q, any_room(n));
 }
 
+/* One in eight on slots: there are many more layouts to try. */
 void sound_job(struct question *q, size_t n, size_t most) {
-    static const enum call calls[] = {FIRST, FIRST, TABLE_FIRST, SLOTS_FIRST};
-    sound_job_of(q, calls[below(4)], n, n + below((uint32_t)(most - n) + 1));
+    enum call call = below(8) == 0 ? SLOTS_FIRST : below(3) ? FIRST : TABLE_FIRST;
+    sound_job_of(q, call, n, n + below((uint32_t)(most - n) + 1));
 }
 
 /* ---- damage ---- */

@@ -1,4 +1,4 @@
--- The paper's board is a board of strips: untouching layouts, totals, best layouts and their order are those of the work lists.
+-- The paper's board is a board of strips: untouching layouts, totals, best layouts and their order are those of its lists.
 use mathlib.Core.Path.{_≡_, refl, sym, ap, _∙_, subst}
 use mathlib.Core.Logic.{_⊎_, inl, inr, _↔_}
 use mathlib.Core.List.{List, List·Memᴰ}
@@ -15,7 +15,6 @@ use Rattle.strips.specs.ByPlace.{mem-at, place-mem, free-places, places-free, e
 use Rattle.numbers.specs.Arrangement.{Arrangement}
 use Rattle.pads.specs.Pads.{Pads}
 use Rattle.totals.specs.Strip.{given, value}
-use Rattle.slots.specs.Slots.{Slots}
 use Rattle.choices.specs.Source.{Source, figuresOn, gridOn}
 use Rattle.choices.specs.Choices as choices
 use Rattle.choices.specs.Lists.{distinct}
@@ -24,7 +23,7 @@ use Rattle.paper.specs.Layouts.{Board, Untouching, sum, total}
 use Rattle.paper.specs.Problem.{Best, Before, FirstBest, NextBest, LastBest, labeling}
 use Rattle.paper.specs.laws.Totals.{sum-same}
 use Rattle.paper.specs.laws.Boards.{untouched-iff, untouching-of}
-use Rattle.board.specs.Lists.{WorkOf, CostsOn}
+use Rattle.board.specs.Lists.{ListsOf, CostsOn}
 use Rattle.board.specs.Sides.{low-high, narrow, clear-iff}
 
 -- ---- sums
@@ -34,9 +33,9 @@ unfolding sumTo sum
 sum-to c zero = refl
 sum-to c (suc n) = omega (arith, sum-to c n)
 
--- ---- the work lists are what a table asks for
+-- ---- the lists of a board are what a table asks for
 
-module _ {b : Board} {order lo hi : List ℕ} (W : WorkOf b order lo hi) where
+module _ {b : Board} {order lo hi : List ℕ} (W : ListsOf b order lo hi) where
   same-n : length order ≡ b .pads
   same-n = W .listed .arranged .long
 
@@ -76,20 +75,8 @@ module _ {b : Board} {order lo hi : List ℕ} (W : WorkOf b order lo hi) where
   arranged : Arrangement (length order) order
   arranged = rw same-n (W .listed .arranged)
 
-  -- As many ports as pads: the table on the stack.
-  pub pads : b .ports ≡ b .pads → Pads order lo hi
-  pads even = record {
-    few = omega (arith, W .few, same-n);
-    lows = lows;
-    highs = highs;
-    listed = inside;
-    level = level;
-    top = λ j. omega (arith, top j, same-n);
-  }
-
-  -- Ports that may stay free: the work list.
-  pub slots : Slots order lo hi (b .ports)
-  slots = record {
+  pub pads : Pads order lo hi (b .ports)
+  pads = record {
     few = omega (arith, W .few, same-n);
     ports = W .slots-few;
     lows = lows;
@@ -100,7 +87,11 @@ module _ {b : Board} {order lo hi : List ℕ} (W : WorkOf b order lo hi) where
     top = top;
   }
 
-module _ {b : Board} {order lo hi : List ℕ} {T : Source} {cost : ℕ → ℕ → ℕ} (W : WorkOf b order lo hi) (C : CostsOn b cost T) where
+  -- As many ports as pads.
+  pub even-pads : b .ports ≡ b .pads → Pads order lo hi (length order)
+  even-pads even = subst (Pads order lo hi) (even ∙ sym same-n) pads
+
+module _ {b : Board} {order lo hi : List ℕ} {T : Source} {cost : ℕ → ℕ → ℕ} (W : ListsOf b order lo hi) (C : CostsOn b cost T) where
   -- ---- the search's board is proper, and it has the board's costs
 
   abbrev G : Grid
@@ -108,15 +99,7 @@ module _ {b : Board} {order lo hi : List ℕ} {T : Source} {cost : ℕ → ℕ �
 
   pub proper : choices.ProperLists order T lo hi
   proper = record {
-    pads = record {
-      few = omega (arith, W .few, same-n W);
-      ports = omega (arith, W .slots-few, C .ports);
-      lows = lows W;
-      highs = highs W;
-      listed = inside W;
-      level = level W;
-      top = λ j. omega (arith, top W j, C .ports);
-    };
+    pads = subst (Pads order lo hi) (sym (C .ports)) (pads W);
     arranged = arranged W;
   }
 

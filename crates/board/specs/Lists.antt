@@ -1,4 +1,4 @@
--- The work lists of a board: what the search works with, said of the paper's board.
+-- The lists of a board: what the search works with, said of the paper's board.
 use mathlib.Core.Path.{_≡_}
 use mathlib.Core.Logic.{_↔_}
 use mathlib.Core.List.{List}
@@ -45,8 +45,8 @@ pub record Lent (n : ℕ) (order lo hi : List ℕ) : Type 0 where
   pub lows : length lo ≡ n
   pub highs : length hi ≡ n
 
--- The work lists of a proper board of at most 64 pads and 128 ports.
-pub record WorkOf (b : Board) (order lo hi : List ℕ) : Type 0 where
+-- The lists of a proper board of at most 64 pads and 128 ports.
+pub record ListsOf (b : Board) (order lo hi : List ℕ) : Type 0 where
   pub proper : Proper b
   pub few : b .pads ≤ 64
   pub slots-few : b .ports ≤ 128

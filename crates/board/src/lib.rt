@@ -1,4 +1,4 @@
-// The work lists of a job's board: its pads from right to left, and their sides among the ports. Every number of the job is read
+// The lists of a job's board: its pads from right to left, and their sides among the ports. Every number of the job is read
 // from its bytes.
 use paper::Form;
 ghost use mathlib.Core.Path.{_≡_};
@@ -58,7 +58,7 @@ fn sides(form: Form, job: &[u8], ports: &[u8], lo: &mut [u8], hi: &mut [u8])
     }
 }
 
-// The work lists of a job's pads.
+// The lists of a job's board.
 pub fn prepare(form: Form, job: &[u8], ports: &[u8], order: &mut [u8], lo: &mut [u8], hi: &mut [u8])
     requires { ⌜ Accepted form (now job) (now ports) × Lent (count (now job)) (now order) (now lo) (now hi) ⌝ }
     ensures { λ _. ⌜ OrderOf (count (now (job .entry))) (xOf (now (job .entry))) (now (order .exit)) ⌝ }

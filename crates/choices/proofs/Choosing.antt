@@ -7,15 +7,16 @@ use lib.ListN.{length, getD, take}
 use Rattle.strips.specs.Grid.{Grid}
 use Rattle.strips.specs.Prefix.{floor-most, ceil-least, ceil-le}
 use Rattle.strips.specs.FirstNext.{At, extends-choice, extends-full}
+use Rattle.pads.specs.Pads.{Pads}
 use Rattle.totals.specs.Cell.{Leads, NextPort}
 use Rattle.places.specs.Places.{portIn}
-use Rattle.choices.specs.Source.{Source, gridOn, PadsOn}
+use Rattle.choices.specs.Source.{Source, gridOn}
 use Rattle.choices.specs.Choices.{ProperLists, Working, Ready, Begun, Chosen}
 use Rattle.choices.specs.Memory.{firstPort, endPort}
 use Rattle.choices.specs.Lists.{listed}
 
 -- Every pad lies above ports of the board only.
-pub lows : {order lo hi : List ℕ} {p : ℕ} → PadsOn order lo hi p → (j : ℕ) → getD lo j 0 ≤ p
+pub lows : {order lo hi : List ℕ} {p : ℕ} → Pads order lo hi p → (j : ℕ) → getD lo j 0 ≤ p
 lows P j = omega (arith, P .level j, P .top j)
 
 -- The strip of the pad at place m is one to look in.

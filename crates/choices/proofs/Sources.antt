@@ -5,6 +5,7 @@ use Prim.Native.Nat.{ℕ}
 use native.Mathlib.Omega.{arith}
 use lib.ListN.{length}
 use Rattle.strips.specs.Grid.{Grid}
+use Rattle.pads.specs.Pads.{Pads}
 use Rattle.totals.specs.Cell.{gridOf, FullFrom, Leads, NextPort}
 use Rattle.slots.specs.Slots.{slotGrid, Inside}
 use Rattle.choices.specs.Source.{Source, gridOn, Full, slots-grid, full-grid}
@@ -19,6 +20,9 @@ module _ (order : List ℕ) (T : Source) (lo hi : List ℕ) where
     pub slots-next : (m a b from q : ℕ) → NextPort (Leads (slotGrid order lo hi (T .ports) (T .totals)) order m a b) from b q
         → NextPort (Leads (gridOn order T lo hi) order m a b) from b q
     slots-next m a b from q N = subst (λ (B : Grid). NextPort (Leads B order m a b) from b q) (sym (slots-grid order T lo hi none)) N
+
+  pub full-pads : Full order T lo hi → Pads order lo hi (T .ports) → Pads order lo hi (length order)
+  full-pads F P = subst (Pads order lo hi) (F .ports) P
 
   module _ (some : length (T .heads) ≡ 0 → ⊥) where
     pub full-ready : (m a b : ℕ) → Full order T lo hi → Ready (gridOn order T lo hi) order (T .ports) m a b

@@ -8,12 +8,13 @@ use Rattle.strips.specs.Grid.{Grid}
 use Rattle.strips.specs.Prefix.{lies, Lies}
 use Rattle.strips.specs.FirstNext.{Extends, At}
 use Rattle.numbers.specs.Arrangement.{Arrangement}
+use Rattle.pads.specs.Pads.{Pads}
 use Rattle.places.specs.Places.{portIn}
-use Rattle.choices.specs.Source.{Source, gridOn, PadsOn, Right}
+use Rattle.choices.specs.Source.{Source, gridOn, Right}
 
 -- A proper board: 64 pads at most, each listed once, and 128 ports at most.
 pub record ProperLists (order : List ℕ) (T : Source) (lo hi : List ℕ) : Type 0 where
-  pub pads : PadsOn order lo hi (T .ports)
+  pub pads : Pads order lo hi (T .ports)
   pub arranged : Arrangement (length order) order
 
 -- What First and Next work with: a proper board, its table, and a list with room for a layout.

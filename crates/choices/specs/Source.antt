@@ -8,11 +8,11 @@ use lib.ListN.{length, getD}
 use borrow.Author.Tests.{eq-eqb, ne-eqb}
 use Rattle.strips.specs.Least.{Least}
 use Rattle.strips.specs.Grid.{Grid}
-use Rattle.pads.specs.Pads.{sidesOf, Pads}
+use Rattle.pads.specs.Pads.{sidesOf}
 use Rattle.totals.specs.Strip.{grid}
 use Rattle.totals.specs.Cell.{figures, gridOf}
 use Rattle.totals.specs.Cell as totals
-use Rattle.slots.specs.Slots.{Slots, figuresIn, slotGrid}
+use Rattle.slots.specs.Slots.{figuresIn, slotGrid}
 use Rattle.slots.specs.Slots as slots
 
 pub record Source : Type 0 where
@@ -32,29 +32,14 @@ figuresOn T n j q = cond (eqb (length (T .heads)) 0) (figuresIn (T .totals) n (T
 abbrev pub gridOn : List ℕ → Source → List ℕ → List ℕ → Grid
 gridOn order T lo hi = grid (sidesOf lo hi) (figuresOn T (length order))
 
--- At most 64 pads and 128 ports: the pads' numbers in order right to left, and each one's sides.
-pub record PadsOn (order lo hi : List ℕ) (p : ℕ) : Type 0 where
-  pub few : length order ≤ 64
-  pub ports : p ≤ 128
-  pub lows : length lo ≡ length order
-  pub highs : length hi ≡ length order
-  pub listed : (k : ℕ) → k < length order → getD order k 0 < length order
-  pub level : (j : ℕ) → getD lo j 0 ≤ getD hi j 0
-  pub top : (j : ℕ) → getD hi j 0 ≤ p
-
 -- What is read there is right.
 pub record Full (order : List ℕ) (T : Source) (lo hi : List ℕ) : Type 0 where
   pub ports : T .ports ≡ length order
-  pub pads : Pads order lo hi
   pub table : totals.Table order (T .costs) lo hi (T .heads) (T .totals)
-
-pub record Slotted (order : List ℕ) (T : Source) (lo hi : List ℕ) : Type 0 where
-  pub pads : Slots order lo hi (T .ports)
-  pub table : slots.Table order lo hi (T .ports) (T .totals)
 
 pub record Right (order : List ℕ) (T : Source) (lo hi : List ℕ) : Type 0 where
   pub full : 0 < length (T .heads) → Full order T lo hi
-  pub slotted : length (T .heads) ≡ 0 → Slotted order T lo hi
+  pub slotted : length (T .heads) ≡ 0 → slots.Table order lo hi (T .ports) (T .totals)
 
 -- The board is that of the work list, or that of the table.
 module _ (order : List ℕ) (T : Source) (lo hi : List ℕ) where

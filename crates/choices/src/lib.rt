@@ -7,9 +7,10 @@
 ghost use mathlib.Core.Path.{_≡_};
 ghost use Prim.Native.Nat.{_≤_, _<_, max};
 ghost use lib.ListN.{length};
+ghost use Rattle.pads.specs.Pads.{Pads};
 ghost use Rattle.totals.specs.Cell.{Leads, NextPort};
 ghost use Rattle.places.specs.Places.{Placed};
-ghost use Rattle.choices.specs.Source.{source, gridOn, PadsOn, Right};
+ghost use Rattle.choices.specs.Source.{source, gridOn, Right};
 ghost use Rattle.choices.specs.Choices.{Working, Ready, Begun, LocallyBest, Chosen};
 ghost use Rattle.choices.specs.Memory.{startAt, stopAt, LeadsAt, firstPort, endPort, Known, Current, Noted, Learnt};
 
@@ -47,7 +48,7 @@ fn settle(
     known: &mut [u8],
     m: usize,
 )
-    requires { ⌜ PadsOn (now order) (now lo) (now hi) p × (m < length (now order)) × (length (now known) ≡ 256) ⌝ }
+    requires { ⌜ Pads (now order) (now lo) (now hi) p × (m < length (now order)) × (length (now known) ≡ 256) ⌝ }
     requires { ⌜ Placed (now order) (now w) m (now at) ⌝ }
     ensures { λ _. ⌜ Noted m (firstPort (now (order .entry)) (now (lo .entry)) (now (w .entry)) m)
         (endPort p (now (order .entry)) (now (hi .entry)) (now (w .entry)) m)
@@ -74,7 +75,7 @@ fn next_port(
     b: usize,
     from: usize,
 ) -> usize
-    requires { ⌜ Right (now order) (source (now heads) (now totals) (now cost) p) (now lo) (now hi) ⌝ }
+    requires { ⌜ Pads (now order) (now lo) (now hi) p × Right (now order) (source (now heads) (now totals) (now cost) p) (now lo) (now hi) ⌝ }
     requires { ⌜ Ready (gridOn (now order) (source (now heads) (now totals) (now cost) p) (now lo) (now hi)) (now order) p m a b ⌝ }
     requires { ⌜ (a ≤ from) × (from ≤ b) ⌝ }
     ensures { λ q. ⌜ NextPort (Leads (gridOn (now (order .entry)) (source (now (heads .entry)) (now (totals .entry)) (now (cost .entry)) p) (now (lo .entry))
@@ -101,7 +102,7 @@ fn choose(
     from: usize,
 ) -> usize
     requires { ⌜ Right (now order) (source (now heads) (now totals) (now cost) p) (now lo) (now hi) ⌝ }
-    requires { ⌜ (length (now known) ≡ 256) × (m < 64) × (p ≤ 128) ⌝ }
+    requires { ⌜ (length (now known) ≡ 256) × (m < 64) × Pads (now order) (now lo) (now hi) p ⌝ }
     requires { ⌜ Ready (gridOn (now order) (source (now heads) (now totals) (now cost) p) (now lo) (now hi)) (now order) p m (startAt (now known) m)
         (stopAt (now known) m) ⌝ }
     ensures { λ q. ⌜ Chosen (LeadsAt (now (order .entry)) (source (now (heads .entry)) (now (totals .entry)) (now (cost .entry)) p) (now (lo .entry))

@@ -25,7 +25,7 @@ fn inside(a: u8, b: u8, l: u8, h: u8) -> u8
 
 // 1 where the pad at place k lies in the strip a .. b - 1, else 0.
 fn stands(order: &[u8], lo: &[u8], hi: &[u8], a: u8, b: u8, k: usize) -> u8
-    requires { ⌜ Pads (now order) (now lo) (now hi) ⌝ }
+    requires { ⌜ Pads (now order) (now lo) (now hi) (length (now order)) ⌝ }
     requires { ⌜ k < length (now order) ⌝ }
     ensures { λ r. ⌜ r ≡ bit (fits (sidesOf (now (lo .entry)) (now (hi .entry))) a b (getD (now (order .entry)) k 0)) ⌝ }
 {
@@ -51,7 +51,7 @@ fn enter_pad(
     a: usize,
     i: usize,
 )
-    requires { ⌜ Pads (now order) (now lo) (now hi) ⌝ }
+    requires { ⌜ Pads (now order) (now lo) (now hi) (length (now order)) ⌝ }
     requires { ⌜ Rooms (now at) (now seen) (now all) ⌝ }
     requires { ⌜ i < length (now order) ⌝ }
     requires { ⌜ EnteringAll (sidesOf (now lo) (now hi)) (now order) (now at) (now seen) (now all) a i ⌝ }
@@ -81,7 +81,7 @@ pub fn enter(
     hi: &[u8],
     a: usize,
 )
-    requires { ⌜ Pads (now order) (now lo) (now hi) ⌝ }
+    requires { ⌜ Pads (now order) (now lo) (now hi) (length (now order)) ⌝ }
     requires { ⌜ Rooms (now at) (now seen) (now all) ⌝ }
     requires { ⌜ Tallies (sidesOf (now lo) (now hi)) (now order) (now at) (now seen) (now all) (a + 1) ⌝ }
     ensures { λ _. ⌜ Tallies (sidesOf (now (lo .entry)) (now (hi .entry))) (now (order .entry)) (now (at .entry)) (now (seen .exit)) (now (all .exit)) a ⌝ }
@@ -95,7 +95,7 @@ pub fn enter(
 
 // From a place with `here` of the strip's pads from there on, too few, back to the place with b - a.
 fn back(order: &[u8], lo: &[u8], hi: &[u8], a: u8, b: u8, from: usize, here: u8) -> usize
-    requires { ⌜ Pads (now order) (now lo) (now hi) ⌝ }
+    requires { ⌜ Pads (now order) (now lo) (now hi) (length (now order)) ⌝ }
     requires { ⌜ (from ≤ length (now order)) × (here ≡ padsIn (sidesOf (now lo) (now hi)) a b (drop from (now order))) ⌝ }
     requires { ⌜ (here < b - a) × (b - a ≤ padsIn (sidesOf (now lo) (now hi)) a b (now order)) ⌝ }
     ensures { λ k. ⌜ Top (sidesOf (now (lo .entry)) (now (hi .entry))) (now (order .entry)) a b k ⌝ }
@@ -112,7 +112,7 @@ fn back(order: &[u8], lo: &[u8], hi: &[u8], a: u8, b: u8, from: usize, here: u8)
 
 // From a place with `here` of the strip's pads from there on, enough, on to the last place with b - a.
 fn on(order: &[u8], lo: &[u8], hi: &[u8], a: u8, b: u8, from: usize, here: u8) -> usize
-    requires { ⌜ Pads (now order) (now lo) (now hi) ⌝ }
+    requires { ⌜ Pads (now order) (now lo) (now hi) (length (now order)) ⌝ }
     requires { ⌜ (from ≤ length (now order)) × (here ≡ padsIn (sidesOf (now lo) (now hi)) a b (drop from (now order))) ⌝ }
     requires { ⌜ (a < b) × (b - a ≤ here) ⌝ }
     ensures { λ k. ⌜ Top (sidesOf (now (lo .entry)) (now (hi .entry))) (now (order .entry)) a b k ⌝ }
@@ -129,7 +129,7 @@ fn on(order: &[u8], lo: &[u8], hi: &[u8], a: u8, b: u8, from: usize, here: u8) -
 
 // The place of the strip's rightmost pad, from any place with the number of its pads from there on.
 fn top(order: &[u8], lo: &[u8], hi: &[u8], a: u8, b: u8, from: usize, here: u8) -> usize
-    requires { ⌜ Pads (now order) (now lo) (now hi) ⌝ }
+    requires { ⌜ Pads (now order) (now lo) (now hi) (length (now order)) ⌝ }
     requires { ⌜ (from ≤ length (now order)) × (here ≡ padsIn (sidesOf (now lo) (now hi)) a b (drop from (now order))) ⌝ }
     requires { ⌜ (a < b) × (b - a ≤ padsIn (sidesOf (now lo) (now hi)) a b (now order)) ⌝ }
     ensures { λ k. ⌜ Top (sidesOf (now (lo .entry)) (now (hi .entry))) (now (order .entry)) a b k ⌝ }
@@ -152,7 +152,7 @@ pub fn head(
     a: usize,
     b: usize,
 ) -> usize
-    requires { ⌜ Pads (now order) (now lo) (now hi) ⌝ }
+    requires { ⌜ Pads (now order) (now lo) (now hi) (length (now order)) ⌝ }
     requires { ⌜ Rooms (now at) (now seen) (now all) ⌝ }
     requires { ⌜ (a ≤ b) × (b ≤ length (now order)) ⌝ }
     requires { ⌜ Tallies (sidesOf (now lo) (now hi)) (now order) (now at) (now seen) (now all) a ⌝ }

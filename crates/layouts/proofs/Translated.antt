@@ -1,4 +1,4 @@
--- From the search's words to the paper's: what the rules of the work lists say, the rules of the board say.
+-- From the search's words to the paper's: what the rules of its lists say, the rules of the board say.
 use mathlib.Core.Path.{_≡_, refl, sym, ap, _∙_, subst}
 use mathlib.Core.List.{List}
 use Prim.Native.Nat.{ℕ, _+_, _*_, _^_, _≤_, _<_}
@@ -9,7 +9,8 @@ use Rattle.numbers.specs.Kept.{KeptFrom}
 use Rattle.strips.specs.Least.{some}
 use Rattle.totals.specs.Cell.{leastOf}
 use Rattle.totals.specs.Cell as totals
-use Rattle.slots.specs.Slots.{figureOf, figuresAt, figuresIn, Slots, Room, Table, Answer}
+use Rattle.pads.specs.Pads.{Pads}
+use Rattle.slots.specs.Slots.{figureOf, figuresAt, figuresIn, Room, Table, TellsLeast}
 use Rattle.slots.specs.Lent.{figure-some}
 use Rattle.choices.specs.Source.{Source, source, Right}
 use Rattle.choices.specs.Choices.{Working}
@@ -20,8 +21,8 @@ use Rattle.paper.specs.Layouts.{Board, held, figure}
 use Rattle.paper.specs.Problem.{labeling}
 use Rattle.paper.specs.Promises.{Kept}
 use Rattle.paper.specs.laws.Existence.{untouching-exists}
-use Rattle.board.specs.Lists.{WorkOf, CostsOn}
-use Rattle.board.specs.Bridge.{pads, slots as slotted, proper, untouching-sol, sum-total, optimal-is-best, best-is-optimal, first-best, next-best, last-best}
+use Rattle.board.specs.Lists.{ListsOf, CostsOn}
+use Rattle.board.specs.Bridge.{pads, proper, untouching-sol, sum-total, optimal-is-best, best-is-optimal, first-best, next-best, last-best}
 use Rattle.walks.specs.declared.Start.{Start}
 use Rattle.walks.specs.declared.Start.the-variants.{First, Given}
 use Rattle.walks.specs.declared.Walked.{Walked}
@@ -31,7 +32,7 @@ use Rattle.layouts.specs.Replies.{rulesOf, StartOn, Tabled}
 
 -- ---- any table
 
-module _ (b : Board) {order lo hi : List ℕ} {T : Source} {cost : ℕ → ℕ → ℕ} (W : WorkOf b order lo hi) (C : CostsOn b cost T) where
+module _ (b : Board) {order lo hi : List ℕ} {T : Source} {cost : ℕ → ℕ → ℕ} (W : ListsOf b order lo hi) (C : CostsOn b cost T) where
   same-n : length order ≡ b .pads
   same-n = W .listed .arranged .long
 
@@ -67,7 +68,7 @@ module _ (b : Board) {order lo hi : List ℕ} {T : Source} {cost : ℕ → ℕ �
 
 -- ---- the table on the stack: as many ports as pads
 
-module _ (b : Board) {order lo hi cs hs ts : List ℕ} (W : WorkOf b order lo hi) (even : b .ports ≡ b .pads) (made : totals.Table order cs lo hi hs ts) where
+module _ (b : Board) {order lo hi cs hs ts : List ℕ} (W : ListsOf b order lo hi) (even : b .ports ≡ b .pads) (made : totals.Table order cs lo hi hs ts) where
   some-heads : length hs ≡ 0 → ⊥
   some-heads e = omega (arith, made .sizes .heads)
 
@@ -78,7 +79,7 @@ module _ (b : Board) {order lo hi cs hs ts : List ℕ} (W : WorkOf b order lo hi
   stacked-costs = record { ports = W .listed .arranged .long ∙ sym even; at = λ j q h k. rw (ne-eqb (length hs) 0 some-heads, even) refl }
 
   pub stacked-right : Right order stacked lo hi
-  stacked-right = record { full = λ h. record { ports = refl; pads = pads W even; table = made }; slotted = λ e. absurd (some-heads e) }
+  stacked-right = record { full = λ h. record { ports = refl; table = made }; slotted = λ e. absurd (some-heads e) }
 
   pub stacked-least : (t : ℕ) → t ≡ leastOf order cs lo hi → IsLeast order stacked lo hi t
   stacked-least t e = full-least order stacked lo hi t some-heads refl e
@@ -92,14 +93,14 @@ figures-lent b cost F K narrow i q h k =
     ap figureOf (K .rest (figuresAt (b .pads) (b .ports) + (i * b .ports + q)) (omega arith) ∙ F .at i q h k) ∙ figure-some (cost i q) (narrow i q h k)
 
 -- What the table asks for, of p ports and a list of so many numbers as the code has them; ..
-pub fillable : (b : Board) {order lo hi : List ℕ} (p size long : ℕ) → p ≡ b .ports → long ≡ size → WorkOf b order lo hi → Room (b .pads) (b .ports) size
-    → Slots order lo hi p × Room (length order) p long
-fillable b p size long same e W R = (rw same (slotted W), rw (same, e, W .listed .arranged .long) R)
+pub fillable : (b : Board) {order lo hi : List ℕ} (p size long : ℕ) → p ≡ b .ports → long ≡ size → ListsOf b order lo hi → Room (b .pads) (b .ports) size
+    → Pads order lo hi p × Room (length order) p long
+fillable b p size long same e W R = (rw same (pads W), rw (same, e, W .listed .arranged .long) R)
 
 -- .. and what it then comes to.
-pub tabled : (b : Board) (cost : ℕ → ℕ → ℕ) {order lo hi w v : List ℕ} (p base t : ℕ) → p ≡ b .ports → base ≡ figuresAt (b .pads) (b .ports) → WorkOf b order lo hi
+pub tabled : (b : Board) (cost : ℕ → ℕ → ℕ) {order lo hi w v : List ℕ} (p base t : ℕ) → p ≡ b .ports → base ≡ figuresAt (b .pads) (b .ports) → ListsOf b order lo hi
     → FiguresFrom b cost base w → ((i q : ℕ) → i < b .pads → q < b .ports → cost i q < 2 ^ 32)
-    → KeptFrom (figuresAt (length order) p) w v → Table order lo hi p v → Answer order lo hi p v t → Tabled b cost order lo hi v t
+    → KeptFrom (figuresAt (length order) p) w v → Table order lo hi p v → TellsLeast order lo hi p v t → Tabled b cost order lo hi v t
 tabled b cost p base t same start W F narrow K T A = record {
   lists = W;
   figures = figures-lent b cost (rw start at F) (rw (W .listed .arranged .long, same) at K) narrow;
@@ -116,7 +117,7 @@ module _ (b : Board) {cost : ℕ → ℕ → ℕ} {order lo hi work : List ℕ} 
   lent-costs = record { ports = same; at = λ j q h k. rw (eq-eqb (length hs) 0 none, same) (M .figures j q h k) }
 
   pub lent-right : Right order lent lo hi
-  lent-right = record { full = λ h. absurd (omega (arith, none)); slotted = λ e. record { pads = rw same (slotted (M .lists)); table = rw same (M .table) } }
+  lent-right = record { full = λ h. absurd (omega (arith, none)); slotted = λ e. rw same (M .table) }
 
   pub lent-least : IsLeast order lent lo hi t
   lent-least = slots-least order lent lo hi t none (rw same (M .least))

@@ -5,12 +5,15 @@ use mathlib.Core.List.{List}
 use Prim.Native.Nat.{ℕ, _≤_, _<_}
 use lib.Dec.{eqb}
 use lib.ListN.{length}
-use Rattle.paper.specs.Layouts.{Board, held, Untouching}
+use Rattle.paper.specs.Job.{Job}
+use Rattle.paper.specs.Layouts.{Board, boardOf, held, Untouching}
 use Rattle.paper.specs.Problem.{Problem, Best, FirstBest, NextBest, LastBest}
+use Rattle.paper.specs.Refusals.{workNeeded}
 use Rattle.paper.specs.Promises.{Kept, Following}
+use Rattle.paper.specs.laws.Accepted.{AcceptedJob}
 use Rattle.strips.specs.Least.{some}
-use Rattle.slots.specs.Slots.{figuresIn, Table, Answer}
-use Rattle.board.specs.Lists.{WorkOf}
+use Rattle.slots.specs.Slots.{figuresIn, Table, TellsLeast}
+use Rattle.board.specs.Lists.{ListsOf}
 use Rattle.walks.specs.declared.Start.{Start}
 use Rattle.walks.specs.declared.Start.the-variants.{First, Given}
 use Rattle.walks.specs.declared.Walked.{Walked}
@@ -55,9 +58,13 @@ PageOn p given before after r =
     ((r .best ≡ true) → Best p (held given) × Following p given before (r .count) after × (r .total ≡ p .value (held given)))
     × ((r .best ≡ false) → (¬ Best p (held given)) × (after ≡ before) × (r .count ≡ 0))
 
--- The work lists of a board, and in the work list that is lent its costs and least totals: t is the least of all.
+-- What the walks over slots ask for: a job that passed the checks, weights up to 1,000, and a work list of enough numbers.
+abbrev pub Workable : Job → ℕ → ℕ → ℕ → Type 0
+Workable job lw bw size = AcceptedJob job × (lw ≤ 1000) × (bw ≤ 1000) × (workNeeded (boardOf job .pads) (boardOf job .ports) ≤ size)
+
+-- The lists of a board, and in the work list that is lent its costs and least totals: t is the least of all.
 pub record Tabled (b : Board) (cost : ℕ → ℕ → ℕ) (order lo hi work : List ℕ) (t : ℕ) : Type 0 where
-  pub lists : WorkOf b order lo hi
+  pub lists : ListsOf b order lo hi
   pub figures : (j q : ℕ) → j < b .pads → q < b .ports → figuresIn work (b .pads) (b .ports) j q ≡ some (cost j q)
   pub table : Table order lo hi (b .ports) work
-  pub least : Answer order lo hi (b .ports) work t
+  pub least : TellsLeast order lo hi (b .ports) work t

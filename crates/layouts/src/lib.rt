@@ -1,5 +1,5 @@
 // First, Next and Page on a job that has passed the checks, by a table of what each pad costs with each port: each is a walk over the
-// job's work lists, with its own room. The table is read where it is lent. `slotted` has First and Next where ports may stay free.
+// lists of the job's board, with its own room. The table is read where it is lent. `slotted` has First and Next where ports may stay free.
 pub mod slotted;
 
 use paper::Form;
@@ -39,7 +39,7 @@ fn step_of(r: Walked) -> Step
     }
 }
 
-// A walk, with lists lent for the work lists and the table of least totals.
+// A walk, with lists lent for those of the board and for the table of least totals.
 fn walk_at(
     start: Start,
     job: &[u8],

@@ -9,15 +9,13 @@ ghost use lib.ListN.{length};
 ghost use Rattle.paper.specs.Job.{slots, count};
 ghost use Rattle.paper.specs.Layouts.{boardOf, held, Untouching, byWeights, weighted};
 ghost use Rattle.paper.specs.Problem.{labelingOf};
-ghost use Rattle.paper.specs.Refusals.{workNeeded};
-ghost use Rattle.paper.specs.laws.Accepted.{AcceptedJob};
 ghost use Rattle.board.specs.Lists.{Lent};
 ghost use Rattle.walks.specs.Walks.{Walks};
-ghost use Rattle.layouts.specs.Replies.{rulesOf, StartOn, FirstOn, NextOn, Tabled};
+ghost use Rattle.layouts.specs.Replies.{rulesOf, Workable, StartOn, FirstOn, NextOn, Tabled};
 
-// The work lists, the figures and the table of least totals, with the least of all.
+// The lists of the board, the figures and the table of least totals, with the least of all.
 fn fill(
-    job: &[u8],
+    pads: &[u8],
     ports: &[u8],
     lw: u32,
     bw: u32,
@@ -26,17 +24,17 @@ fn fill(
     hi: &mut [u8],
     work: &mut [u64],
 ) -> u64
-    requires { ⌜ AcceptedJob (slots (now job) (now ports)) × (lw ≤ 1000) × (bw ≤ 1000) × Lent (count (now job)) (now order) (now lo) (now hi) ⌝ }
-    requires { ⌜ workNeeded (boardOf (slots (now job) (now ports)) .pads) (boardOf (slots (now job) (now ports)) .ports) ≤ length (now work) ⌝ }
-    ensures { λ t. ⌜ Tabled (boardOf (slots (now (job .entry)) (now (ports .entry)))) (weighted (boardOf (slots (now (job .entry)) (now (ports .entry)))) lw bw)
+    requires { ⌜ Workable (slots (now pads) (now ports)) lw bw (length (now work)) ⌝ }
+    requires { ⌜ Lent (count (now pads)) (now order) (now lo) (now hi) ⌝ }
+    ensures { λ t. ⌜ Tabled (boardOf (slots (now (pads .entry)) (now (ports .entry)))) (weighted (boardOf (slots (now (pads .entry)) (now (ports .entry)))) lw bw)
         (now (order .exit)) (now (lo .exit)) (now (hi .exit)) (now (work .exit)) t ⌝ }
 {
     let n = order.len();
     let p = job::ports(Form::Slots, ports) as usize;
-    board::prepare(Form::Slots, job, ports, order, lo, hi);
+    board::prepare(Form::Slots, pads, ports, order, lo, hi);
     weights::fill_work(
         Form::Slots,
-        job,
+        pads,
         ports,
         lw,
         bw,
@@ -46,10 +44,10 @@ fn fill(
     slots::fill(work, order, lo, hi, p)
 }
 
-// A walk, with lists lent for the work lists.
+// A walk, with lists lent for those of the board.
 fn walk_at(
     start: Start,
-    job: &[u8],
+    pads: &[u8],
     ports: &[u8],
     lw: u32,
     bw: u32,
@@ -60,13 +58,12 @@ fn walk_at(
     w: &mut [u16],
     page: &mut [u16],
 ) -> Walked
-    requires { ⌜ AcceptedJob (slots (now job) (now ports)) × (lw ≤ 1000) × (bw ≤ 1000) × Lent (count (now job)) (now order) (now lo) (now hi) ⌝ }
-    requires { ⌜ workNeeded (boardOf (slots (now job) (now ports)) .pads) (boardOf (slots (now job) (now ports)) .ports) ≤ length (now work) ⌝ }
-    requires { ⌜ StartOn start (boardOf (slots (now job) (now ports))) (now w) ⌝ }
-    ensures { λ r. ⌜ Walks (rulesOf (labelingOf (slots (now (job .entry)) (now (ports .entry))) (byWeights lw bw))) (count (now (job .entry))) start (now (w .entry))
+    requires { ⌜ Workable (slots (now pads) (now ports)) lw bw (length (now work)) ⌝ }
+    requires { ⌜ Lent (count (now pads)) (now order) (now lo) (now hi) × StartOn start (boardOf (slots (now pads) (now ports))) (now w) ⌝ }
+    ensures { λ r. ⌜ Walks (rulesOf (labelingOf (slots (now (pads .entry)) (now (ports .entry))) (byWeights lw bw))) (count (now (pads .entry))) start (now (w .entry))
         (now (page .entry)) (now (w .exit)) (now (page .exit)) r ⌝ }
 {
-    let least = fill(job, ports, lw, bw, order, lo, hi, work);
+    let least = fill(pads, ports, lw, bw, order, lo, hi, work);
     let p = job::ports(Form::Slots, ports) as usize;
     let heads = [0u8; 1];
     let cost = [0u32; 1];
@@ -88,7 +85,7 @@ fn walk_at(
 // A walk through the best layouts of a job.
 fn walk(
     start: Start,
-    job: &[u8],
+    pads: &[u8],
     ports: &[u8],
     lw: u32,
     bw: u32,
@@ -96,19 +93,18 @@ fn walk(
     w: &mut [u16],
     page: &mut [u16],
 ) -> Walked
-    requires { ⌜ AcceptedJob (slots (now job) (now ports)) × (lw ≤ 1000) × (bw ≤ 1000) ⌝ }
-    requires { ⌜ workNeeded (boardOf (slots (now job) (now ports)) .pads) (boardOf (slots (now job) (now ports)) .ports) ≤ length (now work) ⌝ }
-    requires { ⌜ StartOn start (boardOf (slots (now job) (now ports))) (now w) ⌝ }
-    ensures { λ r. ⌜ Walks (rulesOf (labelingOf (slots (now (job .entry)) (now (ports .entry))) (byWeights lw bw))) (count (now (job .entry))) start (now (w .entry))
+    requires { ⌜ Workable (slots (now pads) (now ports)) lw bw (length (now work)) ⌝ }
+    requires { ⌜ StartOn start (boardOf (slots (now pads) (now ports))) (now w) ⌝ }
+    ensures { λ r. ⌜ Walks (rulesOf (labelingOf (slots (now (pads .entry)) (now (ports .entry))) (byWeights lw bw))) (count (now (pads .entry))) start (now (w .entry))
         (now (page .entry)) (now (w .exit)) (now (page .exit)) r ⌝ }
 {
-    let n = job.len() / 16;
+    let n = pads.len() / 16;
     let mut order = [0u8; 64];
     let mut lo = [0u8; 64];
     let mut hi = [0u8; 64];
     walk_at(
         start,
-        job,
+        pads,
         ports,
         lw,
         bw,
@@ -123,21 +119,21 @@ fn walk(
 
 // First: a walk from the earliest best layout, with room for none on its page.
 pub fn first_on(
-    job: &[u8],
+    pads: &[u8],
     ports: &[u8],
     lw: u32,
     bw: u32,
     layout: &mut [u16],
     work: &mut [u64],
 ) -> u64
-    requires { ⌜ AcceptedJob (slots (now job) (now ports)) × (lw ≤ 1000) × (bw ≤ 1000) × (count (now job) ≤ length (now layout)) ⌝ }
-    requires { ⌜ workNeeded (boardOf (slots (now job) (now ports)) .pads) (boardOf (slots (now job) (now ports)) .ports) ≤ length (now work) ⌝ }
-    ensures { λ t. ⌜ FirstOn (labelingOf (slots (now (job .entry)) (now (ports .entry))) (byWeights lw bw)) (now (layout .entry)) (now (layout .exit)) t ⌝ }
+    requires { ⌜ Workable (slots (now pads) (now ports)) lw bw (length (now work)) ⌝ }
+    requires { ⌜ count (now pads) ≤ length (now layout) ⌝ }
+    ensures { λ t. ⌜ FirstOn (labelingOf (slots (now (pads .entry)) (now (ports .entry))) (byWeights lw bw)) (now (layout .entry)) (now (layout .exit)) t ⌝ }
 {
     let mut page = [0u16; 1];
     walk(
         Start::First,
-        job,
+        pads,
         ports,
         lw,
         bw,
@@ -149,23 +145,22 @@ pub fn first_on(
 
 // Next: a walk from an untouching layout, with room for one.
 pub fn next_on(
-    job: &[u8],
+    pads: &[u8],
     ports: &[u8],
     lw: u32,
     bw: u32,
     layout: &mut [u16],
     work: &mut [u64],
 ) -> Step
-    requires { ⌜ AcceptedJob (slots (now job) (now ports)) × (lw ≤ 1000) × (bw ≤ 1000) × (count (now job) ≤ length (now layout)) ⌝ }
-    requires { ⌜ workNeeded (boardOf (slots (now job) (now ports)) .pads) (boardOf (slots (now job) (now ports)) .ports) ≤ length (now work) ⌝ }
-    requires { ⌜ Untouching (boardOf (slots (now job) (now ports))) (held (now layout)) ⌝ }
-    ensures { λ r. ⌜ NextOn (labelingOf (slots (now (job .entry)) (now (ports .entry))) (byWeights lw bw)) (now (layout .entry)) (now (layout .exit)) r ⌝ }
+    requires { ⌜ Workable (slots (now pads) (now ports)) lw bw (length (now work)) ⌝ }
+    requires { ⌜ (count (now pads) ≤ length (now layout)) × Untouching (boardOf (slots (now pads) (now ports))) (held (now layout)) ⌝ }
+    ensures { λ r. ⌜ NextOn (labelingOf (slots (now (pads .entry)) (now (ports .entry))) (byWeights lw bw)) (now (layout .entry)) (now (layout .exit)) r ⌝ }
 {
-    let n = job.len() / 16;
+    let n = pads.len() / 16;
     let mut page = [0u16; 64];
     step_of(walk(
         Start::Given,
-        job,
+        pads,
         ports,
         lw,
         bw,

@@ -32,14 +32,16 @@ padsIn S a b (j ∷ js) = bit (fits S a b j) + padsIn S a b js
 abbrev pub sidesOf : List ℕ → List ℕ → Sides
 sidesOf lo hi = record { lo = λ j. getD lo j 0; hi = λ j. getD hi j 0 }
 
--- n pads, their numbers in order right to left, and each one's sides
-pub record Pads (order lo hi : List ℕ) : Type 0 where
+-- n pads and p ports: the pads' numbers in order right to left, and each one's sides, which differ by 1 at most
+pub record Pads (order lo hi : List ℕ) (p : ℕ) : Type 0 where
   pub few : length order ≤ 64
+  pub ports : p ≤ 128
   pub lows : length lo ≡ length order
   pub highs : length hi ≡ length order
   pub listed : (k : ℕ) → k < length order → getD order k 0 < length order
   pub level : (j : ℕ) → getD lo j 0 ≤ getD hi j 0
-  pub top : (j : ℕ) → getD hi j 0 ≤ length order
+  pub narrow : (j : ℕ) → getD hi j 0 ≤ getD lo j 0 + 1
+  pub top : (j : ℕ) → getD hi j 0 ≤ p
 
 -- h is 1 more than the place in order of the rightmost pad of the strip a .. b - 1, when the strip gets its b - a leftmost pads;
 -- 0 where there are fewer than b - a

@@ -13,7 +13,7 @@ use Rattle.numbers.specs.Kept.{KeptFrom, kept-all, kept-later, kept-twice}
 use Rattle.strips.specs.Least.{Least, none}
 use Rattle.pads.specs.Pads.{Sides, bit}
 use Rattle.pads.specs.Counts.{le-or-lt, drop-at}
-use Rattle.slots.specs.Slots.{held, figureOf, layerOf, opensAt, figuresAt, figuresIn, level, barred, openFigure, openedOf, openedFrom, follows, Slots, Room, Written, Shut, Opens}
+use Rattle.slots.specs.Slots.{stored, figureOf, layerOf, opensAt, figuresAt, figuresIn, level, barred, openFigure, openedOf, openedFrom, follows, Room, Written, Shut, Opens}
 use Rattle.slots.proofs.Spots.{row-in}
 
 -- the marks say which ports are at the height of a pad from place k on
@@ -24,7 +24,7 @@ pub record Marked (S : Sides) (order shut : List ℕ) (p k : ℕ) : Type 0 where
 -- the open figures are done from place k on
 pub record OpenFrom (S : Sides) (C : ℕ → ℕ → Least) (order : List ℕ) (p : ℕ) (w v : List ℕ) (k : ℕ) : Type 0 where
   pub kept : KeptFrom (figuresAt (length order) p) w v
-  pub opens : (i q : ℕ) → k ≤ i → i < length order → q < p → getD v (opensAt (length order) p + (i * p + q)) 0 ≡ held (openFigure S C order i q)
+  pub opens : (i q : ℕ) → k ≤ i → i < length order → q < p → getD v (opensAt (length order) p + (i * p + q)) 0 ≡ stored (openFigure S C order i q)
 
 pub marked-none : (S : Sides) (order : List ℕ) (p : ℕ) → p ≤ 128 → Marked S order (replicate {A = ℕ} 128 0) p (length order)
 unfolding barred
@@ -51,7 +51,7 @@ marked-more S order shut shut′ p k few inside T M = record {
     go false m x e = e
 
 -- a figure by its mark
-opened-is : (x : Bool) (s y : ℕ) → s ≡ bit x → openedOf s y ≡ held (cond x none (figureOf y))
+opened-is : (x : Bool) (s y : ℕ) → s ≡ bit x → openedOf s y ≡ stored (cond x none (figureOf y))
 opened-is true s y e = rw e
 opened-is false s y e = rw e
 
@@ -64,7 +64,7 @@ module _ (S : Sides) (order : List ℕ) (p : ℕ) (w : List ℕ) where
     kept = kept-twice (O .kept) (kept-later (figuresAt (length order) p) (let t = row-in (length order) p k inside in omega arith) (W .kept));
     opens = λ i q ki il qp. ⊎-elim
         (λ (s : i ≤ k). let e : k ≡ i = omega arith in
-        subst (λ (m : ℕ). getD u (opensAt (length order) p + (m * p + q)) 0 ≡ held (openFigure S (figuresIn w (length order) p) order m q)) e (here q qp))
+        subst (λ (m : ℕ). getD u (opensAt (length order) p + (m * p + q)) 0 ≡ stored (openFigure S (figuresIn w (length order) p) order m q)) e (here q qp))
         (λ (s : k < i). W .kept .rest (opensAt (length order) p + (i * p + q)) (let t = mul-le-mul-right {m = suc k} {n = i} p s in omega arith)
         ∙ O .opens i q (omega arith) il qp)
         (le-or-lt i k);
@@ -73,7 +73,7 @@ module _ (S : Sides) (order : List ℕ) (p : ℕ) (w : List ℕ) where
       W : Written v u (opensAt (length order) p + k * p) p (openedFrom shut v (figuresAt (length order) p + getD order k 0 * p)) p
       W = rw (et, ef) at W′
 
-      here : (q : ℕ) → q < p → getD u (opensAt (length order) p + (k * p + q)) 0 ≡ held (openFigure S (figuresIn w (length order) p) order k q)
+      here : (q : ℕ) → q < p → getD u (opensAt (length order) p + (k * p + q)) 0 ≡ stored (openFigure S (figuresIn w (length order) p) order k q)
       here q qp =
           let e : opensAt (length order) p + (k * p + q) ≡ opensAt (length order) p + k * p + q = omega arith in
           let f : figuresAt (length order) p + getD order k 0 * p + q ≡ figuresAt (length order) p + (getD order k 0 * p + q) = omega arith in

@@ -15,18 +15,18 @@ use Rattle.pads.specs.Counts.{bit-le, spans-by, spans-not-lo, spans-not-hi}
 use Rattle.totals.specs.Parted.{spans-lo, spans-hi}
 use Rattle.totals.specs.Masks.{add, local-parted, local-blocked}
 use Rattle.totals.specs.Totals.{Capped, most-least, coded-meet}
-use Rattle.slots.specs.Slots.{noSum, held, figureOf, level, barred, lowest, withFour}
+use Rattle.slots.specs.Slots.{noSum, stored, figureOf, level, barred, lowest, withFour}
 
 -- ---- small totals
 
-pub held-most : (o : Least) → Capped (2 ^ 61) o → held o ≤ noSum
-held-most none h = omega arith
-held-most (some v) h = omega arith
+pub stored-most : (o : Least) → Capped (2 ^ 61) o → stored o ≤ noSum
+stored-most none h = omega arith
+stored-most (some v) h = omega arith
 
-pub held-plus : (x y : Least) → Capped (2 ^ 60) x → Capped (2 ^ 60) y → min noSum (held x + held y) ≡ held (add x y)
-held-plus none y p q = omega arith
-held-plus (some x) none p q = omega arith
-held-plus (some x) (some y) p q = omega arith
+pub stored-plus : (x y : Least) → Capped (2 ^ 60) x → Capped (2 ^ 60) y → min noSum (stored x + stored y) ≡ stored (add x y)
+stored-plus none y p q = omega arith
+stored-plus (some x) none p q = omega arith
+stored-plus (some x) (some y) p q = omega arith
 
 -- ---- the least of numbers, and of totals
 
@@ -82,8 +82,8 @@ unfolding lowest
 lowest-most f a zero = omega arith
 lowest-most f a (suc k) = let t = lowest-most f a k in omega arith
 
-pub lowest-is : (F : ℕ → Least) (f : ℕ → ℕ) (a k : ℕ) → ((q : ℕ) → a ≤ q → q < a + k → min noSum (f q) ≡ held (F q))
-    → ((q : ℕ) → a ≤ q → q < a + k → Capped (2 ^ 61) (F q)) → lowest f a k ≡ held (least F a k)
+pub lowest-is : (F : ℕ → Least) (f : ℕ → ℕ) (a k : ℕ) → ((q : ℕ) → a ≤ q → q < a + k → min noSum (f q) ≡ stored (F q))
+    → ((q : ℕ) → a ≤ q → q < a + k → Capped (2 ^ 61) (F q)) → lowest f a k ≡ stored (least F a k)
 unfolding lowest least
 lowest-is F f a zero h small = refl
 lowest-is F f a (suc k) h small =

@@ -21,8 +21,8 @@ use Rattle.totals.specs.Cell.{codedBy}
 abbrev pub noSum : ℕ
 noSum = 2 ^ 62
 
-abbrev pub held : Least → ℕ
-held o = codedBy noSum o
+abbrev pub stored : Least → ℕ
+stored o = codedBy noSum o
 
 -- A figure as the list holds it: one from 2 ^ 32 on says that the pad may not use the port.
 unfoldable pub figureOf : ℕ → Least
@@ -66,7 +66,7 @@ openFigure S C order k q = cond (barred S q (drop (k + 1) order)) none (C (getD 
 
 -- The same from a figure x and a mark s, 0 where the port is not barred.
 abbrev pub openedOf : ℕ → ℕ → ℕ
-openedOf s x = held (cond (eqb s 0) (figureOf x) none)
+openedOf s x = stored (cond (eqb s 0) (figureOf x) none)
 
 -- The smallest of f a, .., f (a + k - 1) and 2 ^ 62.
 unfoldable pub lowest : (ℕ → ℕ) → ℕ → ℕ → ℕ
@@ -76,17 +76,6 @@ lowest f a (suc k) = min (lowest f a k) (f (a + k))
 -- The smallest of v and f q, .., f (q + 3).
 abbrev pub withFour : (ℕ → ℕ) → ℕ → ℕ → ℕ
 withFour f v q = min (min (min (min v (f q)) (f (q + 1))) (f (q + 2))) (f (q + 3))
-
--- n pads and p ports: the pads' numbers in order right to left, and each one's sides, which differ by 1 at most.
-pub record Slots (order lo hi : List ℕ) (p : ℕ) : Type 0 where
-  pub few : length order ≤ 64
-  pub ports : p ≤ 128
-  pub lows : length lo ≡ length order
-  pub highs : length hi ≡ length order
-  pub listed : (k : ℕ) → k < length order → getD order k 0 < length order
-  pub level : (j : ℕ) → getD lo j 0 ≤ getD hi j 0
-  pub narrow : (j : ℕ) → getD hi j 0 ≤ getD lo j 0 + 1
-  pub top : (j : ℕ) → getD hi j 0 ≤ p
 
 -- The work list is long enough.
 pub record Room (n p size : ℕ) : Type 0 where
@@ -114,17 +103,17 @@ pub record Shut (l h : ℕ) (w v : List ℕ) : Type 0 where
 -- The open figures are right.
 abbrev pub Opens : Sides → (ℕ → ℕ → Least) → List ℕ → ℕ → List ℕ → Type 0
 Opens S C order p w =
-    (k q : ℕ) → k < length order → q < p → getD w (opensAt (length order) p + (k * p + q)) 0 ≡ held (openFigure S C order k q)
+    (k q : ℕ) → k < length order → q < p → getD w (opensAt (length order) p + (k * p + q)) 0 ≡ stored (openFigure S C order k q)
 
 -- The layer that starts at `here` is right: it has the least totals of the pads js.
 abbrev pub Layer : Sides → (ℕ → ℕ → Least) → List ℕ → ℕ → List ℕ → ℕ → Type 0
-Layer S C js p w here = (a b : ℕ) → a ≤ b → b ≤ p → getD w (cellAt p here a b) 0 ≡ held (bestWithin S C js a b)
+Layer S C js p w here = (a b : ℕ) → a ≤ b → b ≤ p → getD w (cellAt p here a b) 0 ≡ stored (bestWithin S C js a b)
 
 -- A layer while it is filled: the strips that start before a are right, and so are those in which the pad at place k does not lie.
 pub record LayerTo (S : Sides) (C : ℕ → ℕ → Least) (order : List ℕ) (p k : ℕ) (w v : List ℕ) (here a : ℕ) : Type 0 where
   pub kept : KeptFrom (here + layerOf p) w v
   pub cells : (a′ b′ : ℕ) → a′ ≤ b′ → b′ ≤ p → (a ≤ a′ → a′ ≤ S .lo (getD order k 0) → S .hi (getD order k 0) ≤ b′ → ⊥)
-      → getD v (cellAt p here a′ b′) 0 ≡ held (bestWithin S C (drop k order) a′ b′)
+      → getD v (cellAt p here a′ b′) 0 ≡ stored (bestWithin S C (drop k order) a′ b′)
 
 -- What a row's sums are read from: the open figures from `row` on, and the strips that start at a, of the layer that starts at `next`. None is above 2 ^ 62.
 pub record Summed (w : List ℕ) (row next p a : ℕ) : Type 0 where
@@ -186,10 +175,10 @@ pub record Table (order lo hi : List ℕ) (p : ℕ) (w : List ℕ) : Type 0 wher
 
 -- The least total of all pads on all ports, as the code holds it.
 abbrev pub leastOf : List ℕ → List ℕ → List ℕ → ℕ → List ℕ → ℕ
-leastOf order lo hi p w = held (strip.best (slotGrid order lo hi p w) order 0 p)
+leastOf order lo hi p w = stored (strip.best (slotGrid order lo hi p w) order 0 p)
 
 -- v is the least total, and says whether there is one.
-pub record Answer (order lo hi : List ℕ) (p : ℕ) (w : List ℕ) (v : ℕ) : Type 0 where
+pub record TellsLeast (order lo hi : List ℕ) (p : ℕ) (w : List ℕ) (v : ℕ) : Type 0 where
   pub total : v ≡ leastOf order lo hi p w
   pub none : noSum ≤ v → strip.best (slotGrid order lo hi p w) order 0 p ≡ none
 

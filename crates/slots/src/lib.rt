@@ -7,11 +7,11 @@ ghost use mathlib.Core.Path.{_≡_};
 ghost use Prim.Native.Nat.{_+_, _-_, _*_, _^_, _≤_, _<_, min};
 ghost use lib.ListN.{length, getD, drop};
 ghost use Rattle.numbers.specs.Kept.{KeptFrom};
-ghost use Rattle.pads.specs.Pads.{sidesOf};
+ghost use Rattle.pads.specs.Pads.{sidesOf, Pads};
 ghost use Rattle.totals.specs.Strip.{value};
 ghost use Rattle.totals.specs.Cell.{Leads, NextPort};
-ghost use Rattle.slots.specs.Slots.{layerOf, figuresAt, figuresIn, slotGrid, openedOf, lowest, withFour, portSum, Slots, Room};
-ghost use Rattle.slots.specs.Slots.{Written, follows, openedFrom, Shut, Opens, Layer, LayerTo, Summed, Sums, Readable, Fillable, FilledStrips, Three, Table, Answer, Inside};
+ghost use Rattle.slots.specs.Slots.{layerOf, figuresAt, figuresIn, slotGrid, openedOf, lowest, withFour, portSum, Room};
+ghost use Rattle.slots.specs.Slots.{Written, follows, openedFrom, Shut, Opens, Layer, LayerTo, Summed, Sums, Readable, Fillable, FilledStrips, Three, Table, TellsLeast, Inside};
 
 const NONE: u64 = 4611686018427387904;
 
@@ -59,7 +59,7 @@ fn shut_port(shut: &mut [u8], l: usize, h: usize)
 
 // The open figures, from the last place to the first: the ports at the heights of the pads passed are marked.
 fn open_figures(work: &mut [u64], order: &[u8], lo: &[u8], hi: &[u8], p: usize)
-    requires { ⌜ Slots (now order) (now lo) (now hi) p × Room (length (now order)) p (length (now work)) ⌝ }
+    requires { ⌜ Pads (now order) (now lo) (now hi) p × Room (length (now order)) p (length (now work)) ⌝ }
     ensures { λ _. ⌜ KeptFrom (figuresAt (length (now (order .entry))) p) (now (work .entry)) (now (work .exit)) ⌝ }
     ensures { λ _. ⌜ Opens (sidesOf (now (lo .entry)) (now (hi .entry))) (figuresIn (now (work .entry)) (length (now (order .entry))) p) (now (order .entry)) p (now (work .exit)) ⌝ }
 {
@@ -220,7 +220,7 @@ fn fill_rows(
     k: usize,
     here: usize,
 )
-    requires { ⌜ Slots (now order) (now lo) (now hi) p × Room (length (now order)) p (length (now work)) ⌝ }
+    requires { ⌜ Pads (now order) (now lo) (now hi) p × Room (length (now order)) p (length (now work)) ⌝ }
     requires { ⌜ (k < length (now order)) × (here ≡ k * layerOf p) × (length (now row) ≡ 128) ⌝ }
     requires { ⌜ Opens (sidesOf (now lo) (now hi)) (figuresIn (now work) (length (now order)) p) (now order) p (now work) ⌝ }
     requires { ⌜ Layer (sidesOf (now lo) (now hi)) (figuresIn (now work) (length (now order)) p) (drop (k + 1) (now order)) p (now work) (here + layerOf p) ⌝ }
@@ -253,7 +253,7 @@ fn fill_layer(
     k: usize,
     here: usize,
 )
-    requires { ⌜ Slots (now order) (now lo) (now hi) p × Room (length (now order)) p (length (now work)) ⌝ }
+    requires { ⌜ Pads (now order) (now lo) (now hi) p × Room (length (now order)) p (length (now work)) ⌝ }
     requires { ⌜ (k < length (now order)) × (here ≡ k * layerOf p) × (length (now row) ≡ 128) ⌝ }
     requires { ⌜ Opens (sidesOf (now lo) (now hi)) (figuresIn (now work) (length (now order)) p) (now order) p (now work) ⌝ }
     requires { ⌜ Layer (sidesOf (now lo) (now hi)) (figuresIn (now work) (length (now order)) p) (drop (k + 1) (now order)) p (now work) (here + layerOf p) ⌝ }
@@ -267,10 +267,10 @@ fn fill_layer(
 
 // Fills the work list, and answers the least total of all pads on all ports, or NONE.
 pub fn fill(work: &mut [u64], order: &[u8], lo: &[u8], hi: &[u8], p: usize) -> u64
-    requires { ⌜ Slots (now order) (now lo) (now hi) p × Room (length (now order)) p (length (now work)) ⌝ }
+    requires { ⌜ Pads (now order) (now lo) (now hi) p × Room (length (now order)) p (length (now work)) ⌝ }
     ensures { λ _. ⌜ KeptFrom (figuresAt (length (now (order .entry))) p) (now (work .entry)) (now (work .exit)) ⌝ }
     ensures { λ _. ⌜ Table (now (order .entry)) (now (lo .entry)) (now (hi .entry)) p (now (work .exit)) ⌝ }
-    ensures { λ v. ⌜ Answer (now (order .entry)) (now (lo .entry)) (now (hi .entry)) p (now (work .exit)) v ⌝ }
+    ensures { λ v. ⌜ TellsLeast (now (order .entry)) (now (lo .entry)) (now (hi .entry)) p (now (work .exit)) v ⌝ }
 {
     let mut row = [0u64; 128];
     let layer = layer_of(p);
@@ -307,7 +307,7 @@ pub fn next_port(
     b: usize,
     from: usize,
 ) -> usize
-    requires { ⌜ Slots (now order) (now lo) (now hi) p × Table (now order) (now lo) (now hi) p (now work) ⌝ }
+    requires { ⌜ Pads (now order) (now lo) (now hi) p × Table (now order) (now lo) (now hi) p (now work) ⌝ }
     requires { ⌜ Inside (slotGrid (now order) (now lo) (now hi) p (now work)) (now order) p m a b ⌝ }
     requires { ⌜ (a ≤ from) × (from ≤ b) ⌝ }
     ensures { λ q. ⌜ NextPort (Leads (slotGrid (now (order .entry)) (now (lo .entry)) (now (hi .entry)) p (now (work .entry))) (now (order .entry)) m a b) from b q ⌝ }

@@ -6,7 +6,7 @@ use lib.ListN.{length}
 use Rattle.strips.specs.Grid.{Grid, best}
 use Rattle.strips.specs.FirstNext.{optimal-best}
 use Rattle.totals.specs.Cell.{gridOf, coded, leastOf}
-use Rattle.slots.specs.Slots.{held, Answer}
+use Rattle.slots.specs.Slots.{stored, TellsLeast}
 use Rattle.places.specs.Places.{portIn}
 use Rattle.choices.specs.Source.{Source, gridOn, slots-grid, full-grid}
 use Rattle.choices.specs.Choices.{ProperLists}
@@ -19,8 +19,8 @@ best-total {order} {T} {lo} {hi} P t is w O =
     is (totalIn order T lo hi w) (optimal-best (gridOn order T lo hi) (T .ports) order (listed P) (portIn w) O .total)
 
 module _ (order : List ℕ) (T : Source) (lo hi : List ℕ) (t : ℕ) where
-  pub slots-least : length (T .heads) ≡ 0 → Answer order lo hi (T .ports) (T .totals) t → IsLeast order T lo hi t
-  slots-least none A v e = A .total ∙ ap held (sym (ap (λ (B : Grid). best B order 0 (T .ports)) (slots-grid order T lo hi none)) ∙ e)
+  pub slots-least : length (T .heads) ≡ 0 → TellsLeast order lo hi (T .ports) (T .totals) t → IsLeast order T lo hi t
+  slots-least none A v e = A .total ∙ ap stored (sym (ap (λ (B : Grid). best B order 0 (T .ports)) (slots-grid order T lo hi none)) ∙ e)
 
   pub full-least : (length (T .heads) ≡ 0 → ⊥) → T .ports ≡ length order → t ≡ leastOf order (T .costs) lo hi → IsLeast order T lo hi t
   full-least some same is v e =

@@ -70,23 +70,10 @@ pub fn step(
     while 0 < m {
         m -= 1;
         let j = order[m] as usize;
-        let from = places::wide(out[j]) + 1;
-        let q = choices::above(
-            heads,
-            totals,
-            order,
-            cost,
-            lo,
-            hi,
-            p,
-            out,
-            &at,
-            known,
-            m,
-            from,
-        );
-        if q < 128 {
-            out[j] = (q % 65536) as u16;
+        let q = places::wide(out[j]) + 1;
+        let next = choices::above(heads, totals, order, cost, lo, hi, p, out, &at, known, m, q);
+        if next < 128 {
+            out[j] = (next % 65536) as u16;
             fill_on(heads, totals, order, cost, lo, hi, p, out, known, m + 1);
             return true;
         }
@@ -106,7 +93,7 @@ fn figure(
     j: usize,
     q: usize,
 ) -> u64
-    requires { ⌜ Right (now order) (source (now heads) (now totals) (now cost) p) (now lo) (now hi) × (j < length (now order)) × (q < p) ⌝ }
+    requires { ⌜ Right (now order) (source (now heads) (now totals) (now cost) p) (now lo) (now hi) × (length (now order) ≤ 64) × (j < length (now order)) × (q < p) ⌝ }
     ensures { λ r. ⌜ (r ≡ gridOn (now (order .entry)) (source (now (heads .entry)) (now (totals .entry)) (now (cost .entry)) p) (now (lo .entry))
         (now (hi .entry)) .cost j q) × (r < 2 ^ 32) ⌝ }
 {

@@ -91,7 +91,7 @@ whole-count S n h (j ∷ js) =
     ap (λ (x : Bool). bit x + padsIn S 0 n js) (spans-by 0 n (S .lo j) (S .hi j) zero-le (h j)) ∙ (let more = whole-count S n h js in omega arith)
 
 -- the first row's last cell has the best total of all pads on all ports
-pub whole-best : {order cs lo hi hs ts : List ℕ} → Pads order lo hi → Table order cs lo hi hs ts
+pub whole-best : {order cs lo hi hs ts : List ℕ} → Pads order lo hi (length order) → Table order cs lo hi hs ts
     → getD ts (cornerOf (length order)) 0 ≡ coded (strip.best (gridOf order cs lo hi) order 0 (length order))
 unfolding bestWithin
 whole-best {order} {cs} {lo} {hi} {hs} {ts} P T =

@@ -22,7 +22,7 @@ fn fill_row(
     hi: &[u8],
     a: usize,
 )
-    requires { ⌜ Pads (now order) (now lo) (now hi) ⌝ }
+    requires { ⌜ Pads (now order) (now lo) (now hi) (length (now order)) ⌝ }
     requires { ⌜ Sizes (now heads) (now totals) (now order) (now cost) ⌝ }
     requires { ⌜ Rooms (now at) (now seen) (now all) ⌝ }
     requires { ⌜ (length (now lows) ≡ 65) × (length (now sums) ≡ 65) × (a ≤ length (now order)) ⌝ }
@@ -55,7 +55,7 @@ pub fn fill(
     lo: &[u8],
     hi: &[u8],
 ) -> u64
-    requires { ⌜ Pads (now order) (now lo) (now hi) ⌝ }
+    requires { ⌜ Pads (now order) (now lo) (now hi) (length (now order)) ⌝ }
     requires { ⌜ (length (now heads) ≡ 2145) × (length (now totals) ≡ 2145) × (length (now cost) ≡ length (now order) * length (now order)) ⌝ }
     ensures { λ _. ⌜ Table (now (order .entry)) (now (cost .entry)) (now (lo .entry)) (now (hi .entry)) (now (heads .exit)) (now (totals .exit)) ⌝ }
     ensures { λ v. ⌜ v ≡ leastOf (now (order .entry)) (now (cost .entry)) (now (lo .entry)) (now (hi .entry)) ⌝ }

@@ -121,7 +121,7 @@ module _ (S : Sides) (C : ℕ → ℕ → Least) (level : (j : ℕ) → S .lo j 
 pub figures-cheap : {hs ts order cs : List ℕ} → Sizes hs ts order cs → (j q : ℕ) → Capped (2 ^ 32) (figures cs (length order) j q)
 figures-cheap {hs} {ts} {order} {cs} Z j q = let u = Z .cheap (j * length order + q) in omega arith
 
-module _ {hs ts order cs lo hi : List ℕ} (P : Pads order lo hi) (Z : Sizes hs ts order cs) (r a b : ℕ) (T : Strip (sidesOf lo hi) order a b r)
+module _ {hs ts order cs lo hi : List ℕ} (P : Pads order lo hi (length order)) (Z : Sizes hs ts order cs) (r a b : ℕ) (T : Strip (sidesOf lo hi) order a b r)
     (D : Parts (sidesOf lo hi) (figures cs (length order)) order hs ts a b) (q : ℕ) (aq : a ≤ q) (qb : q < b) where
   abbrev h-below : ℕ
   h-below = getD hs (place a q) 0

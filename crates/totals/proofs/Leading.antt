@@ -27,7 +27,7 @@ count-keep S a b (j ∷ js) =
     let ih = count-keep S a b js in
     keep-if (fits S a b) (λ ks. bit (fits S a b j) + padsIn S a b js ≡ length ks) j js (λ e. rw e (omega arith)) (λ e. rw e (omega arith))
 
-module _ {hs ts order cs lo hi : List ℕ} (P : Pads order lo hi) (T : Table order cs lo hi hs ts) (r a b : ℕ) (O : FullFrom (gridOf order cs lo hi) order r a b) where
+module _ {hs ts order cs lo hi : List ℕ} (P : Pads order lo hi (length order)) (T : Table order cs lo hi hs ts) (r a b : ℕ) (O : FullFrom (gridOf order cs lo hi) order r a b) where
   abbrev S : Sides
   S = sidesOf lo hi
 

@@ -129,7 +129,7 @@ fn least_total(
     a: usize,
     b: usize,
 ) -> u64
-    requires { ⌜ Pads (now order) (now lo) (now hi) ⌝ }
+    requires { ⌜ Pads (now order) (now lo) (now hi) (length (now order)) ⌝ }
     requires { ⌜ Sizes (now heads) (now totals) (now order) (now cost) ⌝ }
     requires { ⌜ Strip (sidesOf (now lo) (now hi)) (now order) a b r ⌝ }
     requires { ⌜ PartsOf (now order) (now cost) (now lo) (now hi) (now heads) (now totals) a b ⌝ }
@@ -162,7 +162,7 @@ pub fn strip_total(
     b: usize,
     h: usize,
 ) -> u64
-    requires { ⌜ Pads (now order) (now lo) (now hi) ⌝ }
+    requires { ⌜ Pads (now order) (now lo) (now hi) (length (now order)) ⌝ }
     requires { ⌜ Sizes (now heads) (now totals) (now order) (now cost) ⌝ }
     requires { ⌜ (a ≤ b) × (b ≤ length (now order)) × Head (sidesOf (now lo) (now hi)) (now order) a b h ⌝ }
     requires { ⌜ PartsOf (now order) (now cost) (now lo) (now hi) (now heads) (now totals) a b ⌝ }
@@ -199,7 +199,7 @@ pub fn next_port(
     b: usize,
     from: usize,
 ) -> usize
-    requires { ⌜ Pads (now order) (now lo) (now hi) ⌝ }
+    requires { ⌜ Pads (now order) (now lo) (now hi) (length (now order)) ⌝ }
     requires { ⌜ Table (now order) (now cost) (now lo) (now hi) (now heads) (now totals) ⌝ }
     requires { ⌜ FullFrom (gridOf (now order) (now cost) (now lo) (now hi)) (now order) r a b ⌝ }
     requires { ⌜ (a ≤ from) × (from ≤ b) ⌝ }

@@ -36,7 +36,7 @@ choose-requires c κs = let s = c .before .before .before .before .before .befor
     let K = s .pre .1 .1 .0 .1 in let N = c .before .before .before .settle .ensures in (
       s .pre .0 .table,
       (
-        (settled-learnt (s .args .w .now) (s .args .m) K N .facts .long, few, s .pre .0 .proper .pads .ports),
+        (settled-learnt (s .args .w .now) (s .args .m) K N .facts .long, few, s .pre .0 .proper .pads),
         strip-look (s .args .m) (settled-strip (s .args .w .now) (s .args .m) K N) (s .pre .0) (s .pre .1 .0 .0) (s .pre .1 .0 .1),
       ),
     )

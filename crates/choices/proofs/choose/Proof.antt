@@ -40,7 +40,7 @@ returns c = let s = c .before .before .before .before .before .before .before .b
 
 next-port-requires : tie.Need-next-port-requires
 next-port-requires c κs = let s = c .before .before .before .before .before .before .before .before .before .before .before in
-    (s .pre .0, (s .pre .1 .1, (omega (arith, c .before .larger .ensures), omega (arith, c .if1 .left))))
+    ((s .pre .1 .0 .2, s .pre .0), (s .pre .1 .1, (omega (arith, c .before .larger .ensures), omega (arith, c .if1 .left))))
 
 returns-2 : tie.Need-returns-2
 returns-2 c = let s = c .before .before .before .before .before .before .before .before .before .before .before .before .before in

@@ -1,7 +1,7 @@
 -- `choices::next_port` meets its contract: either table's search, by laws of Sources. Assumes nothing.
 use native.Mathlib.Omega.{arith}
 use Rattle.choices.specs.Source.{Source, source}
-use Rattle.choices.proofs.Sources.{slots-inside, slots-next, full-ready, full-next}
+use Rattle.choices.proofs.Sources.{slots-inside, slots-next, full-pads, full-ready, full-next}
 use Rattle.choices.proofs.next_port.Statement.{statement}
 use Rattle.choices.proofs.next_port.Tie as tie
 
@@ -12,8 +12,8 @@ read s = source (s .args .heads .now) (s .args .totals .now) (s .args .cost .now
 next-port-requires : tie.Need-next-port-requires
 next-port-requires c κs =
     let s = c .before .before .before .before .before .before .before in
-    let F = s .pre .0 .slotted (c .if1 .taken) in (
-      (F .pads, F .table),
+    let F = s .pre .0 .1 .slotted (c .if1 .taken) in (
+      (s .pre .0 .0, F),
       (
         slots-inside (s .args .order .now) (read s) (s .args .lo .now) (s .args .hi .now) (c .if1 .taken) (s .args .m) (s .args .a)
             (s .args .b) (s .pre .1 .0),
@@ -31,8 +31,8 @@ next-port-requires-2 : tie.Need-next-port-requires-2
 next-port-requires-2 c κs =
     let s = c .before .before .before .before .before .before .before in
     let some = c .if1 .left in
-    let F = s .pre .0 .full (omega arith) in (
-      F .pads,
+    let F = s .pre .0 .1 .full (omega arith) in (
+      full-pads (s .args .order .now) (read s) (s .args .lo .now) (s .args .hi .now) F (s .pre .0 .0),
       (
         F .table,
         (

@@ -6,20 +6,20 @@ use Prim.Native.Nat.{_*_}
 use lib.ListN.{length}
 use Rattle.paper.specs.Job.{records}
 use Rattle.paper.specs.Layouts.{Board, boardOf}
-use Rattle.board.specs.Lists.{WorkOf}
-use Rattle.board.specs.Bridge.{pads}
+use Rattle.board.specs.Lists.{ListsOf}
+use Rattle.board.specs.Bridge.{even-pads}
 use Rattle.layouts.proofs.Translated.{working-on, startable-on, walks-on, stacked-costs, stacked-right, stacked-least}
 use Rattle.layouts.proofs.walk_at.Statement.{statement}
 use Rattle.layouts.proofs.walk_at.Tie as tie
 
--- the function's entry, from where the lists are made; the board; and the work lists with the table as it is lent
+-- the function's entry, from where the lists are made; the board; and its lists with the table as it is lent
 abbrev start : tie.After-prepare → tie.Start
 start p = p .before .before .before .before .before .before .before .before .before .before .before .before .before
 
 abbrev board : tie.After-prepare → Board
 board p = boardOf (records (start p .args .job .now))
 
-work : (p : tie.After-prepare) → let l = p .prepare .last in WorkOf (board p) (l .1 .1 .1 .0) (l .1 .1 .1 .1 .0) (l .1 .1 .1 .1 .1 .0)
+work : (p : tie.After-prepare) → let l = p .prepare .last in ListsOf (board p) (l .1 .1 .1 .0) (l .1 .1 .1 .1 .0) (l .1 .1 .1 .1 .1 .0)
 work p = let job = start p .pre .0 .0 in record {
   proper = job .proper;
   few = job .few;
@@ -38,7 +38,7 @@ prepare-requires c κs = search needs
 fill-requires : tie.Need-fill-requires
 fill-requires c κs =
     let p = c .before .before .before .before .before .before .before .before .before .before .before in
-    (pads (work p) refl, (start p .pre .1 .1, start p .pre .1 .2, square p))
+    (even-pads (work p) refl, (start p .pre .1 .1, start p .pre .1 .2, square p))
 
 walk-requires : tie.Need-walk-requires
 walk-requires c κs =

@@ -9,7 +9,7 @@ figure-requires : tie.Need-figure-requires
 figure-requires c κs =
     let p = c .before .before .before .before .before .before .before .pre in
     let F = p .0 .slotted (c .if1 .taken) in
-    (F .table .room, p .1, omega (arith, p .2))
+    (F .room, p .2, omega (arith, p .3))
 
 returns : tie.Need-returns
 returns c =
@@ -21,7 +21,7 @@ figure-requires-2 c κs =
     let p = c .before .before .before .before .before .before .before .pre in
     let some = c .if1 .left in
     let F = p .0 .full (omega arith) in
-    (p .1, omega (arith, F .ports, p .2), F .pads .few, F .table .sizes .square)
+    (p .2, omega (arith, F .ports, p .3), p .1, F .table .sizes .square)
 
 returns-2 : tie.Need-returns-2
 returns-2 c =

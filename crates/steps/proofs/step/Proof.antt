@@ -54,8 +54,8 @@ slice-read-wide c = let l = c .before .before .before .loop in let t : 0 < l .m 
 wide-requires : tie.Need-wide-requires Inv-loop μ-loop
 wide-requires c κs = tt
 
-add-from : tie.Need-add-from Inv-loop μ-loop
-add-from c = omega (arith, c .wide .ensures .1)
+add-q : tie.Need-add-q Inv-loop μ-loop
+add-q c = omega (arith, c .wide .ensures .1)
 
 slice-aggregate-above : tie.Need-slice-aggregate-above Inv-loop μ-loop
 slice-aggregate-above c = sym (c .before .before .before .before .before .before .before .before .place .kept .1 .1 .1 .0)
@@ -184,7 +184,7 @@ step-spec =
     mul-wide
     slice-read-wide
     wide-requires
-    add-from
+    add-q
     slice-aggregate-above
     above-requires
     cast-out

@@ -62,6 +62,7 @@ figure-requires c κs =
     let s = start (i .before) in
     let k = i .before .loop .k - 1 in (
       s .pre .0 .table,
+      s .pre .0 .proper .pads .few,
       s .pre .0 .proper .pads .listed k (place i),
       omega (arith, s .pre .1 .inside (getD (s .args .order .now) k 0) (place-mem (s .args .order .now) k (place i)) .high, c .wide .ensures .0),
     )

@@ -44,7 +44,7 @@ first-on-requires c κs =
     let numbers = length (now (s .args .work)) in
     let room = length (now (s .args .list)) in
     let f = first-accepted (job s) (bad s) (Lent numbers) room (passed told) in
-    ((f .0, f .1 .0, f .1 .1, f .2), first-working (job s) (bad s) numbers room (passed told))
+    ((f .0, f .1 .0, f .1 .1, first-working (job s) (bad s) numbers room (passed told)), f .2)
 
 enum-known-v : tie.Need-enum-known-v
 enum-known-v c = search needs

@@ -45,7 +45,7 @@ next-on-requires c κs =
     let list = now (s .args .list) in
     let f = measure-facts (job s) (bad s) (Lent numbers) list (passed told) in
     let m = measure-accepted (job s) (bad s) (Lent numbers) list (passed told) in
-    ((f .0, f .1 .0, f .1 .1, f .2), (first-working (job s) (bad s) numbers (length list) (m .0), m .1))
+    ((f .0, f .1 .0, f .1 .1, first-working (job s) (bad s) numbers (length list) (m .0)), (f .2, m .1))
 
 answer-of-requires : tie.Need-answer-of-requires
 answer-of-requires c κs = search needs

@@ -3,7 +3,7 @@ use native.Mathlib.Omega.{arith}
 use Rattle.paper.specs.Job.{slots}
 use Rattle.paper.specs.Layouts.{Board, boardOf, weighted}
 use Rattle.paper.specs.laws.Accepted.{weighted-narrow}
-use Rattle.board.specs.Lists.{WorkOf}
+use Rattle.board.specs.Lists.{ListsOf}
 use Rattle.layouts.proofs.Translated.{fillable, tabled}
 use Rattle.slots.specs.Slots.{figuresAt, Room}
 use Rattle.slots.specs.Lent.{room-lent, figures-fit}
@@ -13,14 +13,14 @@ use borrow.Author.Needs.{needs}
 use Rattle.layouts.proofs.slotted.fill.Statement.{statement}
 use Rattle.layouts.proofs.slotted.fill.Tie as tie
 
--- the function's entry, from where the lists are made; the board; and the work lists
+-- the function's entry, from where the lists are made; the board; and its lists
 abbrev start : tie.After-prepare → tie.Start
 start p = p .before .before .before .before .before .before .before .before .before .before .before
 
 abbrev board : tie.After-prepare → Board
-board p = boardOf (slots (start p .args .job .now) (start p .args .ports .now))
+board p = boardOf (slots (start p .args .pads .now) (start p .args .ports .now))
 
-lists : (p : tie.After-prepare) → let l = p .prepare .last in WorkOf (board p) (l .1 .1 .1 .0) (l .1 .1 .1 .1 .0) (l .1 .1 .1 .1 .1 .0)
+lists : (p : tie.After-prepare) → let l = p .prepare .last in ListsOf (board p) (l .1 .1 .1 .0) (l .1 .1 .1 .1 .0) (l .1 .1 .1 .1 .1 .0)
 lists p = let job = start p .pre .0 .0 in record {
   proper = job .proper;
   few = job .few;
@@ -30,7 +30,7 @@ lists p = let job = start p .pre .0 .0 in record {
 }
 
 room : (p : tie.After-prepare) → Room (board p .pads) (board p .ports) (length (start p .args .work .now))
-room p = let s = start p in room-lent (board p .pads) (board p .ports) (length (s .args .work .now)) (s .pre .0 .0 .few) (s .pre .0 .0 .slots-few) (s .pre .1)
+room p = let s = start p in room-lent (board p .pads) (board p .ports) (length (s .args .work .now)) (s .pre .0 .0 .few) (s .pre .0 .0 .slots-few) (s .pre .0 .3)
 
 ports-requires : tie.Need-ports-requires
 ports-requires c κs = omega (arith, c .before .before .before .before .before .before .pre .0 .0 .port-size)
@@ -48,7 +48,7 @@ figures-at-requires c κs = search needs
 base : (c : tie.After-figures-at) → let p = c .before .before .before .before .before .before .before .before in c .figures-at .result ≡ figuresAt (board p .pads) (board p .ports)
 base c =
     let p = c .before .before .before .before .before .before .before .before in
-    let n : length (start p .args .order .now) ≡ board p .pads = start p .pre .0 .3 .places in
+    let n : length (start p .args .order .now) ≡ board p .pads = start p .pre .1 .places in
     c .figures-at .ensures .0 ∙ (λ i. figuresAt (n i) (p .before .before .before .before .ports .ensures i))
 
 fill-work-requires : tie.Need-fill-work-requires

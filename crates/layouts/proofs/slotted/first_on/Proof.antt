@@ -28,7 +28,7 @@ returns c =
     let w = c .before .before .before .before .before in
     let s = w .before .before .before .before .before .before .before .before in
     let a = s .args in
-    first-walked (labelingOf (slots (a .job .now) (a .ports .now)) (byWeights (a .lw) (a .bw))) (s .pre .0 .0 .some) (a .layout .now) _ _ _ (w .walk .result) refl
+    first-walked (labelingOf (slots (a .pads .now) (a .ports .now)) (byWeights (a .lw) (a .bw))) (s .pre .0 .0 .some) (a .layout .now) _ _ _ (w .walk .result) refl
     (w .walk .ensures)
 
 pub first-on-spec : {M : Type 1} → statement M

@@ -33,7 +33,7 @@ returns c =
     let s = w .before .before .before .before .before .before .before .before in
     let a = s .args in
     rw (c .step-of .ensures)
-    (next-walked (labelingOf (slots (a .job .now) (a .ports .now)) (byWeights (a .lw) (a .bw))) (s .pre .0 .0 .some) (a .layout .now) _ _ _ (w .walk .result)
+    (next-walked (labelingOf (slots (a .pads .now) (a .ports .now)) (byWeights (a .lw) (a .bw))) (s .pre .0 .0 .some) (a .layout .now) _ _ _ (w .walk .result)
     (length-take-le _ _ (s .pre .0 .0 .few)) (w .walk .ensures))
 
 pub next-on-spec : {M : Type 1} → statement M

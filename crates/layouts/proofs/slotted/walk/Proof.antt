@@ -27,7 +27,7 @@ walk-at-requires : tie.Need-walk-at-requires
 walk-at-requires c κs =
     let s = c .before .before .before .before .before .before .before .before .before .before .before in
     let few = s .pre .0 .0 .few in
-    ((s .pre .0 .0, s .pre .0 .1, s .pre .0 .2, record { places = length-take-le _ _ few; lows = length-take-le _ _ few; highs = length-take-le _ _ few }), s .pre .1)
+    (s .pre .0, (record { places = length-take-le _ _ few; lows = length-take-le _ _ few; highs = length-take-le _ _ few }, s .pre .1))
 
 same-length : tie.Need-same-length
 same-length c = search needs

@@ -14,7 +14,7 @@ abbrev start : tie.After-fill → tie.Start
 start f = f .before .before .before .before .before .before .before .before .before .before .before .before .before
 
 abbrev board : tie.After-fill → Board
-board f = boardOf (slots (start f .args .job .now) (start f .args .ports .now))
+board f = boardOf (slots (start f .args .pads .now) (start f .args .ports .now))
 
 fill-requires : tie.Need-fill-requires
 fill-requires c κs = search needs
