@@ -244,9 +244,9 @@
  * in any call (CHEREMYSL_STACK_BYTES). As built, a call takes so many bytes of it at most, whatever
  * it is given, from its return address on:
  *
- *      First 38,480   Next 38,656   Page 38,672   Measure 424   Draw 136
- *      TableFirst 22,032   TableNext 22,208   TableMeasure 408
- *      SlotsFirst 3,328   SlotsNext 3,472   SlotsMeasure 456
+ *      First 38,480   Next 38,656   Page 38,672   Measure 536   Draw 136
+ *      TableFirst 22,032   TableNext 22,208   TableMeasure 520
+ *      SlotsFirst 3,328   SlotsNext 3,472   SlotsMeasure 568
  *
  * tests/stack.c measures it at 64 records, and fails if a call takes 48 bytes more.
  *

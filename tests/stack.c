@@ -39,10 +39,10 @@ static const struct {
     function enter;
     size_t stated;
 } calls[CALLS] = {
-    [MEASURE] = {(function)cheremysl_measure, 424},
+    [MEASURE] = {(function)cheremysl_measure, 536},
     [DRAW] = {(function)cheremysl_draw, 136},
-    [TABLE_MEASURE] = {(function)cheremysl_table_measure, 408},
-    [SLOTS_MEASURE] = {(function)cheremysl_slots_measure, 456},
+    [TABLE_MEASURE] = {(function)cheremysl_table_measure, 520},
+    [SLOTS_MEASURE] = {(function)cheremysl_slots_measure, 568},
 #ifndef NO_SEARCH
     [FIRST] = {(function)cheremysl_first, 38480},
     [NEXT] = {(function)cheremysl_next, 38656},

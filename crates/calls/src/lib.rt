@@ -14,7 +14,6 @@ use paper::Form;
 use paper::Paged;
 use paper::Work;
 ghost use mathlib.Core.Path.{_≡_};
-ghost use lib.ListN.{length};
 ghost use Rattle.paper.specs.Job.{records};
 ghost use Rattle.paper.specs.Layouts.{boardOf, leader, byWeights};
 ghost use Rattle.paper.specs.Refusals.{Passed, drawTrials};

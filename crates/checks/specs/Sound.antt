@@ -19,7 +19,7 @@ use Rattle.find.specs.declared.Found.the-variants.{At, Nowhere}
 use Rattle.find.specs.Search.{firstWhere, none-at, or-false-left, or-false-right}
 use Rattle.checks.specs.declared.Verdict.{Verdict}
 use Rattle.checks.specs.declared.Verdict.the-variants.{Sound, Refused}
-use Rattle.checks.specs.Verdicts.{foundBy, outcome, andThen, verdictAfter, after-append, Formed, Short}
+use Rattle.checks.specs.Verdicts.{foundBy, outcome, andThen, verdictAfter, after-append, Formed, Short, Sizes}
 
 outcome-sound : (r : ℕ) (f : Found) → outcome r f ≡ Sound → f ≡ Nowhere
 outcome-sound r (At i j) e = absurd (let z : _≡_ {A = ℕ} 0 1 = cc in omega arith)
@@ -51,12 +51,6 @@ append-sound v ts us e = after-sound (verdictAfter v ts) us (sym (after-append v
 -- 1 not given: a size of at most m bytes.
 size-le : (n d m : ℕ) → (eqb n 0 || not (eqb (n % d) 0) || ltb m n) ≡ false → n ≤ m
 size-le n d m e = ltb-false m n (or-false-right (eqb n 0 || not (eqb (n % d) 0)) (ltb m n) e)
-
--- At most 1,024 bytes, so at most 64 pads, and 128 ports.
-pub record Sizes (form : Form) (pads ports : List ℕ) : Type 0 where
-  pub short : Short pads ports
-  pub few : count pads ≤ 64
-  pub slots-few : portCount form ports ≤ 128
 
 pub sizes-sound : (form : Form) (pads ports : List ℕ) → Formed form pads ports → verdictAfter Sound (sizeTests form pads ports) ≡ Sound → Sizes form pads ports
 sizes-sound Records pads ports same e =

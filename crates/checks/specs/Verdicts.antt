@@ -6,6 +6,7 @@ use lib.ListN.{length}
 use Rattle.paper.specs.declared.Form.{Form}
 use Rattle.paper.specs.declared.Form.the-variants.{Records, Slots}
 use Rattle.paper.specs.declared.Refusal.{Refusal}
+use Rattle.paper.specs.Job.{count, portCount}
 use Rattle.paper.specs.Refusals.{refusal}
 use Rattle.paper.specs.laws.Tests.{Test, atEach, atPairs, atWhole}
 use Rattle.paper.specs.laws.Decided.{reasonOf}
@@ -56,3 +57,9 @@ Formed Slots pads ports = Unit {0}
 -- So few bytes that 16 bits number their records and ports.
 abbrev pub Short : List ℕ → List ℕ → Type 0
 Short pads ports = (length pads ≤ 1024) × (length ports ≤ 1024)
+
+-- so at most 64 pads, and 128 ports
+pub record Sizes (form : Form) (pads ports : List ℕ) : Type 0 where
+  pub short : Short pads ports
+  pub few : count pads ≤ 64
+  pub slots-few : portCount form ports ≤ 128

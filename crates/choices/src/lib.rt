@@ -55,8 +55,9 @@ fn settle(
         (now (known .entry)) (now (known .exit)) ⌝ }
 {
     let j = order[m] as usize;
-    let a = places::low(at, lo[j] as usize, m);
-    let b = places::high(at, hi[j] as usize, m, p);
+    let here = m as u8;
+    let a = places::low(at, lo[j] as usize, here);
+    let b = places::high(at, hi[j] as usize, here, p);
     note(known, m, a, b);
 }
 

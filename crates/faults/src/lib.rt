@@ -8,7 +8,7 @@ ghost use lib.ListN.{length};
 ghost use Rattle.paper.specs.Job.{count, lastOf, portCount};
 ghost use Rattle.paper.specs.Layouts.{boardFrom, held};
 ghost use Rattle.paper.specs.Refusals.{workNeeded};
-ghost use Rattle.paper.specs.laws.Tests.{badSize, badPortSize, badWeight, badTable, outside, badLast, badField, badHeight, notAbove, tooClose, sameName, sameX, sameEntry, between, leadersMeet, meetAt, badNumber};
+ghost use Rattle.paper.specs.laws.Tests.{badSize, badPortSize, badWeight, badTable, outside, badLast, badField, badHeight, notAbove, tooClose, sameName, sameX, between, leadersMeet, meetAt, badNumber};
 
 // 1: the byte count.
 pub fn bad_size(job: &[u8]) -> bool
@@ -112,7 +112,7 @@ pub fn too_close(form: Form, ports: &[u8], q: u16) -> bool
     }
 }
 
-// 6, 7, 8: records i and j.
+// 6, 7: records i and j.
 pub fn same_name(job: &[u8], i: u16, j: u16) -> bool
     requires { ⌜ (i < count (now job)) × (j < count (now job)) ⌝ }
     ensures { λ r. ⌜ r ≡ sameName (now (job .entry)) i j ⌝ }
@@ -128,18 +128,17 @@ pub fn same_x(job: &[u8], i: u16, j: u16) -> bool
     job::x(job, i) == job::x(job, j)
 }
 
-pub fn same_entry(list: &[u16], i: u16, j: u16) -> bool
-    requires { ⌜ (i < length (now list)) × (j < length (now list)) ⌝ }
-    ensures { λ r. ⌜ r ≡ sameEntry (now (list .entry)) i j ⌝ }
-{
-    list[i as usize] == list[j as usize]
-}
-
 // 9: a pad at (x, y) led to the height port, and one at (x2, y2) led to the height port2.
 fn lies_between(m: i64, a: i64, b: i64) -> bool
     ensures { λ r. ⌜ r ≡ between m a b ⌝ }
 {
-    (a <= m) & (m <= b) | (b <= m) & (m <= a)
+    if m < a {
+        b <= m
+    } else if a < m {
+        m <= b
+    } else {
+        true
+    }
 }
 
 // x says which arm passes the other pad: one test is enough.
@@ -148,8 +147,10 @@ fn leaders_touch(x: u32, y: i64, port: i64, x2: u32, y2: i64, port2: i64) -> boo
 {
     if x2 < x {
         lies_between(port, y2, port2)
+    } else if x < x2 {
+        lies_between(port2, y, port)
     } else {
-        (x < x2) & lies_between(port2, y, port)
+        false
     }
 }
 

@@ -2,39 +2,30 @@
 use crate::Found;
 use paper::Form;
 ghost use mathlib.Core.Path.{_≡_};
-ghost use Prim.Native.Nat.{_≤_, _<_};
+ghost use Prim.Native.Nat.{_≤_};
 ghost use lib.ListN.{length};
 ghost use Rattle.paper.specs.Job.{count, portCount};
 ghost use Rattle.paper.specs.Layouts.{boardFrom, held};
-ghost use Rattle.paper.specs.laws.Tests.{withEarlier, sameEntry, badEntry, meetAt};
+ghost use Rattle.paper.specs.laws.Tests.{badEntry, meetAt};
 ghost use Rattle.find.specs.Search.{firstWhere, firstPairWhere};
 ghost use Rattle.find.specs.Dispatch.{Led};
 
-// Whether entry i stood earlier.
-fn entry_stood(list: &[u16], i: u16) -> bool
-    requires { ⌜ i < length (now list) ⌝ }
-    ensures { λ r. ⌜ r ≡ withEarlier (sameEntry (now (list .entry))) i ⌝ }
-{
-    let mut j = 0;
-    while j < i {
-        if faults::same_entry(list, i, j) {
-            return true;
-        }
-        j += 1;
-    }
-    false
-}
-
-// The first of the n entries that is the port count p or more, or stood earlier.
+// The first of the n entries that is the port count p or more, or stood earlier: those that stood are marked.
 pub fn first_bad_entry(list: &[u16], n: u16, p: u16) -> Found
-    requires { ⌜ n ≤ length (now list) ⌝ }
+    requires { ⌜ (n ≤ length (now list)) × (p ≤ 128) ⌝ }
     ensures { λ r. ⌜ r ≡ firstWhere (badEntry p (now (list .entry))) n ⌝ }
 {
+    let mut marks = [false; 128];
     let mut i = 0;
     while i < n {
-        if (p <= list[i as usize]) | entry_stood(list, i) {
+        let q = list[i as usize];
+        if p <= q {
             return Found::At(i, 0);
         }
+        if marks[q as usize] {
+            return Found::At(i, 0);
+        }
+        marks[q as usize] = true;
         i += 1;
     }
     Found::Nowhere

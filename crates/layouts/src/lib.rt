@@ -8,7 +8,6 @@ use walks::Walked;
 ghost use mathlib.Core.Path.{_≡_};
 ghost use Prim.Native.Nat.{_≤_};
 ghost use lib.ListN.{length};
-ghost use Rattle.paper.specs.declared.Form.the-variants.{Records};
 ghost use Rattle.paper.specs.Job.{records, count};
 ghost use Rattle.paper.specs.Layouts.{boardOf, held, Untouching, byTable};
 ghost use Rattle.paper.specs.Problem.{labelingOf};

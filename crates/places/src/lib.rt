@@ -26,13 +26,13 @@ pub fn place(order: &[u8], w: &[u16], m: usize, at: &mut [u8])
 }
 
 // A strip's first port, of a pad above l ports: down to the nearest port that a pad before place m has.
-pub fn low(at: &[u8], l: usize, m: usize) -> usize
+pub fn low(at: &[u8], l: usize, m: u8) -> usize
     requires { ⌜ l ≤ length (now at) ⌝ }
     ensures { λ a. ⌜ Lowest (now (at .entry)) m l a ⌝ }
 {
     let mut a = l;
     while 0 < a {
-        if (at[a - 1] as usize) < m {
+        if at[a - 1] < m {
             return a;
         }
         a -= 1;
@@ -41,13 +41,13 @@ pub fn low(at: &[u8], l: usize, m: usize) -> usize
 }
 
 // The port after its last, of p ports with h at the pad's height or below: up to the nearest such port.
-pub fn high(at: &[u8], h: usize, m: usize, p: usize) -> usize
+pub fn high(at: &[u8], h: usize, m: u8, p: usize) -> usize
     requires { ⌜ (h ≤ p) × (p ≤ length (now at)) ⌝ }
     ensures { λ b. ⌜ Highest (now (at .entry)) m h p b ⌝ }
 {
     let mut b = h;
     while b < p {
-        if (at[b] as usize) < m {
+        if at[b] < m {
             return b;
         }
         b += 1;

@@ -1,5 +1,4 @@
 // A walk from best layout to best layout, over plain lists: those of the crate `choices`, and their least total.
-ghost use mathlib.Core.Path.{_≡_};
 ghost use Prim.Native.Nat.{_+_, _≤_, _<_};
 ghost use lib.ListN.{length};
 ghost use Rattle.choices.specs.Source.{source};

@@ -16,6 +16,9 @@ cast-j : tie.Need-cast-j
 cast-j c = let s = c .before .before .before .before .before .before .before in
     omega (arith, s .pre .0 .0 .listed (s .args .m) (s .pre .0 .1), s .pre .0 .0 .few)
 
+cast-here : tie.Need-cast-here
+cast-here c = let s = c .before .before .before .before .before .before .before in omega (arith, s .pre .0 .1, s .pre .0 .0 .few)
+
 shared-slice-read-low : tie.Need-shared-slice-read-low
 shared-slice-read-low c = let s = c .before .before .before .before .before .before .before .before in
     omega (arith, s .pre .0 .0 .listed (s .args .m) (s .pre .0 .1), s .pre .0 .0 .lows)
@@ -73,6 +76,7 @@ settle-spec =
     (tie.spec
     shared-slice-read-j
     cast-j
+    cast-here
     shared-slice-read-low
     cast-low
     low-requires

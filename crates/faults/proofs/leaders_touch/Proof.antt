@@ -34,18 +34,25 @@ returns c =
     )
     (sym (or-none _))
 
--- it is not: the first way round nothing touches
+-- it is to the left: the first way round nothing touches
 returns-2 : tie.Need-returns-2
 unfolding leadersMeet
 returns-2 c =
-    let s = c .before .before in
+    let s = c .before .before .before in
     rw (
       c .lies-between2 .ensures,
-      le-ltb (s .args .x2) (s .args .x) (c .before .if1 .left),
+      le-ltb (s .args .x2) (s .args .x) (c .before .before .if1 .left),
+      lt-ltb (s .args .x) (s .args .x2) (c .before .if2 .taken),
       toZ-ofZ (s .fits .port2),
       toZ-ofZ (s .fits .y),
       toZ-ofZ (s .fits .port),
     )
 
+returns-3 : tie.Need-returns-3
+unfolding leadersMeet
+returns-3 c =
+    let s = c .before .before in
+    rw (le-ltb (s .args .x2) (s .args .x) (c .before .if1 .left), le-ltb (s .args .x) (s .args .x2) (c .if2 .left))
+
 pub leaders-touch-spec : {M : Type 1} → statement M
-leaders-touch-spec = tie.close (tie.spec lies-between-requires lies-between-requires-2 returns returns-2)
+leaders-touch-spec = tie.close (tie.spec lies-between-requires lies-between-requires-2 returns returns-2 returns-3)

@@ -18,9 +18,6 @@ loop-holds c = (omega arith, omega arith, λ q u v. absurd (omega arith))
 shared-slice-read-if1 : tie.Need-shared-slice-read-if1 Inv-loop μ-loop
 shared-slice-read-if1 c = omega arith
 
-cast-if1 : tie.Need-cast-if1 Inv-loop μ-loop
-cast-if1 c = omega (arith, c .shared-slice-known .given (c .before .before .loop .b))
-
 returns : tie.Need-returns Inv-loop μ-loop
 returns c = let l = c .before .before .before .loop in record { over = l .inv .0; inside = l .inv .1; free = l .inv .2; stop = λ u. omega (arith, c .if1 .taken) }
 
@@ -38,4 +35,4 @@ returns-2 : tie.Need-returns-2 Inv-loop μ-loop
 returns-2 c = let l = c .before .loop in record { over = l .inv .0; inside = l .inv .1; free = l .inv .2; stop = λ u. absurd (omega arith) }
 
 pub high-spec : {M : Type 1} → statement M
-high-spec = tie.close (tie.spec Inv-loop μ-loop loop-holds shared-slice-read-if1 cast-if1 returns add-b loop-less loop-again returns-2)
+high-spec = tie.close (tie.spec Inv-loop μ-loop loop-holds shared-slice-read-if1 returns add-b loop-less loop-again returns-2)

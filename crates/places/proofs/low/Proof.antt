@@ -21,9 +21,6 @@ sub-if1 c = omega arith
 shared-slice-read-if1 : tie.Need-shared-slice-read-if1 Inv-loop μ-loop
 shared-slice-read-if1 c = omega arith
 
-cast-if1 : tie.Need-cast-if1 Inv-loop μ-loop
-cast-if1 c = omega (arith, c .shared-slice-known .given (c .before .before .loop .a - 1))
-
 returns : tie.Need-returns Inv-loop μ-loop
 returns c = let l = c .before .before .before .loop in record { under = l .inv .0; free = l .inv .1; stop = λ u. omega (arith, c .if1 .taken) }
 
@@ -41,4 +38,4 @@ returns-2 : tie.Need-returns-2 Inv-loop μ-loop
 returns-2 c = let l = c .before .loop in record { under = l .inv .0; free = l .inv .1; stop = λ u. absurd (omega arith) }
 
 pub low-spec : {M : Type 1} → statement M
-low-spec = tie.close (tie.spec Inv-loop μ-loop loop-holds sub-if1 shared-slice-read-if1 cast-if1 returns sub-a loop-less loop-again returns-2)
+low-spec = tie.close (tie.spec Inv-loop μ-loop loop-holds sub-if1 shared-slice-read-if1 returns sub-a loop-less loop-again returns-2)

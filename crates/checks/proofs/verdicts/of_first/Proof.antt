@@ -3,8 +3,8 @@ use mathlib.Core.Path.{_≡_, sym, _∙_}
 use denote.Ref.{now}
 use Rattle.paper.specs.laws.Tests.{firstTests, roomTests}
 use Rattle.checks.specs.declared.Verdict.the-variants.{Sound}
-use Rattle.checks.specs.Verdicts.{givenTest, after-append}
-use Rattle.checks.specs.Sound.{Sizes, was-sound, after-sound, sizes-sound}
+use Rattle.checks.specs.Verdicts.{givenTest, after-append, Sizes}
+use Rattle.checks.specs.Sound.{was-sound, after-sound, sizes-sound}
 use borrow.Author.Needs.{needs}
 use Rattle.checks.proofs.verdicts.of_first.Statement.{statement}
 use Rattle.checks.proofs.verdicts.of_first.Tie as tie
@@ -24,7 +24,7 @@ try-whole-requires : tie.Need-try-whole-requires
 try-whole-requires c κs = search needs
 
 of-room-requires : tie.Need-of-room-requires
-of-room-requires c κs = λ sound. let z = small c sound in (z .short, z .few, z .slots-few)
+of-room-requires c κs = small c
 
 of-job-requires : tie.Need-of-job-requires
 of-job-requires c κs =

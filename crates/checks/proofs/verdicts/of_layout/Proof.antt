@@ -19,7 +19,7 @@ try-touching-requires c κs =
     let list = now (s .args .list) in
     let none = was-sound (s .args .v) _ (atEach 8 n (badEntry p list)) (c .try-entries .ensures) sound in
     let given = s .pre (none .0) in
-    (given .0, (given .1, entries-below n p list (none .1)))
+    (given .0 .short, (given .1, entries-below n p list (none .1)))
 
 returns : tie.Need-returns
 unfolding layoutTests

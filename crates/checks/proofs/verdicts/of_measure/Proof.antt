@@ -17,8 +17,7 @@ of-layout-requires c κs =
     λ sound.
     let s = c .before .before .before .before in
     let a = s .args in
-    let (sizes, room) = first-sized (a .form) (now (a .job)) (now (a .ports)) (givenTest (a .given)) (a .work) (length (now (a .list))) (s .pre) (sym (c .of-first .ensures) ∙ sound) in
-    (sizes .short, room)
+    first-sized (a .form) (now (a .job)) (now (a .ports)) (givenTest (a .given)) (a .work) (length (now (a .list))) (s .pre) (sym (c .of-first .ensures) ∙ sound)
 
 returns : tie.Need-returns
 unfolding measureTests

@@ -8,14 +8,15 @@ enum-told : tie.Need-enum-told
 enum-told c = search needs
 
 records-requires : tie.Need-records-requires
-records-requires c κs = omega (arith, c .before .before .before .before .before .pre (c .enum-told .given .1) .0)
+records-requires c κs = omega (arith, c .before .before .before .before .before .pre (c .enum-told .given .1) .0 .short)
 
 ports-requires : tie.Need-ports-requires
-ports-requires c κs = omega (arith, c .before .before .before .before .before .before .pre (c .before .enum-told .given .1) .0)
+ports-requires c κs = omega (arith, c .before .before .before .before .before .before .pre (c .before .enum-told .given .1) .0 .short)
 
 first-bad-entry-requires : tie.Need-first-bad-entry-requires
 first-bad-entry-requires c κs =
-    rw (c .before .records .ensures) (c .before .before .before .before .before .before .before .pre (c .before .before .enum-told .given .1) .1)
+    let given = c .before .before .before .before .before .before .before .pre (c .before .before .enum-told .given .1) in
+    (rw (c .before .records .ensures) (given .1), rw (c .ports .ensures) (given .0 .slots-few))
 
 verdict-requires : tie.Need-verdict-requires
 verdict-requires c κs = search needs

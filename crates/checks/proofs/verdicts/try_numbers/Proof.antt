@@ -8,13 +8,13 @@ enum-told : tie.Need-enum-told
 enum-told c = search needs
 
 records-requires : tie.Need-records-requires
-records-requires c κs = omega (arith, c .before .before .before .before .pre (c .enum-told .given .1) .0)
+records-requires c κs = omega (arith, c .before .before .before .before .pre (c .enum-told .given .1) .short)
 
 cast-n : tie.Need-cast-n
 cast-n c = search needs
 
 ports-requires : tie.Need-ports-requires
-ports-requires c κs = omega (arith, c .before .before .before .before .before .pre (c .before .enum-told .given .1) .0)
+ports-requires c κs = omega (arith, c .before .before .before .before .before .pre (c .before .enum-told .given .1) .short)
 
 cast-p : tie.Need-cast-p
 cast-p c = search needs
@@ -22,7 +22,7 @@ cast-p c = search needs
 short-work-requires : tie.Need-short-work-requires
 short-work-requires c κs =
     let given = c .before .before .before .before .before .before .pre (c .before .before .enum-told .given .1) in
-    (rw (c .before .records .ensures) (given .1), rw (c .ports .ensures) (given .2))
+    (rw (c .before .records .ensures) (given .few), rw (c .ports .ensures) (given .slots-few))
 
 try-whole-requires : tie.Need-try-whole-requires
 try-whole-requires c κs = search needs
