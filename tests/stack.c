@@ -5,7 +5,7 @@
  * A figure counts from the caller's stack pointer before the call: the return address, and on down
  * to the lowest byte written. The library is entered from no C function, so the C compiler has no
  * part in it. Paint misses only what the deepest frame reserves below that byte and never writes:
- * a few words, since the work lists are set to zero and lie in frames above it.
+ * a few words, since the lists are set to zero and lie in frames above it.
  */
 #define _GNU_SOURCE
 #include <signal.h>

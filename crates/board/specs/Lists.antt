@@ -40,7 +40,7 @@ pub record SidesOf (b : Board) (lo hi : List ℕ) : Type 0 where
   pub high : Highs b hi (b .pads)
 
 -- Lists of the right lengths for n pads, lent to be filled.
-pub record Lent (n : ℕ) (order lo hi : List ℕ) : Type 0 where
+pub record RoomFor (n : ℕ) (order lo hi : List ℕ) : Type 0 where
   pub places : length order ≡ n
   pub lows : length lo ≡ n
   pub highs : length hi ≡ n

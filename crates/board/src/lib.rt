@@ -8,7 +8,7 @@ ghost use Rattle.paper.specs.Job.{count, xOf, portCount, portOf};
 ghost use Rattle.paper.specs.Layouts.{boardFrom};
 ghost use Rattle.paper.specs.laws.Accepted.{Accepted};
 ghost use Rattle.order.specs.Falling.{OrderOf};
-ghost use Rattle.board.specs.Lists.{Rises, Under, Upto, SidesOf, Lent};
+ghost use Rattle.board.specs.Lists.{Rises, Under, Upto, SidesOf, RoomFor};
 
 // How many ports are below the height h. Ports rise: the last one below it is found by halving.
 fn under(form: Form, ports: &[u8], h: i64) -> u16
@@ -60,7 +60,7 @@ fn sides(form: Form, job: &[u8], ports: &[u8], lo: &mut [u8], hi: &mut [u8])
 
 // The lists of a job's board.
 pub fn prepare(form: Form, job: &[u8], ports: &[u8], order: &mut [u8], lo: &mut [u8], hi: &mut [u8])
-    requires { ⌜ Accepted form (now job) (now ports) × Lent (count (now job)) (now order) (now lo) (now hi) ⌝ }
+    requires { ⌜ Accepted form (now job) (now ports) × RoomFor (count (now job)) (now order) (now lo) (now hi) ⌝ }
     ensures { λ _. ⌜ OrderOf (count (now (job .entry))) (xOf (now (job .entry))) (now (order .exit)) ⌝ }
     ensures { λ _. ⌜ SidesOf (boardFrom form (now (job .entry)) (now (ports .entry))) (now (lo .exit)) (now (hi .exit)) ⌝ }
 {

@@ -19,7 +19,7 @@ use Rattle.find.specs.declared.Found.the-variants.{At, Nowhere}
 use Rattle.find.specs.Search.{firstWhere, none-at, or-false-left, or-false-right}
 use Rattle.checks.specs.declared.Verdict.{Verdict}
 use Rattle.checks.specs.declared.Verdict.the-variants.{Sound, Refused}
-use Rattle.checks.specs.Verdicts.{foundBy, outcome, andThen, verdictAfter, after-append, Formed, Short, Sizes}
+use Rattle.checks.specs.Verdicts.{foundBy, outcome, andThen, verdictAfter, after-append, Formed, Short, Few}
 
 outcome-sound : (r : ℕ) (f : Found) → outcome r f ≡ Sound → f ≡ Nowhere
 outcome-sound r (At i j) e = absurd (let z : _≡_ {A = ℕ} 0 1 = cc in omega arith)
@@ -52,7 +52,7 @@ append-sound v ts us e = after-sound (verdictAfter v ts) us (sym (after-append v
 size-le : (n d m : ℕ) → (eqb n 0 || not (eqb (n % d) 0) || ltb m n) ≡ false → n ≤ m
 size-le n d m e = ltb-false m n (or-false-right (eqb n 0 || not (eqb (n % d) 0)) (ltb m n) e)
 
-pub sizes-sound : (form : Form) (pads ports : List ℕ) → Formed form pads ports → verdictAfter Sound (sizeTests form pads ports) ≡ Sound → Sizes form pads ports
+pub sizes-sound : (form : Form) (pads ports : List ℕ) → Formed form pads ports → verdictAfter Sound (sizeTests form pads ports) ≡ Sound → Few form pads ports
 sizes-sound Records pads ports same e =
     let l = size-le (length pads) 16 1024 (whole-false 1 (badSize pads) (then-sound Sound (atWhole 1 (badSize pads)) e .1)) in
     rw same (record { short = (l, l); few = omega arith; slots-few = omega arith })
@@ -68,7 +68,7 @@ entries-below n p list e k h = leb-false p (held list k) (or-false-left _ _ (non
 
 -- None of First's given: so few bytes, and room for the layout.
 pub first-sized : (form : Form) (pads ports : List ℕ) (given : Test) (work : Work) (room : ℕ) → Formed form pads ports
-    → verdictAfter Sound (firstTests form pads ports given work room) ≡ Sound → Sizes form pads ports × (count pads ≤ room)
+    → verdictAfter Sound (firstTests form pads ports given work room) ≡ Sound → Few form pads ports × (count pads ≤ room)
 unfolding firstTests
 first-sized form pads ports given work room formed e =
     let sized = verdictAfter Sound (sizeTests form pads ports) in

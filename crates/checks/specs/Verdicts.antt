@@ -59,7 +59,7 @@ abbrev pub Short : List ℕ → List ℕ → Type 0
 Short pads ports = (length pads ≤ 1024) × (length ports ≤ 1024)
 
 -- so at most 64 pads, and 128 ports
-pub record Sizes (form : Form) (pads ports : List ℕ) : Type 0 where
+pub record Few (form : Form) (pads ports : List ℕ) : Type 0 where
   pub short : Short pads ports
   pub few : count pads ≤ 64
   pub slots-few : portCount form ports ≤ 128

@@ -17,7 +17,7 @@ ghost use Rattle.paper.specs.Refusals.{workNeeded};
 ghost use Rattle.paper.specs.laws.Tests.{badWeight, badTable, badEntry, meetAt, atEach, atPairs, atWhole};
 ghost use Rattle.paper.specs.laws.Tests.{sizeTests, enoughTests, workTests, roomTests, fieldTests, placeTests, jobTests, layoutTests, firstTests, measureTests, drawTests};
 ghost use Rattle.find.specs.Dispatch.{testOf, numberOf, Led};
-ghost use Rattle.checks.specs.Verdicts.{outcome, andThen, verdictAfter, givenTest, Formed, Short, Sizes};
+ghost use Rattle.checks.specs.Verdicts.{outcome, andThen, verdictAfter, givenTest, Formed, Short, Few};
 
 // What a check found, as a verdict.
 fn verdict(reason: u16, found: Found) -> Verdict
@@ -62,7 +62,7 @@ fn try_records(v: Verdict, reason: u16, c: Check, form: Form, job: &[u8], ports:
 
 // 8: the entries of the list.
 fn try_entries(v: Verdict, form: Form, job: &[u8], ports: &[u8], list: &[u16]) -> Verdict
-    requires { ⌜ (v ≡ Verdict.Sound → Sizes form (now job) (now ports) × (count (now job) ≤ length (now list))) ⌝ }
+    requires { ⌜ (v ≡ Verdict.Sound → Few form (now job) (now ports) × (count (now job) ≤ length (now list))) ⌝ }
     ensures { λ r. ⌜ r ≡ andThen v (atEach 8 (count (now (job .entry))) (badEntry (portCount form (now (ports .entry))) (now (list .entry)))) ⌝ }
 {
     match v {
@@ -90,7 +90,7 @@ fn try_touching(v: Verdict, form: Form, job: &[u8], ports: &[u8], list: &[u16]) 
 
 // 24: a work list of so many numbers. What it needs is worked out of sizes that passed 1.
 fn try_numbers(v: Verdict, form: Form, job: &[u8], ports: &[u8], numbers: usize) -> Verdict
-    requires { ⌜ (v ≡ Verdict.Sound → Sizes form (now job) (now ports)) ⌝ }
+    requires { ⌜ (v ≡ Verdict.Sound → Few form (now job) (now ports)) ⌝ }
     ensures { λ r. ⌜ r ≡ andThen v (atWhole 24 (ltb numbers (workNeeded (count (now (job .entry))) (portCount form (now (ports .entry)))))) ⌝ }
 {
     match v {
@@ -105,7 +105,7 @@ fn try_numbers(v: Verdict, form: Form, job: &[u8], ports: &[u8], numbers: usize)
 
 // 24, where a work list is lent.
 fn try_work(v: Verdict, form: Form, job: &[u8], ports: &[u8], work: Work) -> Verdict
-    requires { ⌜ (v ≡ Verdict.Sound → Sizes form (now job) (now ports)) ⌝ }
+    requires { ⌜ (v ≡ Verdict.Sound → Few form (now job) (now ports)) ⌝ }
     ensures { λ r. ⌜ r ≡ verdictAfter v (workTests (count (now (job .entry))) (portCount form (now (ports .entry))) work) ⌝ }
 {
     match work {
@@ -137,7 +137,7 @@ fn of_sizes(form: Form, job: &[u8], ports: &[u8]) -> Verdict
 
 // 3, 14 and 24: the room that is lent.
 fn of_room(v: Verdict, form: Form, job: &[u8], ports: &[u8], work: Work, room: usize) -> Verdict
-    requires { ⌜ (v ≡ Verdict.Sound → Sizes form (now job) (now ports)) ⌝ }
+    requires { ⌜ (v ≡ Verdict.Sound → Few form (now job) (now ports)) ⌝ }
     ensures { λ r. ⌜ r ≡ verdictAfter v (roomTests form (now (job .entry)) (now (ports .entry)) work room) ⌝ }
 {
     let v3 = try_whole(v, 3, room < job.len() / 16);
@@ -179,7 +179,7 @@ pub fn of_job(v: Verdict, form: Form, job: &[u8], ports: &[u8]) -> Verdict
 
 // 8 and 9: the layout.
 pub fn of_layout(v: Verdict, form: Form, job: &[u8], ports: &[u8], list: &[u16]) -> Verdict
-    requires { ⌜ (v ≡ Verdict.Sound → Sizes form (now job) (now ports) × (count (now job) ≤ length (now list))) ⌝ }
+    requires { ⌜ (v ≡ Verdict.Sound → Few form (now job) (now ports) × (count (now job) ≤ length (now list))) ⌝ }
     ensures { λ r. ⌜ r ≡ verdictAfter v (layoutTests (boardFrom form (now (job .entry)) (now (ports .entry))) (now (list .entry))) ⌝ }
 {
     let v8 = try_entries(v, form, job, ports, list);

@@ -39,7 +39,7 @@ pub record Full (order : List ℕ) (T : Source) (lo hi : List ℕ) : Type 0 wher
 
 pub record Right (order : List ℕ) (T : Source) (lo hi : List ℕ) : Type 0 where
   pub full : 0 < length (T .heads) → Full order T lo hi
-  pub slotted : length (T .heads) ≡ 0 → slots.Table order lo hi (T .ports) (T .totals)
+  pub slotted : length (T .heads) ≡ 0 → slots.SlotTable order lo hi (T .ports) (T .totals)
 
 -- The board is that of the work list, or that of the table.
 module _ (order : List ℕ) (T : Source) (lo hi : List ℕ) where

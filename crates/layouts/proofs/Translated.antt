@@ -10,8 +10,8 @@ use Rattle.strips.specs.Least.{some}
 use Rattle.totals.specs.Cell.{leastOf}
 use Rattle.totals.specs.Cell as totals
 use Rattle.pads.specs.Pads.{Pads}
-use Rattle.slots.specs.Slots.{figureOf, figuresAt, figuresIn, Room, Table, TellsLeast}
-use Rattle.slots.specs.Lent.{figure-some}
+use Rattle.slots.specs.Slots.{figureOf, figuresAt, figuresIn, Room, SlotTable, TellsLeast}
+use Rattle.slots.specs.Lending.{figure-some}
 use Rattle.choices.specs.Source.{Source, source, Right}
 use Rattle.choices.specs.Choices.{Working}
 use Rattle.steps.specs.Steps.{IsLeast}
@@ -100,7 +100,7 @@ fillable b p size long same e W R = (rw same (pads W), rw (same, e, W .listed .a
 -- .. and what it then comes to.
 pub tabled : (b : Board) (cost : ℕ → ℕ → ℕ) {order lo hi w v : List ℕ} (p base t : ℕ) → p ≡ b .ports → base ≡ figuresAt (b .pads) (b .ports) → ListsOf b order lo hi
     → FiguresFrom b cost base w → ((i q : ℕ) → i < b .pads → q < b .ports → cost i q < 2 ^ 32)
-    → KeptFrom (figuresAt (length order) p) w v → Table order lo hi p v → TellsLeast order lo hi p v t → Tabled b cost order lo hi v t
+    → KeptFrom (figuresAt (length order) p) w v → SlotTable order lo hi p v → TellsLeast order lo hi p v t → Tabled b cost order lo hi v t
 tabled b cost p base t same start W F narrow K T A = record {
   lists = W;
   figures = figures-lent b cost (rw start at F) (rw (W .listed .arranged .long, same) at K) narrow;

@@ -12,7 +12,7 @@ use Rattle.paper.specs.Refusals.{workNeeded}
 use Rattle.paper.specs.Promises.{Kept, Following}
 use Rattle.paper.specs.laws.Accepted.{AcceptedJob}
 use Rattle.strips.specs.Least.{some}
-use Rattle.slots.specs.Slots.{figuresIn, Table, TellsLeast}
+use Rattle.slots.specs.Slots.{figuresIn, SlotTable, TellsLeast}
 use Rattle.board.specs.Lists.{ListsOf}
 use Rattle.walks.specs.declared.Start.{Start}
 use Rattle.walks.specs.declared.Start.the-variants.{First, Given}
@@ -66,5 +66,5 @@ Workable job lw bw size = AcceptedJob job × (lw ≤ 1000) × (bw ≤ 1000) × (
 pub record Tabled (b : Board) (cost : ℕ → ℕ → ℕ) (order lo hi work : List ℕ) (t : ℕ) : Type 0 where
   pub lists : ListsOf b order lo hi
   pub figures : (j q : ℕ) → j < b .pads → q < b .ports → figuresIn work (b .pads) (b .ports) j q ≡ some (cost j q)
-  pub table : Table order lo hi (b .ports) work
+  pub table : SlotTable order lo hi (b .ports) work
   pub least : TellsLeast order lo hi (b .ports) work t

@@ -12,7 +12,7 @@ ghost use Rattle.paper.specs.Job.{records, count};
 ghost use Rattle.paper.specs.Layouts.{boardOf, held, Untouching, byTable};
 ghost use Rattle.paper.specs.Problem.{labelingOf};
 ghost use Rattle.paper.specs.laws.Accepted.{AcceptedJob, Fair};
-ghost use Rattle.board.specs.Lists.{Lent};
+ghost use Rattle.board.specs.Lists.{RoomFor};
 ghost use Rattle.walks.specs.Walks.{Walks};
 ghost use Rattle.layouts.specs.Replies.{rulesOf, StartOn, FirstOn, NextOn, stepOf, PageOn};
 
@@ -52,7 +52,7 @@ fn walk_at(
     page: &mut [u16],
 ) -> Walked
     requires { ⌜ AcceptedJob (records (now job)) × Fair (boardOf (records (now job))) (byTable (now figures)) × StartOn start (boardOf (records (now job))) (now w) ⌝ }
-    requires { ⌜ Lent (count (now job)) (now order) (now lo) (now hi) × (length (now heads) ≡ 2145) × (length (now totals) ≡ 2145) ⌝ }
+    requires { ⌜ RoomFor (count (now job)) (now order) (now lo) (now hi) × (length (now heads) ≡ 2145) × (length (now totals) ≡ 2145) ⌝ }
     ensures { λ r. ⌜ Walks (rulesOf (labelingOf (records (now (job .entry))) (byTable (now (figures .entry))))) (count (now (job .entry))) start (now (w .entry))
         (now (page .entry)) (now (w .exit)) (now (page .exit)) r ⌝ }
 {

@@ -9,7 +9,7 @@ ghost use lib.ListN.{length};
 ghost use Rattle.paper.specs.Job.{slots, count};
 ghost use Rattle.paper.specs.Layouts.{boardOf, held, Untouching, byWeights, weighted};
 ghost use Rattle.paper.specs.Problem.{labelingOf};
-ghost use Rattle.board.specs.Lists.{Lent};
+ghost use Rattle.board.specs.Lists.{RoomFor};
 ghost use Rattle.walks.specs.Walks.{Walks};
 ghost use Rattle.layouts.specs.Replies.{rulesOf, Workable, StartOn, FirstOn, NextOn, Tabled};
 
@@ -25,7 +25,7 @@ fn fill(
     work: &mut [u64],
 ) -> u64
     requires { ⌜ Workable (slots (now pads) (now ports)) lw bw (length (now work)) ⌝ }
-    requires { ⌜ Lent (count (now pads)) (now order) (now lo) (now hi) ⌝ }
+    requires { ⌜ RoomFor (count (now pads)) (now order) (now lo) (now hi) ⌝ }
     ensures { λ t. ⌜ Tabled (boardOf (slots (now (pads .entry)) (now (ports .entry)))) (weighted (boardOf (slots (now (pads .entry)) (now (ports .entry)))) lw bw)
         (now (order .exit)) (now (lo .exit)) (now (hi .exit)) (now (work .exit)) t ⌝ }
 {
@@ -59,7 +59,7 @@ fn walk_at(
     page: &mut [u16],
 ) -> Walked
     requires { ⌜ Workable (slots (now pads) (now ports)) lw bw (length (now work)) ⌝ }
-    requires { ⌜ Lent (count (now pads)) (now order) (now lo) (now hi) × StartOn start (boardOf (slots (now pads) (now ports))) (now w) ⌝ }
+    requires { ⌜ RoomFor (count (now pads)) (now order) (now lo) (now hi) × StartOn start (boardOf (slots (now pads) (now ports))) (now w) ⌝ }
     ensures { λ r. ⌜ Walks (rulesOf (labelingOf (slots (now (pads .entry)) (now (ports .entry))) (byWeights lw bw))) (count (now (pads .entry))) start (now (w .entry))
         (now (page .entry)) (now (w .exit)) (now (page .exit)) r ⌝ }
 {

@@ -11,12 +11,12 @@ use Rattle.totals.specs.Strip.{bestWithin, localWithin}
 use Rattle.totals.specs.Cell.{Leads}
 use Rattle.totals.specs.Totals.{Capped}
 use Rattle.totals.specs.Leads.{leads-none, leads-yes, leads-no}
-use Rattle.slots.specs.Slots.{noSum, stored, layerOf, cellAt, opensAt, figuresIn, slotGrid, Layer, Three, Table, Inside}
+use Rattle.slots.specs.Slots.{noSum, stored, layerOf, cellAt, opensAt, figuresIn, slotGrid, Layer, Three, SlotTable, Inside}
 use Rattle.slots.proofs.Spots.{cell-in}
 use Rattle.slots.proofs.Values.{figure-cheap}
 use Rattle.slots.proofs.Layers.{best-small, stored-best, summed, lower-is, port-is}
 
-module _ {order lo hi w : List ℕ} {p : ℕ} (P : Pads order lo hi p) (T : Table order lo hi p w) (m a b : ℕ) (I : Inside (slotGrid order lo hi p w) order p m a b) where
+module _ {order lo hi w : List ℕ} {p : ℕ} (P : Pads order lo hi p) (T : SlotTable order lo hi p w) (m a b : ℕ) (I : Inside (slotGrid order lo hi p w) order p m a b) where
   abbrev S : Sides
   S = sidesOf lo hi
 

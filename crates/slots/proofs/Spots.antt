@@ -6,7 +6,7 @@ use native.Mathlib.Omega.{arith}
 use native.Mathlib.Nat.{mul-le-mul, mul-le-mul-right}
 use Rattle.pads.specs.Counts.{le-or-lt}
 use Rattle.slots.specs.Slots.{layerOf, cellAt, opensAt, figuresAt, Room}
-use Rattle.slots.specs.Lent.{figures-fit}
+use Rattle.slots.specs.Lending.{figures-fit}
 
 pub layer-small : (p : ℕ) → p ≤ 128 → layerOf p ≤ 16900
 unfolding layerOf

@@ -168,18 +168,18 @@ pub record Three (w : List ℕ) (figure below above : ℕ) : Type 0 where
   pub above-small : getD w above 0 ≤ noSum
 
 -- The tables are right.
-pub record Table (order lo hi : List ℕ) (p : ℕ) (w : List ℕ) : Type 0 where
+pub record SlotTable (order lo hi : List ℕ) (p : ℕ) (w : List ℕ) : Type 0 where
   pub room : Room (length order) p (length w)
   pub opens : Opens (sidesOf lo hi) (figuresIn w (length order) p) order p w
   pub layers : (k : ℕ) → k ≤ length order → Layer (sidesOf lo hi) (figuresIn w (length order) p) (drop k order) p w (k * layerOf p)
 
 -- The least total of all pads on all ports, as the code holds it.
-abbrev pub leastOf : List ℕ → List ℕ → List ℕ → ℕ → List ℕ → ℕ
-leastOf order lo hi p w = stored (strip.best (slotGrid order lo hi p w) order 0 p)
+abbrev pub leastOnSlots : List ℕ → List ℕ → List ℕ → ℕ → List ℕ → ℕ
+leastOnSlots order lo hi p w = stored (strip.best (slotGrid order lo hi p w) order 0 p)
 
 -- v is the least total, and says whether there is one.
 pub record TellsLeast (order lo hi : List ℕ) (p : ℕ) (w : List ℕ) (v : ℕ) : Type 0 where
-  pub total : v ≡ leastOf order lo hi p w
+  pub total : v ≡ leastOnSlots order lo hi p w
   pub none : noSum ≤ v → strip.best (slotGrid order lo hi p w) order 0 p ≡ none
 
 -- The pad at place m lies in the strip a .. b - 1.

@@ -11,7 +11,7 @@ ghost use Rattle.pads.specs.Pads.{sidesOf, Pads};
 ghost use Rattle.totals.specs.Strip.{value};
 ghost use Rattle.totals.specs.Cell.{Leads, NextPort};
 ghost use Rattle.slots.specs.Slots.{layerOf, figuresAt, figuresIn, slotGrid, openedOf, lowest, withFour, portSum, Room};
-ghost use Rattle.slots.specs.Slots.{Written, follows, openedFrom, Shut, Opens, Layer, LayerTo, Summed, Sums, Readable, Fillable, FilledStrips, Three, Table, TellsLeast, Inside};
+ghost use Rattle.slots.specs.Slots.{Written, follows, openedFrom, Shut, Opens, Layer, LayerTo, Summed, Sums, Readable, Fillable, FilledStrips, Three, SlotTable, TellsLeast, Inside};
 
 const NONE: u64 = 4611686018427387904;
 
@@ -269,7 +269,7 @@ fn fill_layer(
 pub fn fill(work: &mut [u64], order: &[u8], lo: &[u8], hi: &[u8], p: usize) -> u64
     requires { ⌜ Pads (now order) (now lo) (now hi) p × Room (length (now order)) p (length (now work)) ⌝ }
     ensures { λ _. ⌜ KeptFrom (figuresAt (length (now (order .entry))) p) (now (work .entry)) (now (work .exit)) ⌝ }
-    ensures { λ _. ⌜ Table (now (order .entry)) (now (lo .entry)) (now (hi .entry)) p (now (work .exit)) ⌝ }
+    ensures { λ _. ⌜ SlotTable (now (order .entry)) (now (lo .entry)) (now (hi .entry)) p (now (work .exit)) ⌝ }
     ensures { λ v. ⌜ TellsLeast (now (order .entry)) (now (lo .entry)) (now (hi .entry)) p (now (work .exit)) v ⌝ }
 {
     let mut row = [0u64; 128];
@@ -307,7 +307,7 @@ pub fn next_port(
     b: usize,
     from: usize,
 ) -> usize
-    requires { ⌜ Pads (now order) (now lo) (now hi) p × Table (now order) (now lo) (now hi) p (now work) ⌝ }
+    requires { ⌜ Pads (now order) (now lo) (now hi) p × SlotTable (now order) (now lo) (now hi) p (now work) ⌝ }
     requires { ⌜ Inside (slotGrid (now order) (now lo) (now hi) p (now work)) (now order) p m a b ⌝ }
     requires { ⌜ (a ≤ from) × (from ≤ b) ⌝ }
     ensures { λ q. ⌜ NextPort (Leads (slotGrid (now (order .entry)) (now (lo .entry)) (now (hi .entry)) p (now (work .entry))) (now (order .entry)) m a b) from b q ⌝ }

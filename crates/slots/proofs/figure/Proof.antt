@@ -5,7 +5,7 @@ use native.Mathlib.Omega.{arith}
 use lib.ListN.{length, getD}
 use borrow.Author.Tests.{lt-ltb, le-ltb}
 use Rattle.slots.specs.Slots.{figureOf, figuresAt}
-use Rattle.slots.specs.Lent.{figures-fit}
+use Rattle.slots.specs.Lending.{figures-fit}
 use Rattle.slots.proofs.Spots.{row-in}
 use borrow.Author.Needs.{needs}
 use Rattle.slots.proofs.figure.Statement.{statement}

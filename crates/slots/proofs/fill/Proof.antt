@@ -9,7 +9,7 @@ use Rattle.strips.specs.Grid as strip
 use Rattle.pads.specs.Pads.{sidesOf}
 use Rattle.slots.specs.Slots.{layerOf, figuresAt, figuresIn, Written, Opens, Layer, figures-same}
 use Rattle.slots.proofs.Spots.{cell-in, layer-small, layer-fits, sizes-small}
-use Rattle.slots.specs.Lent.{figures-fit}
+use Rattle.slots.specs.Lending.{figures-fit}
 use Rattle.slots.proofs.Layers.{LayersFrom, from-last, from-more, whole-is, whole-none}
 use Rattle.slots.proofs.Values.{figure-cheap}
 use Rattle.slots.proofs.fill.Statement.{statement}

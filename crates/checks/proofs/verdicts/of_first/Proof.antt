@@ -3,7 +3,7 @@ use mathlib.Core.Path.{_≡_, sym, _∙_}
 use denote.Ref.{now}
 use Rattle.paper.specs.laws.Tests.{firstTests, roomTests}
 use Rattle.checks.specs.declared.Verdict.the-variants.{Sound}
-use Rattle.checks.specs.Verdicts.{givenTest, after-append, Sizes}
+use Rattle.checks.specs.Verdicts.{givenTest, after-append, Few}
 use Rattle.checks.specs.Sound.{was-sound, after-sound, sizes-sound}
 use borrow.Author.Needs.{needs}
 use Rattle.checks.proofs.verdicts.of_first.Statement.{statement}
@@ -11,7 +11,7 @@ use Rattle.checks.proofs.verdicts.of_first.Tie as tie
 
 -- where 2 or 13 leaves the verdict sound, 1 did
 small : (c : tie.After-try-whole) → c .try-whole .result ≡ Sound
-    → let a = c .before .before .before .before .args in Sizes (a .form) (now (a .job)) (now (a .ports))
+    → let a = c .before .before .before .before .args in Few (a .form) (now (a .job)) (now (a .ports))
 small c sound =
     let s = c .before .before .before .before in
     let one = was-sound _ _ (givenTest (s .args .given)) (c .try-whole .ensures) sound .0 in

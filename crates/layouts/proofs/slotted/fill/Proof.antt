@@ -6,7 +6,7 @@ use Rattle.paper.specs.laws.Accepted.{weighted-narrow}
 use Rattle.board.specs.Lists.{ListsOf}
 use Rattle.layouts.proofs.Translated.{fillable, tabled}
 use Rattle.slots.specs.Slots.{figuresAt, Room}
-use Rattle.slots.specs.Lent.{room-lent, figures-fit}
+use Rattle.slots.specs.Lending.{room-lent, figures-fit}
 use mathlib.Core.Path.{_≡_, _∙_}
 use lib.ListN.{length}
 use borrow.Author.Needs.{needs}
