@@ -135,7 +135,7 @@ class Cheremysl:
     """The library: by its path, by the path in CHEREMYSL_LIBRARY, or where the loader finds it."""
 
     def __init__(self, path=None):
-        path = path or os.environ.get("CHEREMYSL_LIBRARY") or "libcheremysl.so.1"
+        path = path or os.environ.get("CHEREMYSL_LIBRARY") or "libcheremysl.so.2"
         library = ctypes.CDLL(path)
         byte, port, figure = ctypes.c_uint8, ctypes.c_uint16, ctypes.c_uint32
         job, layout, table, points, work = (

@@ -53,16 +53,15 @@
  * counted from 0, brings one pad and one port. All numbers are little-endian, on every machine.
  *
  *      offset  bytes  field         allowed
- *         0      2    name          0 to 65,535; 0 marks a dummy pad
+ *         0      2    name          1 to 65,535
  *         2      2    reserved      0 only
  *         4      4    x             1 to 1,000,000
  *         8      4    y             -1,000,000 to 1,000,000, two's complement
  *        12      4    port height   -1,000,000 to 1,000,000, two's complement
  *
  * Port heights rise from record to record, by at least 8, so that labels do not run into each
- * other: the port of record i is port number i. The x of all pads differ. Names other than 0
- * differ. A dummy pad is laid out like any other. Pads may share a height with each other and
- * with ports.
+ * other: the port of record i is port number i. The x of all pads differ, and so do their names.
+ * Pads may share a height with each other and with ports.
  *
  * Below, n is the number of records, job_bytes / 16.
  *
@@ -164,7 +163,7 @@
  *           page may have any number of entries
  *       4   a field is outside its range                                     first such record
  *       5   a port height is not above the one before                        first such record
- *       6   a name other than 0 stood in an earlier record                   first such record
+ *       6   a name stood in an earlier record                                first such record
  *       7   an x stood in an earlier record                                  first such record
  *       8   a given entry is n or more, in the slots calls p or more, or     first such record
  *           stood earlier
@@ -293,15 +292,15 @@
 
 /* ---- version ----------------------------------------------------------------------------- */
 
-#define CHEREMYSL_VERSION_MAJOR 1
-#define CHEREMYSL_VERSION_MINOR 3
+#define CHEREMYSL_VERSION_MAJOR 2
+#define CHEREMYSL_VERSION_MINOR 0
 #define CHEREMYSL_VERSION_PATCH 0
 
-/* A number to compare, in #if too: 1003000 for 1.3.0. */
+/* A number to compare, in #if too: 2000000 for 2.0.0. */
 #define CHEREMYSL_VERSION_NUMBER \
     (1000000 * CHEREMYSL_VERSION_MAJOR + 1000 * CHEREMYSL_VERSION_MINOR + CHEREMYSL_VERSION_PATCH)
 
-/* A string: "1.3.0". */
+/* A string: "2.0.0". */
 #define CHEREMYSL_VERSION_TEXT \
     CHEREMYSL_JOIN(CHEREMYSL_VERSION_MAJOR, CHEREMYSL_VERSION_MINOR, CHEREMYSL_VERSION_PATCH)
 #define CHEREMYSL_JOIN(major, minor, patch) CHEREMYSL_JOIN_WORDS(major, minor, patch)
@@ -393,7 +392,7 @@ enum cheremysl_refusal {
     CHEREMYSL_NO_ROOM = 3,         /* a layout of fewer than n entries, fewer than six floats */
     CHEREMYSL_BAD_FIELD = 4,       /* a field is outside its range */
     CHEREMYSL_PORT_NOT_ABOVE = 5,  /* a port height is not above the one before */
-    CHEREMYSL_NAME_TWICE = 6,      /* a name other than 0 stood in an earlier record */
+    CHEREMYSL_NAME_TWICE = 6,      /* a name stood in an earlier record */
     CHEREMYSL_X_TWICE = 7,         /* an x stood in an earlier record */
     CHEREMYSL_BAD_ENTRY = 8,       /* a given entry is no port's number, or stood earlier */
     CHEREMYSL_TOUCHING = 9,        /* a leader touches that of an earlier record */

@@ -143,11 +143,7 @@ static int names_one(int number) {
 
 static void say_record(const struct given_sheet *s, int record, int number) {
     fprintf(stderr, " record %d", record);
-    if (!names_one(number)) return;
-    if (pad_name(s, (size_t)record) == 0)
-        fprintf(stderr, " (dummy pad)");
-    else
-        fprintf(stderr, " (pad %d)", pad_name(s, (size_t)record));
+    if (names_one(number)) fprintf(stderr, " (pad %d)", pad_name(s, (size_t)record));
 }
 
 static void end_refused(const struct given_sheet *s, const char *file, const char *slots,
@@ -298,7 +294,7 @@ static void place_heights(struct picture *p) {
 /* The pixels from a pad to the end of its name. */
 static double name_room(const struct leader *l) {
     char digits[16];
-    return l->name == 0 ? DOT : 2 * DOT + LETTER * snprintf(digits, sizeof digits, "%d", l->name);
+    return 2 * DOT + LETTER * snprintf(digits, sizeof digits, "%d", l->name);
 }
 
 /* Would b's hand, dot or name meet the name of a, pad b being a little to the right of pad a? */
@@ -414,7 +410,7 @@ static struct label label_of(const struct picture *p, size_t port) {
     const char *before = ": ";
     label.letters = sprintf(label.text, "%d", (int)port);
     for (size_t i = 0; i < p->n; i++) {
-        if (p->leaders[i].port != port || p->leaders[i].name == 0) continue; /* a dummy has none */
+        if (p->leaders[i].port != port) continue;
         label.letters += sprintf(label.text + label.letters, "%s%d", before, p->leaders[i].name);
         before = " ";
     }
@@ -508,12 +504,8 @@ static void draw_line(const struct picture *p, const struct leader *l) {
 static void draw_leader(const struct picture *p, const struct leader *l) {
     const char *colour = colour_of(p, l->port);
     printf("<g id=\"leader-%d\" stroke=\"%s\">\n<title>", (int)l->record, colour);
-    if (l->name == 0)
-        printf("dummy pad");
-    else
-        printf("pad %d", l->name);
-    printf(" (record %d) to port %d: length %" PRId64 ", bends %d</title>\n", (int)l->record,
-           (int)l->port, length_of(l), bends_of(l));
+    printf("pad %d (record %d) to port %d: length %" PRId64 ", bends %d</title>\n", l->name,
+           (int)l->record, (int)l->port, length_of(l), bends_of(l));
     draw_line(p, l);
     printf("<circle cx=\"%.6g\" cy=\"%.6g\" r=\"%.4g\" stroke=\"none\" fill=\"%s\"/>\n</g>\n",
            pad_x(p, l), pad_y(p, l), DOT, colour);
@@ -526,7 +518,6 @@ static void draw_text(double x, double y, const char *colour, const char *text) 
 
 static void draw_name(const struct picture *p, const struct leader *l) {
     char digits[16];
-    if (l->name == 0) return;
     sprintf(digits, "%d", l->name);
     draw_text(pad_x(p, l) + 2 * DOT, pad_y(p, l), colour_of(p, l->port), digits);
 }

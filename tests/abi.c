@@ -7,8 +7,8 @@
 #include <stdio.h>
 #include <string.h>
 
-#if CHEREMYSL_VERSION_NUMBER < 1001000 || CHEREMYSL_VERSION_NUMBER >= 2000000
-#error "the version is not 1.1 or a later 1"
+#if CHEREMYSL_VERSION_NUMBER < 2000000 || CHEREMYSL_VERSION_NUMBER >= 3000000
+#error "the version is not 2.0 or a later 2"
 #endif
 
 /* These are refused by the compiler if a prototype is another. */

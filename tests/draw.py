@@ -76,11 +76,10 @@ def check_leaders(what, picture, rs, hs, layout):
     """The leaders are Draw's, with their titles and the total."""
     lengths = [r[2] + abs(r[3] - hs[q]) for r, q in zip(rs, layout)]
     bends = [int(r[3] != hs[q]) for r, q in zip(rs, layout)]
-    name = lambda r: 'pad %d' % r[0] if r[0] else 'dummy pad'
     check(what + ': ids', picture.ids == ['leader-%d' % i for i in range(len(rs))], picture.ids)
     check(what + ': points', picture.drawn == [expected_leader(r, hs[q]) for r, q in zip(rs, layout)], picture.drawn)
     check(what + ': titles', [g.find(SVG + 'title').text for g in picture.leaders] == [
-        '%s (record %d) to port %d: length %d, bends %d' % (name(r), i, layout[i], lengths[i], bends[i]) for i, r in enumerate(rs)])
+        'pad %d (record %d) to port %d: length %d, bends %d' % (r[0], i, layout[i], lengths[i], bends[i]) for i, r in enumerate(rs)])
     check(what + ': total', picture.title == what + ': length %d, bends %d' % (sum(lengths), sum(bends)), picture.title)
     check(what + ': total shown', picture.heading[0].text == picture.title)
 
@@ -101,7 +100,7 @@ def check_places(what, picture, rs, hs):
 
 def check_texts(what, picture, rs, hs, layout):
     """The labels are all there, and no two texts meet, nor does one leave the picture. Free ports are marked on the edge, and gray."""
-    named = [' '.join(str(r[0]) for r, q in zip(rs, layout) if q == k and r[0]) for k in range(len(hs))]
+    named = [' '.join(str(r[0]) for r, q in zip(rs, layout) if q == k) for k in range(len(hs))]
     check(what + ': labels', [t.text for t in picture.labels] == ['port: pad'] + ['%d' % k + (': ' + n if n else '') for k, n in enumerate(named)])
     at = {q: line[-1][1] for q, line in zip(layout, picture.lines)}
     check(what + ': labels at their ports', all(float(picture.labels[q + 1].get('y')) == y for q, y in at.items()))
@@ -112,7 +111,7 @@ def check_texts(what, picture, rs, hs, layout):
     check(what + ': gray', [t for t in picture.labels[1:] if t.get('fill') == 'gray'] == free)
     below = sorted((q, line.get('stroke')) for q, line in zip(layout, picture.leaders))
     check(what + ': colours', all(a[0] == b[0] or a[1] != b[1] for a, b in zip(below, below[1:])), below)
-    check(what + ': names', [(t.text, float(t.get('y'))) for t in picture.names] == [(str(r[0]), dot[1]) for r, dot in zip(rs, picture.dots) if r[0]])
+    check(what + ': names', [(t.text, float(t.get('y'))) for t in picture.names] == [(str(r[0]), dot[1]) for r, dot in zip(rs, picture.dots)])
     boxes = [box(t, picture.size) for t in picture.heading + picture.names + picture.labels]
     check(what + ': texts inside', all(b[0] >= 0 and b[1] >= 0 and b[2] <= picture.width and b[3] <= picture.height for b in boxes))
     labels = [box(t, picture.size, 0.5) for t in picture.labels + picture.heading]
@@ -249,8 +248,6 @@ def boards(r):
 
 def pack(r, xs, ys, ports):
     names = r.sample(range(1, 65536), len(xs))
-    if len(xs) > 2:
-        names[r.randrange(len(xs))] = names[r.randrange(len(xs))] = 0
     return b''.join(struct.pack('<HHIii', name, 0, x, y, q) for name, x, y, q in zip(names, xs, ys, ports))
 
 def pack_heights(heights):

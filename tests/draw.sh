@@ -46,8 +46,10 @@ for any in '' --any; do
     says 1 'cheremysl-draw: *field.job: refused 4 record 0 (pad 7): ?*' $any "$room/field.job"
     printf '7 1 5 5\n7 2 5 5\n' | made above
     says 1 'cheremysl-draw: *above.job: refused 5 record 1 (pad 7): ?*' $any "$room/above.job"
-    printf '7 1 5 5\n0 2 5 12\n' | made close
-    says 1 'cheremysl-draw: *close.job: refused 12 record 1 (dummy pad): ?*' $any "$room/close.job" 0 1
+    printf '7 1 5 5\n0 2 5 12\n' | made unnamed
+    says 1 'cheremysl-draw: *unnamed.job: refused 4 record 1 (pad 0): ?*' $any "$room/unnamed.job" 0 1
+    printf '7 1 5 5\n8 2 5 12\n' | made close
+    says 1 'cheremysl-draw: *close.job: refused 12 record 1 (pad 8): ?*' $any "$room/close.job" 0 1
     printf '7 1 5 5\n7 2 5 13\n' | made name
     says 1 'cheremysl-draw: *name.job: refused 6 record 1 (pad 7): ?*' $any "$room/name.job" 1 0
     printf '7 1 5 5\n8 1 5 13\n' | made x
@@ -71,7 +73,8 @@ strip falling 0 8 16 16
 strip close 0 8 15
 strip one 5
 printf '7 1 5\n8 2 5\n' | made two pads
-printf '7 1 5\n0 0 5\n' | made x pads
+printf '7 1 5\n8 0 5\n' | made x pads
+printf '0 1 5\n0 2 5\n' | made unnamed pads
 printf '7 1 5\n7 2 5\n' | made name pads
 printf '7 1 5\n8 1 5\n' | made again pads
 for any in '' --any; do
@@ -82,7 +85,8 @@ for any in '' --any; do
     says 1 "cheremysl-draw: $J5: refused 4 record 1 (pad 102): ?*" $any --slots $row $J5
     says 1 'cheremysl-draw: *far.ports: refused 4 port 2: ?*' $any --slots "$room/far.ports" "$room/two.pads"
     says 1 'cheremysl-draw: *far.ports: refused 4 port 2: ?*' $any --slots "$room/far.ports" "$room/two.pads" 0 1
-    says 1 'cheremysl-draw: *x.pads: refused 4 record 1 (dummy pad): ?*' $any --slots "$room/far.ports" "$room/x.pads"
+    says 1 'cheremysl-draw: *x.pads: refused 4 record 1 (pad 8): ?*' $any --slots "$room/far.ports" "$room/x.pads"
+    says 1 'cheremysl-draw: *unnamed.pads: refused 4 record 0 (pad 0): ?*' $any --slots "$room/far.ports" "$room/unnamed.pads"
     says 1 'cheremysl-draw: *falling.ports: refused 5 port 3: ?*' $any --slots "$room/falling.ports" "$room/name.pads"
     says 1 'cheremysl-draw: *close.ports: refused 12 port 2: ?*' $any --slots "$room/close.ports" "$room/name.pads" 0 1
     says 1 'cheremysl-draw: *name.pads: refused 6 record 1 (pad 7): ?*' $any --slots $row "$room/name.pads"

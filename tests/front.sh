@@ -60,12 +60,12 @@ job five '101 10 0 10' '102 20 30 10'
 job six '101 10 0 10' '101 20 30 20'
 job seven '101 10 0 10' '102 10 30 20'
 job twelve '101 10 0 10' '102 20 30 17'
-job dummies '0 10 0 10' '0 20 30 20'
+job unnamed '101 10 0 10' '0 20 30 20'
 awk 'BEGIN { for (i = 0; i < 64; i++) print 65472 + i, 1000000 - i, -1000000, 999000 + 8 * i }' | examples/mkjob >"$room/longest"
 cp Makefile "$room/-x"
 cp examples/J5.job "$room/a name
 with a line's end"
-for file in examples/*.job "$room"/z* "$room"/four "$room"/five "$room"/six "$room"/seven "$room"/twelve "$room"/dummies "$room"/longest "$room/-x" "$room"/a*; do
+for file in examples/*.job "$room"/z* "$room"/four "$room"/five "$room"/six "$room"/seven "$room"/twelve "$room"/unnamed "$room"/longest "$room/-x" "$room"/a*; do
     same "$file"
 done
 check "no text is longer" [ "$($run target/bin/sheet <"$room/longest" | wc -c)" -gt 1200 ]

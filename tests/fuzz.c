@@ -49,10 +49,10 @@ static void take_job(struct bytes *b, struct question *q) {
     int64_t scale = scales[take(b, 8)], port[MOST_PORTS] = {-(int64_t)take(b, 65)};
     for (size_t i = 1; i < p; i++) port[i] = port[i - 1] + 8 + take(b, 3);
     for (size_t i = 0; i < n; i++) {
-        int64_t name = take(b, 8) > 0 ? 101 + (int64_t)i : 0, x = 64 * take(b, 256) + i + 1;
+        int64_t x = 64 * take(b, 256) + i + 1;
         bool close = take(b, 2);
         int64_t y = close ? port[take(b, p)] - 1 + take(b, 3) : port[0] - 2 + take(b, 9 * p + 4);
-        put_record(q->job, i, name, x, scale * y, 0);
+        put_record(q->job, i, 101 + (int64_t)i, x, scale * y, 0);
     }
     for (size_t i = 0; i < p; i++) set_port(q, i, scale * port[i]);
     if (takes_work(q->call)) lend_work(q, take(b, 3));

@@ -41,7 +41,7 @@ refuses() {
 cat >"$room/user.c" <<'C'
 #include <cheremysl.h>
 
-#if CHEREMYSL_VERSION_NUMBER < 1003000
+#if CHEREMYSL_VERSION_NUMBER < 2000000
 #error "too old"
 #endif
 #if CHEREMYSL_SLOTS_WORK(CHEREMYSL_MAX_RECORDS, CHEREMYSL_MAX_SLOTS) != CHEREMYSL_MAX_SLOTS_WORK

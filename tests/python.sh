@@ -29,5 +29,5 @@ if [ "$run" ]; then
     echo "tests/python.sh: Python cannot load x86-64 code on this machine: the binding's texts and jobs alone are tried"
     python3 tests/python.py "$room/texts.txt"
 else
-    make -s shared "$@" && python3 tests/python.py "$room/texts.txt" "$PWD/build/libcheremysl.so.1" "${JOBS:-1500}" "${SEED:-1}"
+    make -s shared "$@" && python3 tests/python.py "$room/texts.txt" "$PWD/build/libcheremysl.so.2" "${JOBS:-1500}" "${SEED:-1}"
 fi

@@ -138,7 +138,7 @@ static void damage_size(struct question *q) {
 
 static void damage_field(struct question *q) {
     size_t i = any_record(q);
-    switch (below(8)) {
+    switch (below(9)) {
     case 0: put_reserved(q->job, i, below(2) ? 1u << below(16) : below(65536)); break;
     case 1: put_x(q->job, i, below(2) ? 0 : far_out()); break;
     case 2: put_y(q->job, i, far_out()); break;
@@ -146,6 +146,7 @@ static void damage_field(struct question *q) {
     case 4: q->job[16 * i + below(16)] = (uint8_t)below(256); break;
     case 5: q->job[16 * i + below(16)] ^= (uint8_t)(1 << below(8)); break;
     case 6: set_port(q, any_port(q), far_out()); break;
+    case 7: put_name(q->job, i, 0); break;
     default: put_number(q->job + 16 * i, 4, any_bits());
     }
 }

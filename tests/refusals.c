@@ -1,9 +1,10 @@
 /*
  * Every refusal of every call, at every record and in every way; every pair of refusals that one
  * input can deserve, wherever both stand; and all of them at once, mended one by one. Each time
- * nothing is written, and Page refuses alike with room for some and with room for none. Tables of
- * other lengths than the right one, for 1 to 64 pads, and of lengths that no memory has. Work lists
- * of just enough numbers and of one too few, for up to 64 pads and 128 ports.
+ * nothing is written, and Page refuses alike with room for some and with room for none. Name 0 at
+ * every record of up to 64, alone, twice and beside every other fault of a field. Tables of other
+ * lengths than the right one, for 1 to 64 pads, and of lengths that no memory has. Work lists of
+ * just enough numbers and of one too few, for up to 64 pads and 128 ports.
  */
 #include <stdio.h>
 #include <string.h>
@@ -13,7 +14,8 @@
 
 #define N 6
 #define P 7 /* ports, where they stand apart */
-#define WAYS 8
+#define WAYS 12 /* at most, to deserve one refusal */
+#define LENGTHS 8
 
 /*
  * Records 0 to 3 are straight; 4 and 5 are a pair that can be led both ways without touching, one
@@ -58,7 +60,7 @@ static void swap_entries(struct question *q, size_t i, size_t j) {
 /* The earlier record whose leader record i's will touch. */
 static size_t touched_by(size_t i, int way) { return way == 0 ? i - 1 : 0; }
 
-/* The last two ways are of pads and ports that stand apart; a port may have no record. */
+/* The last two ways are of pads whose ports stand apart; a port may have no record. */
 static bool bad_field(struct question *q, size_t i, int way) {
     if (way == 0) put_reserved(q->job, i, 1);
     if (way == 1) put_x(q->job, i, 0);
@@ -66,8 +68,9 @@ static bool bad_field(struct question *q, size_t i, int way) {
     if (way == 3) put_y(q->job, i, -1000001);
     if (way == 4) put_y(q->job, i, 1000001);
     if (way == 5) set_port(q, i, i == 0 ? -1000001 : 1000001);
-    if (way >= 6) put_port(q->job, i, way == 6 ? 1 : -16777216);
-    return (way < 6 || takes_slots(q->call)) && (i < N || way == 5);
+    if (way == 6) put_name(q->job, i, 0);
+    if (way >= 7) put_port(q->job, i, way == 7 ? 1 : -16777216);
+    return way < (takes_slots(q->call) ? 9 : 7) && (i < records_of(q) || way == 5);
 }
 
 /* Of the job; then, if there is one, of the list of ports. */
@@ -84,8 +87,8 @@ static bool bad_size(struct question *q, int way) {
 /* A work list of one number too few, or far fewer. */
 static void short_work(struct question *q, int way) {
     size_t p2 = (P + 2) * (P + 2), enough = 2 * (N + 1) * p2;
-    size_t others[WAYS] = {enough - 1, 0, 1, enough / 2, 2 * N * p2, enough - p2,
-                           2 * (N + 1) * (P + 1) * (P + 1), enough - 2};
+    size_t others[LENGTHS] = {enough - 1, 0, 1, enough / 2, 2 * N * p2, enough - p2,
+                              2 * (N + 1) * (P + 1) * (P + 1), enough - 2};
     q->numbers = others[way];
 }
 
@@ -99,7 +102,7 @@ static bool is_there(const struct question *q, int number, size_t i) {
     bool of_port = number == 4 || number == 5 || number == 12;
     bool needs_earlier = number >= 5 && number != 8;
     if (is_whole(number)) return i == 0;
-    return i < (of_port ? ports_of(q) : N) && (i > 0 || !needs_earlier);
+    return i < (of_port ? ports_of(q) : records_of(q)) && (i > 0 || !needs_earlier);
 }
 
 /*
@@ -108,8 +111,8 @@ static bool is_there(const struct question *q, int number, size_t i) {
  */
 static bool spoil(struct question *q, int number, size_t i, int way) {
     static const int64_t weights[2] = {1001, UINT32_MAX};
-    static const size_t tables[WAYS] = {N * N - 1, N * N + 1, 0, N, (N + 1) * (N + 1), 64 * 64,
-                                        N * P, P * P};
+    static const size_t tables[LENGTHS] = {
+        N * N - 1, N * N + 1, 0, N, (N + 1) * (N + 1), 64 * 64, N * P, P * P};
     if (!is_there(q, number, i)) return false;
     switch (number) {
     case 1: return bad_size(q, way);
@@ -127,9 +130,9 @@ static bool spoil(struct question *q, int number, size_t i, int way) {
     case 10: swap_entries(q, 4, 5); return way == 0;
     case 11: *(way % 2 ? &q->a : &q->b) = way < 2 ? N : UINT32_MAX; return way < 4;
     case 12: set_port(q, i, port_of(q, i - 1) + (way ? 1 : 7)); return way < 2;
-    case 13: q->figures = tables[way]; return true;
+    case 13: q->figures = tables[way % LENGTHS]; return way < LENGTHS;
     case 14: q->port_bytes = 4 * (size_t)(N - 1 - way); return way < N - 1;
-    case 24: short_work(q, way); return true;
+    case 24: short_work(q, way % LENGTHS); return way < LENGTHS;
     default: return false;
     }
 }
@@ -237,18 +240,75 @@ static void pads_and_then_ports(enum call call) {
     is_refused(q, 4, N - 1);
 }
 
-/* ---- tables of another length ---- */
-
-/* Of a straight board of n pads: all is right but the length, which must be n times n. */
-static void table_of(enum call call, size_t n, size_t figures) {
+/* Straight leaders of n pads to the first of p ports, or of n where these stand in the records. */
+static struct question straight(enum call call, size_t n, size_t p) {
     struct question q = good(call);
     q.job_bytes = 16 * n;
-    q.count = n;
-    for (size_t i = 0; i < n; i++) {
-        int64_t height = 10 * (int64_t)i;
-        put_record(q.job, i, 0, 1 + (int64_t)i, height, height);
+    q.port_bytes = 4 * p;
+    if (call == DRAW)
+        q.a = q.b = 0;
+    else
+        q.count = n;
+    for (size_t i = 0; i < n; i++)
+        put_record(q.job, i, 101 + (int64_t)i, 1 + (int64_t)i, 10 * (int64_t)i, 0);
+    for (size_t i = 0; i < ports_of(&q); i++) set_port(&q, i, 10 * (int64_t)i);
+    if (takes_table(call)) lend_table(&q, q.table, ZEROS);
+    if (takes_work(call)) lend_work(&q, 0);
+    return q;
+}
+
+/* ---- names of 0 ---- */
+
+/* 4 is of the first record with a field at fault, whichever it is; then of ports that stand apart. */
+static void beside_fields(const struct question *unnamed, size_t i, size_t j) {
+    for (int way = 0; way < WAYS; way++) {
+        struct question q = *unnamed;
+        bool pad = way != 5 || !takes_slots(q.call);
+        if (bad_field(&q, j, way)) is_refused(q, 4, (int)(pad && j < i ? j : i));
     }
-    lend_table(&q, q.table, ZEROS);
+}
+
+/* A name of 0 that stands twice is no name that stands twice; and 5, 12, 6 and 7 come after 4. */
+static void beside_rules(const struct question *unnamed, size_t i, size_t j) {
+    static const int later[] = {5, 12, 6, 7};
+    for (size_t k = 0; k < 4; k++) {
+        struct question q = *unnamed;
+        if (i == j && later[k] == 6) continue; /* which would give it a name */
+        if (spoil(&q, later[k], j, 0)) is_refused(q, 4, (int)i);
+    }
+}
+
+static void without_name(enum call call, size_t n, size_t i) {
+    struct question q = straight(call, n, n);
+    put_name(q.job, i, 0);
+    for (size_t j = 0; j < n; j++) {
+        beside_fields(&q, i, j);
+        beside_rules(&q, i, j);
+    }
+    put_name(q.job, i, i + 1 == n ? 65535 : 1);
+    check(ask(&q, AT_END).answer >= -1, &q, "any other name passes");
+}
+
+/* 64 records: one without a name; then all, which get theirs one by one. */
+static void names_of_0(enum call call) {
+    struct question q = straight(call, 64, 64), unnamed = q;
+    for (size_t n = 1; n <= 5; n++)
+        for (size_t i = 0; i < n; i++) without_name(call, n, i);
+    for (size_t i = 0; i < 64; i++) put_name(unnamed.job, i, 0);
+    for (size_t i = 0; i < 64; i++) {
+        put_name(q.job, i, 0);
+        is_refused(q, 4, (int)i);
+        put_name(q.job, i, 101 + (int64_t)i);
+        is_refused(unnamed, 4, (int)i);
+        put_name(unnamed.job, i, 101 + (int64_t)i);
+    }
+}
+
+/* ---- tables of another length ---- */
+
+/* All is right but the length, which must be n times n. */
+static void table_of(enum call call, size_t n, size_t figures) {
+    struct question q = straight(call, n, n);
     q.figures = figures;
     if (figures != n * n)
         is_refused(q, 13, 0);
@@ -283,21 +343,9 @@ static void endless_tables(enum call call) {
 
 /* ---- work lists of another length ---- */
 
-/* Straight leaders of n pads to the first of p ports. */
-static struct question strip_of(enum call call, size_t n, size_t p) {
-    struct question q = good(call);
-    q.job_bytes = 16 * n;
-    q.port_bytes = 4 * p;
-    q.count = n;
-    for (size_t i = 0; i < n; i++) put_record(q.job, i, 0, 1 + (int64_t)i, 10 * (int64_t)i, 0);
-    for (size_t i = 0; i < p; i++) set_port(&q, i, 10 * (int64_t)i);
-    lend_work(&q, 0);
-    return q;
-}
-
 /* Fewer numbers are refused before the pads are looked at; just enough are not. */
 static void work_lengths(enum call call, size_t n, size_t p) {
-    struct question q = strip_of(call, n, p);
+    struct question q = straight(call, n, p);
     size_t enough = q.numbers, layer = (p + 2) * (p + 2);
     size_t fewer[] = {enough - 1, 0, enough / 2, enough - layer, enough - 2 * layer,
                       2 * (n + 1) * (p + 1) * (p + 2)};
@@ -311,7 +359,7 @@ static void work_lengths(enum call call, size_t n, size_t p) {
 
 /* Lengths that no memory has, as below: they are enough, and a refusal writes nothing. */
 static void endless_work(enum call call) {
-    struct question q = strip_of(call, N, P);
+    struct question q = straight(call, N, P);
     put_x(q.job, 0, 0);
     for (int bit = 24; bit < 64; bit++) {
         q.numbers = (size_t)1 << bit;
@@ -328,7 +376,7 @@ static void works(enum call call) {
     for (size_t n = 60; n <= 64; n++) work_lengths(call, n, 128);
     endless_work(call);
     for (size_t n = 1; n <= 12; n += 1 + n / 2) {
-        struct question q = strip_of(call, n, n + n % 3);
+        struct question q = straight(call, n, n + n % 3);
         check(ask(&q, AT_END).answer >= -1, &q, "just enough numbers");
     }
 }
@@ -350,6 +398,7 @@ int main(void) {
         if (takes_layout(call)) longer_and_wrong(call);
         mended_one_by_one(call);
         if (takes_slots(call)) pads_and_then_ports(call);
+        names_of_0(call);
         if (takes_work(call)) works(call);
         if (!takes_table(call)) continue;
         for (size_t n = 1; n <= 64; n++) table_lengths(call, n);

@@ -20,7 +20,7 @@ def refusal(job, strip=None):
     if len(ports) < len(rs):
         return 14, 0
     for i, (name, reserved, x, y, q) in enumerate(rs):
-        if reserved or not 1 <= x <= 1000000 or abs(y) > 1000000 or abs(q) > (1000000 if strip is None else 0):
+        if not name or reserved or not 1 <= x <= 1000000 or abs(y) > 1000000 or abs(q) > (1000000 if strip is None else 0):
             return 4, i
     for q in range(len(ports)):
         if abs(ports[q]) > 1000000:
@@ -32,7 +32,7 @@ def refusal(job, strip=None):
         if ports[q] - ports[q - 1] < 8:
             return 12, q
     for i in range(len(rs)):
-        if rs[i][0] and rs[i][0] in [r[0] for r in rs[:i]]:
+        if rs[i][0] in [r[0] for r in rs[:i]]:
             return 6, i
     for i in range(len(rs)):
         if rs[i][2] in [r[2] for r in rs[:i]]:
@@ -54,21 +54,21 @@ def printed(job):
             best = key, f
     f = best[1]
     bends = [int(rs[i][3] != rs[f[i]][4]) for i in range(n)]
-    lines = ['%d %d %d %d\n' % (rs[i][0], f[i], length(i, f[i]), bends[i]) for i in range(n) if rs[i][0]]
+    lines = ['%d %d %d %d\n' % (rs[i][0], f[i], length(i, f[i]), bends[i]) for i in range(n)]
     return ''.join(lines) + 'total %d %d\n' % (best[0][0], sum(bends))
 
 def sound(r):
     n = r.randint(1, 6)
     span = r.choice([6, 12, 30])
     ports = list(itertools.accumulate([r.randint(-span, 0)] + [r.randint(8, r.choice([8, 9, 12])) for _ in range(n - 1)]))
-    names = [r.choice([0, k]) if r.random() < .4 else k for k in r.sample(range(1, 65536), n)]
+    names = r.sample(range(1, 65536), n)
     height = lambda: r.choice(ports) + r.randint(-1, 1) if r.random() < .5 else r.randint(-span, span + 8 * n)
     return b''.join(struct.pack('<HHIii', a, 0, x, height(), q) for a, x, q in zip(names, r.sample(range(1, 2 * span), n), ports))
 
 def spoilt(r):
     job = bytearray(sound(r))
     for _ in range(r.randint(1, 2)):
-        kind, at = r.randrange(8), 16 * r.randrange(len(job) // 16)
+        kind, at = r.randrange(9), 16 * r.randrange(len(job) // 16)
         if kind == 0:
             return bytes(job[:r.randrange(len(job))]) if r.random() < .5 else bytes(job) * r.randint(20, 3000)
         if kind == 1:
@@ -83,6 +83,8 @@ def spoilt(r):
             job += job[at:at + 16]
         if kind == 7:
             job[at:at + 2] = job[:2]
+        if kind == 8:
+            struct.pack_into('<H', job, at, 0)
         if kind == 6 and at:
             struct.pack_into('<i', job, at + 12, min(2 ** 31 - 1, struct.unpack_from('<i', job, at - 4)[0] + r.randint(6, 9)))
     return bytes(job)

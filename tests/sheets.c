@@ -595,8 +595,10 @@ static void fields(enum call call) {
         inside(call, put_x, i, 1000000);
         inside(call, put_y, i, -1000000);
         inside(call, put_y, i, 1000000);
-        inside(call, put_name, i, 0);
+        inside(call, put_name, i, 1);
+        inside(call, put_name, i, 256);
         inside(call, put_name, i, 65535);
+        outside(call, put_name, i, 0);
         outside(call, put_x, i, 0);
         outside(call, put_x, i, 1000001);
         outside(call, put_x, i, 2147483648);
@@ -633,10 +635,9 @@ static void job_rules(enum call call) {
     q = good(call, 3);
     put_name(q.job, 2, 101);
     is_refused(&q, 6, 2);
-    put_name(q.job, 0, 0);
-    put_name(q.job, 2, 0);
-    passes(&q);
-    put_x(q.job, 2, 20);
+    put_x(q.job, 2, 20); /* and one x twice, which is left when the name goes */
+    is_refused(&q, 6, 2);
+    put_name(q.job, 2, 104);
     is_refused(&q, 7, 2);
 }
 

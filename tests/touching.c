@@ -275,7 +275,7 @@ static void put_pads(struct question *q, size_t n, size_t order, size_t heights)
     put_order(x, n, order);
     for (size_t i = 0; i < n; i++, heights /= 2 * n + 1) {
         int64_t y = 4 * (int64_t)(heights % (2 * n + 1)) - 4;
-        put_record(q->job, i, 0, 1 + x[i], y, 8 * (int64_t)i);
+        put_record(q->job, i, 101 + (int64_t)i, 1 + x[i], y, 8 * (int64_t)i);
     }
 }
 

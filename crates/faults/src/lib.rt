@@ -74,7 +74,8 @@ pub fn bad_field(form: Form, job: &[u8], i: u16) -> bool
     ensures { λ r. ⌜ r ≡ badField form (now (job .entry)) i ⌝ }
 {
     let x = job::x(job, i);
-    (job::reserved(job, i) != 0)
+    (job::name(job, i) == 0)
+        | (job::reserved(job, i) != 0)
         | (x < 1)
         | (1000000 < x)
         | out_of_range(job::y(job, i))
@@ -117,8 +118,7 @@ pub fn same_name(job: &[u8], i: u16, j: u16) -> bool
     requires { ⌜ (i < count (now job)) × (j < count (now job)) ⌝ }
     ensures { λ r. ⌜ r ≡ sameName (now (job .entry)) i j ⌝ }
 {
-    let name = job::name(job, i);
-    (name != 0) & (name == job::name(job, j))
+    job::name(job, i) == job::name(job, j)
 }
 
 pub fn same_x(job: &[u8], i: u16, j: u16) -> bool

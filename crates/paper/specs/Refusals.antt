@@ -68,7 +68,7 @@ BadPortSize ports = (length ports ≡ 0) ⊎ (length ports % 4 ≢ 0) ⊎ (512 <
 abbrev pub BadWeight : ℕ → ℕ → Type 0
 BadWeight lw bw = (1000 < lw) ⊎ (1000 < bw)
 
--- 4: a field is outside its range; a height is if it is below -1,000,000 or above 1,000,000
+-- 4: a field is outside its range: a name is if it is 0 (02: "0 isn't a name"), a height if it is below -1,000,000 or above 1,000,000
 abbrev pub Outside : ℤ → Type 0
 Outside h = 1000000 < natAbs h
 
@@ -79,7 +79,7 @@ BadLast Slots n = n ≢ 0
 
 abbrev pub BadField : Form → List ℕ → ℕ → Type 0
 BadField form pads i =
-    (reservedOf pads i ≢ 0) ⊎ (xOf pads i < 1) ⊎ (1000000 < xOf pads i) ⊎ Outside (yOf pads i) ⊎ BadLast form (lastOf pads i)
+    (nameOf pads i ≡ 0) ⊎ (reservedOf pads i ≢ 0) ⊎ (xOf pads i < 1) ⊎ (1000000 < xOf pads i) ⊎ Outside (yOf pads i) ⊎ BadLast form (lastOf pads i)
 
 -- 5: a port height is not above the one before
 abbrev pub NotAbove : (ℕ → ℤ) → ℕ → Type 0
@@ -89,9 +89,9 @@ NotAbove port i = (0 < i) × (port i ≤ℤ port (i - 1))
 abbrev pub TooClose : (ℕ → ℤ) → ℕ → Type 0
 TooClose port i = (0 < i) × ((port i -ℤ port (i - 1)) <ℤ pos 8)
 
--- 6: a nonzero name stood in an earlier record
+-- 6: a name stood in an earlier record
 abbrev pub SameName : List ℕ → ℕ → ℕ → Type 0
-SameName pads i j = (nameOf pads i ≢ 0) × (nameOf pads i ≡ nameOf pads j)
+SameName pads i j = nameOf pads i ≡ nameOf pads j
 
 -- 7: an x stood in an earlier record
 abbrev pub SameX : List ℕ → ℕ → ℕ → Type 0

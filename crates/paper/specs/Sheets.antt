@@ -1,5 +1,5 @@
 -- DEFINITIONS. 01, "Sheets worked by hand": the jobs as bytes, and the sheets P1 to P12, each with its call, its input and its whole reply.
--- After P10 stands Measure's sheet for "its total is 85"; after P12, four for refusal 12, four for both records of 9, those of tables, and those of slots. Page has its own list.
+-- After P10 stands Measure's sheet for "its total is 85"; after P12, four for refusal 12, two for names of 0, four for both records of 9, those of tables, and those of slots. Page has its own list.
 use mathlib.Core.Path.{_≡_}
 use mathlib.Core.List.{List, [], _∷_, _++_}
 use Prim.Native.Nat.{ℕ, _/_, _%_}
@@ -142,6 +142,8 @@ sheets =
     sheet First (padAndPort 101 10 0 10 ++ padAndPort 102 20 30 17) 1 0 (9 ∷ 9 ∷ []) (refused 12 1) (9 ∷ 9 ∷ []) ∷  -- 12
     sheet First (padAndPort 101 10 0 10 ++ padAndPort 102 20 30 17 ++ padAndPort 103 30 40 17) 1 0 (9 ∷ 9 ∷ 9 ∷ []) (refused 5 2) (9 ∷ 9 ∷ 9 ∷ []) ∷  -- 5 before 12
     sheet First (padAndPort 101 10 0 10 ++ padAndPort 102 20 30 17 ++ padAndPort 101 30 40 30) 1 0 (9 ∷ 9 ∷ 9 ∷ []) (refused 12 1) (9 ∷ 9 ∷ 9 ∷ []) ∷  -- 12 before 6
+    sheet First (padAndPort 101 10 0 10 ++ padAndPort 0 20 30 20) 1 0 (9 ∷ 9 ∷ []) (refused 4 1) (9 ∷ 9 ∷ []) ∷  -- 0 is no name
+    sheet Measure (padAndPort 0 10 0 10 ++ padAndPort 0 20 30 10) 1 0 (0 ∷ 1 ∷ []) (refused 4 0) (0 ∷ 1 ∷ []) ∷  -- 4 before 5, and not 6
     sheet Measure J5 1 0 (1 ∷ 0 ∷ 2 ∷ []) (refusedPair 2 1) (1 ∷ 0 ∷ 2 ∷ []) ∷  -- 9
     sheet Measure J5 1 0 (2 ∷ 0 ∷ 1 ∷ []) (refusedPair 2 0) (2 ∷ 0 ∷ 1 ∷ []) ∷  -- 9
     sheet Next twoPairs 1 0 (1 ∷ 3 ∷ 2 ∷ 0 ∷ []) (refusedPair 2 1) (1 ∷ 3 ∷ 2 ∷ 0 ∷ []) ∷  -- 9
@@ -171,6 +173,7 @@ sheets =
     slotSheet First twoPads (heights (10 ∷ [])) 1 0 0 (9 ∷ 9 ∷ []) (refused 14 0) (9 ∷ 9 ∷ []) ∷  -- 14 before 24
     slotSheet First (pad 101 0 15) threePorts 1 0 99 (9 ∷ []) (refused 24 0) (9 ∷ []) ∷  -- 24 before 4
     slotSheet First (pad 101 0 15) threePorts 1 0 100 (9 ∷ []) (refused 4 0) (9 ∷ []) ∷
+    slotSheet First (pad 0 10 15) threePorts 1 0 100 (9 ∷ []) (refused 4 0) (9 ∷ []) ∷  -- 0 is no name
     slotSheet First (padAndPort 101 10 15 1) threePorts 1 0 100 (9 ∷ []) (refused 4 0) (9 ∷ []) ∷  -- the last field is 0
     slotSheet First (pad 101 10 0 ++ pad 102 0 30) (heights (1000001 ∷ 20 ∷ [])) 1 0 96 (9 ∷ 9 ∷ []) (refused 4 1) (9 ∷ 9 ∷ []) ∷  -- pads before ports
     slotSheet First onePad (heights (0 ∷ 10 ∷ 1000001 ∷ [])) 1 0 100 (9 ∷ []) (refused 4 2) (9 ∷ []) ∷  -- the port's number

@@ -164,11 +164,16 @@ next-passed job bad work = regular job bad work .next-is
 pub accepted-job : (job : Job) (bad : Badness) (work : Work) (room : ℕ) → Passed (firstTrials job bad work room)
     → (0 < boardOf job .pads) × (boardOf job .pads ≤ 64) × (boardOf job .ports ≤ 128) × Proper (boardOf job)
     × ((i : ℕ) → i < boardOf job .pads
-    → (reservedOf (padsOf job) i ≡ 0) × (1 ≤ boardOf job .x i) × (boardOf job .x i ≤ 1000000) × (natAbs (boardOf job .y i) ≤ 1000000))
+    → (nameOf (padsOf job) i ≢ 0) × (reservedOf (padsOf job) i ≡ 0) × (1 ≤ boardOf job .x i) × (boardOf job .x i ≤ 1000000) × (natAbs (boardOf job .y i) ≤ 1000000))
     × ((q : ℕ) → q < boardOf job .ports → natAbs (boardOf job .port q) ≤ 1000000)
 accepted-job job bad work room p =
     let a = by.Accepted.first-accepted job bad work room p .0 in
-    (a .some, a .few, a .slots-few, a .proper, (λ i l. (a .reserved i l, a .right i l, a .width i l, a .pad i l)), a .port)
+    (a .some, a .few, a .slots-few, a .proper, (λ i l. (a .named i l, a .reserved i l, a .right i l, a .width i l, a .pad i l)), a .port)
+
+-- In every accepted job a name stands for one pad: no two are equal, and none is 0 (02).
+pub names-differ : (job : Job) (bad : Badness) (work : Work) (room : ℕ) → Passed (firstTrials job bad work room)
+    → (i j : ℕ) → j < i → i < boardOf job .pads → nameOf (padsOf job) i ≢ nameOf (padsOf job) j
+names-differ job bad work room p = by.Accepted.first-accepted job bad work room p .0 .names-differ
 
 -- In every accepted job each port is at least 8 above those before it (02), so that ports rise.
 pub ports-apart : (job : Job) (bad : Badness) (work : Work) (room : ℕ) → Passed (firstTrials job bad work room)

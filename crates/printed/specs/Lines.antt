@@ -6,7 +6,6 @@ use native.Mathlib.Omega.{arith}
 use native.Mathlib.Numerals.{add-one}
 use lib.ListN.{length, replicate, take}
 use lib.Seq.{sets}
-use borrow.Author.Tests.{eq-eqb, ne-eqb}
 use Rattle.paper.specs.declared.Refusal.{Refusal}
 use Rattle.paper.specs.declared.Answer.{Answer}
 use Rattle.paper.specs.declared.Answer.the-variants.{Total, End, Refused}
@@ -40,19 +39,13 @@ prints-one job before r q a b p s =
 prints-whole : (job before : List ℕ) (r : ℕ) (after : List ℕ) → Prints job before r after → r ≤ length before → Printed job (take r after)
 prints-whole job before r after p h = subst (Printed job) (sym (writes-whole (p .written) (omega (arith, p .written .stop)))) (p .printed)
 
-module _ (job : List ℕ) (i q name : ℕ) (e : name ≡ nameOf job i) where
-  -- A dummy has no line;
-  pub dummy-line : (b : List ℕ) (at : ℕ) → name ≡ 0 → Writes b at (line job i q) at b
-  unfolding line
-  dummy-line b at h = rw (eq-eqb (nameOf job i) 0 (sym e ∙ h)) (writes-none b at)
-
-  -- any other record has four fields.
-  pub named-line : {b₀ b₁ b₂ b₃ b₄ : List ℕ} {k₀ k₁ k₂ k₃ k₄ l b : ℕ} → (name ≡ 0 → ⊥)
-      → l ≡ lengthOf (leader (boardOf (records job)) i q) → b ≡ bendsOf (leader (boardOf (records job)) i q)
-      → Writes b₀ k₀ (field name " ") k₁ b₁ → Writes b₁ k₁ (field q " ") k₂ b₂ → Writes b₂ k₂ (field l " ") k₃ b₃ → Writes b₃ k₃ (field b "\n") k₄ b₄
-      → Writes b₀ k₀ (line job i q) k₄ b₄
-  unfolding line
-  named-line h f g w₀ w₁ w₂ w₃ = rw (← e, ne-eqb name 0 h, ← f, ← g) (writes-then (writes-then (writes-then w₀ w₁) w₂) w₃)
+-- A line has four fields.
+pub line-written : (job : List ℕ) (i q : ℕ) {b₀ b₁ b₂ b₃ b₄ : List ℕ} {k₀ k₁ k₂ k₃ k₄ name l b : ℕ} → name ≡ nameOf job i
+    → l ≡ lengthOf (leader (boardOf (records job)) i q) → b ≡ bendsOf (leader (boardOf (records job)) i q)
+    → Writes b₀ k₀ (field name " ") k₁ b₁ → Writes b₁ k₁ (field q " ") k₂ b₂ → Writes b₂ k₂ (field l " ") k₃ b₃ → Writes b₃ k₃ (field b "\n") k₄ b₄
+    → Writes b₀ k₀ (line job i q) k₄ b₄
+unfolding line
+line-written job i q e f g w₀ w₁ w₂ w₃ = rw (← e, ← f, ← g) (writes-then (writes-then (writes-then w₀ w₁) w₂) w₃)
 
 -- No lines yet; the lines so far, and one more.
 pub lines-none : (job list b : List ℕ) → Writes b 0 (lines job list 0) 0 b

@@ -1,10 +1,8 @@
 -- DEFINITIONS. 01, "The printing program": what it prints for a job.
 use mathlib.Core.Path.{_≡_}
-use mathlib.Core.Bool.{cond}
 use mathlib.Core.List.{List, [], _++_}
 use Prim.Native.Nat.{ℕ, zero, suc}
 use Prim.Native.String.{String}
-use lib.Dec.{eqb}
 use lib.ListN.{replicate}
 use Rattle.paper.specs.declared.Refusal.{Refusal}
 use Rattle.paper.specs.declared.Answer.{Answer}
@@ -20,18 +18,17 @@ use Rattle.text.specs.Text.{bytes, decimal, Writes}
 abbrev pub field : ℕ → String → List ℕ
 field n s = decimal n ++ bytes s
 
--- The line of record i, led to port q: name, port number, leader length, bends. A dummy pad, with the name 0, has none.
+-- The line of record i, led to port q: name, port number, leader length, bends.
 unfoldable pub line : List ℕ → ℕ → ℕ → List ℕ
 line job i q =
-    cond (eqb (nameOf job i) 0) []
-    (field (nameOf job i) " " ++ field q " " ++ field (lengthOf (leader (boardOf (records job)) i q)) " " ++ field (bendsOf (leader (boardOf (records job)) i q)) "\n")
+    field (nameOf job i) " " ++ field q " " ++ field (lengthOf (leader (boardOf (records job)) i q)) " " ++ field (bendsOf (leader (boardOf (records job)) i q)) "\n"
 
 -- The lines of the first n records, in file order, for the layout that a list holds.
 unfoldable pub lines : List ℕ → List ℕ → ℕ → List ℕ
 lines job list zero = []
 lines job list (suc n) = lines job list n ++ line job n (held list n)
 
--- Sums of lengths and of bends: dummies are counted in both.
+-- Sums of the lengths and of the bends that are printed.
 abbrev pub lengths : List ℕ → List ℕ → ℕ
 lengths job list = sum (count job) (λ i. lengthOf (leader (boardOf (records job)) i (held list i)))
 

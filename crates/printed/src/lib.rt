@@ -21,9 +21,6 @@ fn line(job: &[u8], i: u16, q: u16, out: &mut [u8], at: usize) -> usize
     ensures { λ r. ⌜ Writes (now (out .entry)) at (line-of (now (job .entry)) i q) r (now (out .exit)) × (r ≤ at + 84) ⌝ }
 {
     let name = job::name(job, i);
-    if name == 0 {
-        return at;
-    }
     let length = measure::length(Form::Records, job, job, i, q);
     let bends = measure::bends(Form::Records, job, job, i, q);
     let a = text::field(name as u64, b' ', out, at);

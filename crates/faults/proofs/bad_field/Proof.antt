@@ -7,6 +7,9 @@ use Rattle.faults.proofs.bad_field.Tie as tie
 x-requires : tie.Need-x-requires
 x-requires c κs = search needs
 
+name-requires : tie.Need-name-requires
+name-requires c κs = search needs
+
 reserved-requires : tie.Need-reserved-requires
 reserved-requires c κs = search needs
 
@@ -28,8 +31,9 @@ returns c =
       read-back (y .result) (y .ok),
       y .ensures .0,
       c .before .before .before .reserved .ensures,
-      c .before .before .before .before .x .ensures,
+      c .before .before .before .before .name .ensures,
+      c .before .before .before .before .before .x .ensures,
     )
 
 pub bad-field-spec : {M : Type 1} → statement M
-bad-field-spec = tie.close (tie.spec x-requires reserved-requires y-requires out-of-range-requires bad-last-requires returns)
+bad-field-spec = tie.close (tie.spec x-requires name-requires reserved-requires y-requires out-of-range-requires bad-last-requires returns)

@@ -16,7 +16,7 @@ use Rattle.paper.specs.declared.Form.{Form}
 use Rattle.paper.specs.declared.Form.the-variants.{Records}
 use Rattle.paper.specs.declared.Work.{Work}
 use Rattle.paper.specs.declared.Work.the-variants.{Unlent, Lent}
-use Rattle.paper.specs.Job.{Job, records, slots, formOf, padsOf, portsOf, lastOf, count, reservedOf, xOf, yOf, portCount, portOf}
+use Rattle.paper.specs.Job.{Job, records, slots, formOf, padsOf, portsOf, lastOf, count, nameOf, reservedOf, xOf, yOf, portCount, portOf}
 use Rattle.paper.specs.Layouts.{Board, boardFrom, boardOf, held, Badness, byWeights, byTable, weighted, costOf, total, Layout, Untouching}
 use Rattle.paper.specs.Problem.{Best, labelingOf}
 use Rattle.paper.specs.Refusals.{BadSize, BadField, BadEntry, workNeeded, Clean, Passed, RefusedBy, refusal}
@@ -29,7 +29,7 @@ use Rattle.paper.specs.laws.Totals.{sum-at-most, weighted-bound, total-b
 not-lt : {a b : ℕ} → ¬ (a < b) → b ≤ a
 not-lt n = omega arith
 
--- An accepted job: 1 to 64 pads and as many ports at least, at most 128, fields in range, ports at least 8 apart that rise and pads whose x differ.
+-- An accepted job: 1 to 64 pads and as many ports at least, at most 128, fields in range, names that differ, ports at least 8 apart that rise and pads whose x differ.
 pub record Accepted (form : Form) (pads ports : List ℕ) : Type 0 where
   pub size : length pads ≤ 1024
   pub port-size : length ports ≤ 1024
@@ -37,6 +37,8 @@ pub record Accepted (form : Form) (pads ports : List ℕ) : Type 0 where
   pub few : count pads ≤ 64
   pub slots-few : portCount form ports ≤ 128
   pub whole : 16 * count pads ≡ length pads
+  pub named : (i : ℕ) → i < count pads → nameOf pads i ≢ 0
+  pub names-differ : (i j : ℕ) → j < i → i < count pads → nameOf pads i ≢ nameOf pads j
   pub reserved : (i : ℕ) → i < count pads → reservedOf pads i ≡ 0
   pub right : (i : ℕ) → i < count pads → 1 ≤ xOf pads i
   pub width : (i : ℕ) → i < count pads → xOf pads i ≤ 1000000
@@ -83,7 +85,7 @@ field-in (slots pads ports) p = p .0
 
 height-in : (job : Job) → Passed (fieldTrials job) → (q : ℕ) → q < boardOf job .ports → natAbs (boardOf job .port q) ≤ 1000000
 unfolding portOf lastOf
-height-in (records bytes) p q l = not-lt (λ h. p .0 q l (inr (inr (inr (inr h)))))
+height-in (records bytes) p q l = not-lt (λ h. p .0 q l (inr (inr (inr (inr (inr h))))))
 height-in (slots pads ports) p q l = not-lt (p .1 .0 q l)
 
 -- 12 is passed: a port is at least 8 above every one before.
@@ -117,10 +119,12 @@ job-accepted job sizes enough passed =
       few = size .few;
       slots-few = ports-sized job sizes .1;
       whole = size .whole;
-      reserved = λ i l. Dec·not-not (ℕ-discrete (reservedOf pads i) 0) .0 (λ n. in-range i l (inl n));
-      right = λ i l. not-lt (λ h. in-range i l (inr (inl h)));
-      width = λ i l. not-lt (λ h. in-range i l (inr (inr (inl h))));
-      pad = λ i l. not-lt (λ h. in-range i l (inr (inr (inr (inl h)))));
+      named = λ i l e. in-range i l (inl e);
+      names-differ = λ i j k l e. places .1 .1 .0 i l (j, k, e);
+      reserved = λ i l. Dec·not-not (ℕ-discrete (reservedOf pads i) 0) .0 (λ n. in-range i l (inr (inl n)));
+      right = λ i l. not-lt (λ h. in-range i l (inr (inr (inl h))));
+      width = λ i l. not-lt (λ h. in-range i l (inr (inr (inr (inl h)))));
+      pad = λ i l. not-lt (λ h. in-range i l (inr (inr (inr (inr (inl h))))));
       port = height-in job fields;
       spaced = passed-spaced job places;
       proper = record { enough = enough-ports job enough; differ = passed-differ job passed; rising = passed-rising job places };

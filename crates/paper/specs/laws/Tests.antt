@@ -53,7 +53,7 @@ badLast Slots n = not (eqb n 0)
 
 abbrev pub badField : Form → List ℕ → ℕ → Bool
 badField form pads i =
-    not (eqb (reservedOf pads i) 0) || ltb (xOf pads i) 1 || ltb 1000000 (xOf pads i) || outside (yOf pads i) || badLast form (lastOf pads i)
+    eqb (nameOf pads i) 0 || not (eqb (reservedOf pads i) 0) || ltb (xOf pads i) 1 || ltb 1000000 (xOf pads i) || outside (yOf pads i) || badLast form (lastOf pads i)
 
 abbrev pub badHeight : Form → List ℕ → ℕ → Bool
 badHeight form ports q = outside (portOf form ports q)
@@ -68,7 +68,7 @@ tooClose form ports q = ltb 0 q && ltZ (portOf form ports q -ℤ portOf form por
 
 -- 6, 7, 8
 abbrev pub sameName : List ℕ → ℕ → ℕ → Bool
-sameName pads i j = not (eqb (nameOf pads i) 0) && eqb (nameOf pads i) (nameOf pads j)
+sameName pads i j = eqb (nameOf pads i) (nameOf pads j)
 
 abbrev pub sameX : List ℕ → ℕ → ℕ → Bool
 sameX pads i j = eqb (xOf pads i) (xOf pads j)
@@ -151,11 +151,12 @@ pub bad-field-iff : (form : Form) (pads : List ℕ) (i : ℕ) → T (badField fo
 bad-field-iff form pads i =
     let last = badLast form (lastOf pads i) in
     simp or-assoc
+    (or-iff (eqb (nameOf pads i) 0) (not (eqb (reservedOf pads i) 0) || (ltb (xOf pads i) 1 || (ltb 1000000 (xOf pads i) || (outside (yOf pads i) || last)))) (eqb-iff (nameOf pads i) 0)
     (or-iff (not (eqb (reservedOf pads i) 0)) (ltb (xOf pads i) 1 || (ltb 1000000 (xOf pads i) || (outside (yOf pads i) || last)))
     (not-iff (eqb (reservedOf pads i) 0) (eqb-iff (reservedOf pads i) 0))
     (or-iff (ltb (xOf pads i) 1) (ltb 1000000 (xOf pads i) || (outside (yOf pads i) || last)) (ltb-iff (xOf pads i) 1)
     (or-iff (ltb 1000000 (xOf pads i)) (outside (yOf pads i) || last) (ltb-iff 1000000 (xOf pads i))
-    (or-iff (outside (yOf pads i)) last (outside-iff (yOf pads i)) (bad-last-iff form (lastOf pads i))))))
+    (or-iff (outside (yOf pads i)) last (outside-iff (yOf pads i)) (bad-last-iff form (lastOf pads i)))))))
 
 -- 5 and 12
 pub not-above-iff : (form : Form) (ports : List ℕ) (q : ℕ) → T (notAbove form ports q) ↔ NotAbove (portOf form ports) q
@@ -170,9 +171,7 @@ too-close-iff form ports q =
 
 -- 6, 7 and 8
 pub same-name-iff : (job : List ℕ) (i j : ℕ) → T (sameName job i j) ↔ SameName job i j
-same-name-iff job i j =
-    and-iff (not (eqb (nameOf job i) 0)) (eqb (nameOf job i) (nameOf job j)) (not-iff (eqb (nameOf job i) 0) (eqb-iff (nameOf job i) 0))
-    (eqb-iff (nameOf job i) (nameOf job j))
+same-name-iff job i j = eqb-iff (nameOf job i) (nameOf job j)
 
 pub same-x-iff : (job : List ℕ) (i j : ℕ) → T (sameX job i j) ↔ SameX job i j
 same-x-iff job i j = eqb-iff (xOf job i) (xOf job j)

@@ -1,17 +1,12 @@
 -- `printed::line` meets its contract. Assumes nothing.
 use denote.Ref.{now}
 use borrow.Author.Needs.{needs}
-use Rattle.printed.specs.Lines.{dummy-line, named-line}
+use Rattle.printed.specs.Lines.{line-written}
 use Rattle.printed.proofs.line.Statement.{statement}
 use Rattle.printed.proofs.line.Tie as tie
 
 name-requires : tie.Need-name-requires
 name-requires c κs = search needs
-
-returns : tie.Need-returns
-returns c =
-    let s = c .before .before .before .before in
-    (dummy-line (now (s .args .job)) (s .args .i) (s .args .q) (c .before .name .result) (c .before .name .ensures) _ _ (c .if1 .taken), search needs)
 
 length-requires : tie.Need-length-requires
 length-requires c κs = search needs
@@ -37,16 +32,16 @@ field-requires-4 c κs = search needs
 same-length : tie.Need-same-length
 same-length c = search needs
 
-returns-2 : tie.Need-returns-2
-returns-2 c =
+returns : tie.Need-returns
+returns c =
     let f3 = c .before .before in
     let f2 = f3 .before .before .before .before in
     let f1 = f2 .before .before .before .before in
     let f0 = f1 .before .before .before .before in
     let b = f0 .before .before in
     let n = b .before .before in
-    let s = n .before .before .before .before in (
-      named-line (now (s .args .job)) (s .args .i) (s .args .q) (n .before .name .result) (n .before .name .ensures) (n .if1 .left)
+    let s = n .before .before .before in (
+      line-written (now (s .args .job)) (s .args .i) (s .args .q) (n .name .ensures)
           (b .before .length .ensures .0) (b .bends .ensures .0) (f0 .field .ensures .0) (f1 .field2 .ensures .0) (f2 .field3 .ensures .0) (f3 .field4 .ensures .0),
       search needs,
     )
@@ -56,7 +51,6 @@ line-spec =
     tie.close
     (tie.spec
     name-requires
-    returns
     length-requires
     bends-requires
     cast-field
@@ -65,4 +59,4 @@ line-spec =
     field-requires-3
     field-requires-4
     same-length
-    returns-2)
+    returns)
