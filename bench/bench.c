@@ -184,7 +184,7 @@ static void spoil(size_t n) {
     case 2: put_y(job, i, below(2) ? 1000001 : -1000001); break;
     case 3: put_port(job, i, below(2) ? 1000001 : -1000001); break;
     case 4: put_port(job, i, get_port(job, j)); break;
-    case 5: put_name(job, i, get_name(job, j)); break;
+    case 5: put_name(job, i, below(2) ? get_name(job, j) : 0); break;
     case 6: put_x(job, i, get_x(job, j)); break;
     case 7: entries = n - 1; break;
     case 8: bytes = below(2) ? bytes + 1 + below(15) : 0; break;

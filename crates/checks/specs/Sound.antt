@@ -12,7 +12,7 @@ use Rattle.paper.specs.declared.Form.the-variants.{Records, Slots}
 use Rattle.paper.specs.declared.Work.{Work}
 use Rattle.paper.specs.Job.{count, portCount}
 use Rattle.paper.specs.Layouts.{held}
-use Rattle.paper.specs.laws.Tests.{badSize, badPortSize, badEntry, Test, atEach, atPairs, atWhole}
+use Rattle.paper.specs.laws.Tests.{badSize, badEntry, Test, atEach, atPairs, atWhole}
 use Rattle.paper.specs.laws.Tests.{sizeTests, enoughTests, workTests, roomTests, jobTests, firstTests}
 use Rattle.find.specs.declared.Found.{Found}
 use Rattle.find.specs.declared.Found.the-variants.{At, Nowhere}
@@ -48,18 +48,18 @@ after-sound v (t ∷ ts) e = then-sound v t (after-sound (andThen v t) ts e) .0
 pub append-sound : (v : Verdict) (ts us : List Test) → verdictAfter v (ts ++ us) ≡ Sound → verdictAfter v ts ≡ Sound
 append-sound v ts us e = after-sound (verdictAfter v ts) us (sym (after-append v ts us) ∙ e)
 
--- 1 not given: a size of at most m bytes.
-size-le : (n d m : ℕ) → (eqb n 0 || not (eqb (n % d) 0) || ltb m n) ≡ false → n ≤ m
-size-le n d m e = ltb-false m n (or-false-right (eqb n 0 || not (eqb (n % d) 0)) (ltb m n) e)
+-- 1 not given: at most so many bytes.
+size-le : (one most : ℕ) (bytes : List ℕ) → badSize one most bytes ≡ false → length bytes ≤ most
+size-le one most bytes e = let n = length bytes in ltb-false most n (or-false-right (eqb n 0 || not (eqb (n % one) 0)) (ltb most n) e)
 
 pub sizes-sound : (form : Form) (pads ports : List ℕ) → Formed form pads ports → verdictAfter Sound (sizeTests form pads ports) ≡ Sound → Few form pads ports
 sizes-sound Records pads ports same e =
-    let l = size-le (length pads) 16 1024 (whole-false 1 (badSize pads) (then-sound Sound (atWhole 1 (badSize pads)) e .1)) in
+    let l = size-le 16 1024 pads (whole-false 1 (badSize 16 1024 pads) (then-sound Sound (atWhole 1 (badSize 16 1024 pads)) e .1)) in
     rw same (record { short = (l, l); few = omega arith; slots-few = omega arith })
 sizes-sound Slots pads ports same e =
-    let two = then-sound _ (atWhole 1 (badPortSize ports)) e in
-    let k = size-le (length ports) 4 512 (whole-false 1 (badPortSize ports) (two .1)) in
-    let l = size-le (length pads) 16 1024 (whole-false 1 (badSize pads) (then-sound Sound (atWhole 1 (badSize pads)) (two .0) .1)) in
+    let two = then-sound _ (atWhole 1 (badSize 4 512 ports)) e in
+    let k = size-le 4 512 ports (whole-false 1 (badSize 4 512 ports) (two .1)) in
+    let l = size-le 16 1024 pads (whole-false 1 (badSize 16 1024 pads) (then-sound Sound (atWhole 1 (badSize 16 1024 pads)) (two .0) .1)) in
     record { short = (l, omega arith); few = omega arith; slots-few = omega arith }
 
 -- 8 not given: every entry is a port number.

@@ -128,10 +128,10 @@ fn try_enough(v: Verdict, form: Form, job: &[u8], ports: &[u8]) -> Verdict
 fn of_sizes(form: Form, job: &[u8], ports: &[u8]) -> Verdict
     ensures { λ r. ⌜ r ≡ verdictAfter Verdict.Sound (sizeTests form (now (job .entry)) (now (ports .entry))) ⌝ }
 {
-    let v = try_whole(Verdict::Sound, 1, faults::bad_size(job));
+    let v = try_whole(Verdict::Sound, 1, faults::bad_size(16, 1024, job));
     match form {
         Form::Records => v,
-        Form::Slots => try_whole(v, 1, faults::bad_port_size(ports)),
+        Form::Slots => try_whole(v, 1, faults::bad_size(4, 512, ports)),
     }
 }
 

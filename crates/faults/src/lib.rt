@@ -8,20 +8,14 @@ ghost use lib.ListN.{length};
 ghost use Rattle.paper.specs.Job.{count, lastOf, portCount};
 ghost use Rattle.paper.specs.Layouts.{boardFrom, held};
 ghost use Rattle.paper.specs.Refusals.{workNeeded};
-ghost use Rattle.paper.specs.laws.Tests.{badSize, badPortSize, badWeight, badTable, outside, badLast, badField, badHeight, notAbove, tooClose, sameName, sameX, between, leadersMeet, meetAt, badNumber};
+ghost use Rattle.paper.specs.laws.Tests.{badSize, badWeight, badTable, outside, badLast, badField, badHeight, notAbove, tooClose, sameName, sameX, between, leadersMeet, meetAt, badNumber};
 
-// 1: the byte count.
-pub fn bad_size(job: &[u8]) -> bool
-    ensures { λ r. ⌜ r ≡ badSize (now (job .entry)) ⌝ }
+// 1: the byte count, of records of so many bytes.
+pub fn bad_size(one: usize, most: usize, bytes: &[u8]) -> bool
+    requires { ⌜ 0 < one ⌝ }
+    ensures { λ r. ⌜ r ≡ badSize one most (now (bytes .entry)) ⌝ }
 {
-    (job.len() == 0) | (job.len() % 16 != 0) | (1024 < job.len())
-}
-
-// 1: that of a port list.
-pub fn bad_port_size(ports: &[u8]) -> bool
-    ensures { λ r. ⌜ r ≡ badPortSize (now (ports .entry)) ⌝ }
-{
-    (ports.len() == 0) | (ports.len() % 4 != 0) | (512 < ports.len())
+    (bytes.len() == 0) | (bytes.len() % one != 0) | (most < bytes.len())
 }
 
 // 24: the work list's length, for so many pads and ports.

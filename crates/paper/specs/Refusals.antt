@@ -57,12 +57,9 @@ RefusedBy (t ∷ ts) r = ((r .reason ≡ t .reason) × FirstFault t (r .at) (r .
 abbrev pub Earlier : (ℕ → ℕ → Type 0) → ℕ → Type 0
 Earlier R i = (j : ℕ) × (j < i) × R i j
 
--- 1: the byte count is 0, not a multiple of 16, or above 1,024; of a port list, of 4, or above 512 (02: "1 to 128 of them")
-abbrev pub BadSize : List ℕ → Type 0
-BadSize pads = (length pads ≡ 0) ⊎ (length pads % 16 ≢ 0) ⊎ (1024 < length pads)
-
-abbrev pub BadPortSize : List ℕ → Type 0
-BadPortSize ports = (length ports ≡ 0) ⊎ (length ports % 4 ≢ 0) ⊎ (512 < length ports)
+-- 1: the byte count is 0, not a multiple of what one record has, or above the most
+abbrev pub BadSize : ℕ → ℕ → List ℕ → Type 0
+BadSize one most bytes = (length bytes ≡ 0) ⊎ (length bytes % one ≢ 0) ⊎ (most < length bytes)
 
 -- 2: a weight is above 1,000
 abbrev pub BadWeight : ℕ → ℕ → Type 0
@@ -114,10 +111,10 @@ ofWhole r P = ofEach r 1 (λ i. P)
 abbrev pub ofPairs : ℕ → ℕ → (ℕ → ℕ → Type 0) → Trial
 ofPairs r n R = record { reason = r; among = n; fault = Earlier R; beside = λ i j. (j < i) × R i j }
 
--- 1: the records; or the pad list and then the port list
+-- 1: the records, of 16 bytes; or the pad list and then the port list, of 4 (02: "1 to 128 of them")
 abbrev pub sizeTrials : Job → List Trial
-sizeTrials (records bytes) = ofWhole 1 (BadSize bytes) ∷ []
-sizeTrials (slots pads ports) = ofWhole 1 (BadSize pads) ∷ ofWhole 1 (BadPortSize ports) ∷ []
+sizeTrials (records bytes) = ofWhole 1 (BadSize 16 1024 bytes) ∷ []
+sizeTrials (slots pads ports) = ofWhole 1 (BadSize 16 1024 pads) ∷ ofWhole 1 (BadSize 4 512 ports) ∷ []
 
 -- 14: there are fewer ports than pads
 abbrev pub enoughTrials : Job → List Trial
@@ -189,7 +186,7 @@ nextTrials job bad work list = measureTrials job bad work list ++ (bestTrial (la
 
 -- Draw, of record i to port q with room for so many floats: 1, 3, the job's and 11. 3: the float list has fewer than six
 abbrev pub drawTrials : List ℕ → ℕ → ℕ → ℕ → List Trial
-drawTrials bytes i q room = ofWhole 1 (BadSize bytes) ∷ ofWhole 3 (room < 6) ∷ jobTrials (records bytes) ++ (numberTrial bytes i q ∷ [])
+drawTrials bytes i q room = sizeTrials (records bytes) ++ (ofWhole 3 (room < 6) ∷ jobTrials (records bytes) ++ (numberTrial bytes i q ∷ []))
 
 -- ---- calls
 

@@ -57,7 +57,7 @@ pub record Sized (pads : List ℕ) : Type 0 where
   pub few : count pads ≤ 64
   pub whole : 16 * count pads ≡ length pads
 
-pub sized : (pads : List ℕ) → ¬ BadSize pads → Sized pads
+pub sized : (pads : List ℕ) → ¬ BadSize 16 1024 pads → Sized pads
 sized pads size =
     let none : length pads ≢ 0 = λ e. size (inl e) in
     let rest = Dec·not-not (ℕ-discrete (length pads % 16) 0) .0 (λ n. size (inr (inl n))) in

@@ -17,12 +17,12 @@ use Rattle.paper.specs.declared.Work.the-variants.{Unlent, Lent}
 use Rattle.paper.specs.Job.{Job, records, slots, formOf, padsOf, portsOf, count, portCount, portOf}
 use Rattle.paper.specs.Layouts.{Board, boardOf, held, leader, Touching, Badness, byWeights, byTable}
 use Rattle.paper.specs.Refusals.{Trial, Smallest, Clean, FirstFault, Passed, RefusedBy, ofEach, ofWhole, ofPairs}
-use Rattle.paper.specs.Refusals.{BadSize, BadPortSize, BadWeight, BadField, Outside, SameName, SameX, workNeeded}
+use Rattle.paper.specs.Refusals.{BadSize, BadWeight, BadField, Outside, SameName, SameX, workNeeded}
 use Rattle.paper.specs.Refusals.{sizeTrials, enoughTrials, workTrials, roomTrials, fieldTrials, placeTrials, jobTrials, layoutTrials, badnessTrial, firstTrials, measureTrials, drawTrials}
 use Rattle.paper.specs.Layouts.{Differ}
 use Rattle.paper.specs.laws.Tests.{Test, atEach, atPairs, atWhole, somewhere, withEarlier, somewhere-iff, with-earlier-iff}
-use Rattle.paper.specs.laws.Tests.{badSize, badPortSize, badWeight, badTable, badField, badHeight, notAbove, tooClose, sameName, sameX, badEntry, meetAt, badNumber}
-use Rattle.paper.specs.laws.Tests.{bad-size-iff, bad-port-size-iff, bad-weight-iff, bad-table-iff, outside-iff, bad-field-iff, not-above-iff, too-close-iff}
+use Rattle.paper.specs.laws.Tests.{badSize, badWeight, badTable, badField, badHeight, notAbove, tooClose, sameName, sameX, badEntry, meetAt, badNumber}
+use Rattle.paper.specs.laws.Tests.{bad-size-iff, bad-weight-iff, bad-table-iff, outside-iff, bad-field-iff, not-above-iff, too-close-iff}
 use Rattle.paper.specs.laws.Tests.{same-name-iff, same-x-iff, bad-entry-iff, bad-number-iff}
 use Rattle.paper.specs.laws.Tests.{sizeTests, enoughTests, workTests, roomTests, fieldTests, placeTests, jobTests, layoutTests, badnessTest, firstTests, measureTests, drawTests}
 use Rattle.paper.specs.laws.Touching.{meet-iff}
@@ -195,9 +195,9 @@ tests-refuse (s ∷ ss) (t ∷ ts) r (a, k) h =
 -- ---- each call's
 
 size-tests : (job : Job) → TestsOf (sizeTests (formOf job) (padsOf job) (portsOf job)) (sizeTrials job)
-size-tests (records bytes) = (whole-test 1 (BadSize bytes) (badSize bytes) (bad-size-iff bytes), λ _. tt)
+size-tests (records bytes) = (whole-test 1 (BadSize 16 1024 bytes) (badSize 16 1024 bytes) (bad-size-iff 16 1024 bytes), λ _. tt)
 size-tests (slots pads ports) =
-    (whole-test 1 (BadSize pads) (badSize pads) (bad-size-iff pads), λ _. (whole-test 1 (BadPortSize ports) (badPortSize ports) (bad-port-size-iff ports), λ _. tt))
+    (whole-test 1 (BadSize 16 1024 pads) (badSize 16 1024 pads) (bad-size-iff 16 1024 pads), λ _. (whole-test 1 (BadSize 4 512 ports) (badSize 4 512 ports) (bad-size-iff 4 512 ports), λ _. tt))
 
 enough-tests : (job : Job) → TestsOf (enoughTests (formOf job) (padsOf job) (portsOf job)) (enoughTrials job)
 enough-tests (records bytes) = tt
@@ -304,7 +304,7 @@ measure-tests job bad work list =
 pub draw-tests : (bytes : List ℕ) (i q room : ℕ) → TestsOf (drawTests bytes i q room) (drawTrials bytes i q room)
 unfolding drawTests
 draw-tests bytes i q room = (
-  whole-test 1 (BadSize bytes) (badSize bytes) (bad-size-iff bytes),
+  size-tests (records bytes) .0,
   λ _. (
     whole-test 3 (room < 6) (ltb room 6) (ltb-iff room 6),
     λ _. tests-append (jobTests Records bytes bytes) _ (jobTrials (records bytes)) _ (job-tests (records bytes)) (λ _. (

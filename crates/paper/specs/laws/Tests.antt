@@ -20,7 +20,7 @@ use Rattle.paper.specs.declared.Work.the-variants.{Unlent, Lent}
 use Rattle.paper.specs.Job.{twos, count, nameOf, reservedOf, xOf, yOf, lastOf, portCount, portOf}
 use Rattle.paper.specs.Leaders.{Leader}
 use Rattle.paper.specs.Layouts.{Board, boardFrom, held, leader, Badness, byWeights, byTable}
-use Rattle.paper.specs.Refusals.{workNeeded, Earlier, BadSize, BadPortSize, BadWeight, Outside, BadLast, BadField, NotAbove, TooClose, SameName, SameX, BadEntry}
+use Rattle.paper.specs.Refusals.{workNeeded, Earlier, BadSize, BadWeight, Outside, BadLast, BadField, NotAbove, TooClose, SameName, SameX, BadEntry}
 
 -- p holds at some number below n; q holds of i and a number below i
 unfoldable pub somewhere : (ℕ → Bool) → ℕ → Bool
@@ -31,11 +31,8 @@ abbrev pub withEarlier : (ℕ → ℕ → Bool) → ℕ → Bool
 withEarlier q i = somewhere (q i) i
 
 -- 1, 2, 13
-abbrev pub badSize : List ℕ → Bool
-badSize pads = eqb (length pads) 0 || not (eqb (length pads % 16) 0) || ltb 1024 (length pads)
-
-abbrev pub badPortSize : List ℕ → Bool
-badPortSize ports = eqb (length ports) 0 || not (eqb (length ports % 4) 0) || ltb 512 (length ports)
+abbrev pub badSize : ℕ → ℕ → List ℕ → Bool
+badSize one most bytes = eqb (length bytes) 0 || not (eqb (length bytes % one) 0) || ltb most (length bytes)
 
 abbrev pub badWeight : ℕ → ℕ → Bool
 badWeight lw bw = ltb 1000 lw || ltb 1000 bw
@@ -108,18 +105,12 @@ pub with-earlier-iff : (q : ℕ → ℕ → Bool) (R : ℕ → ℕ → Type 0) (
 with-earlier-iff q R i says = somewhere-iff (q i) (R i) i says
 
 -- 1, 2 and 13
--- a number that is 0, no multiple of d, or above m
-size-iff : (n d m : ℕ) → T (eqb n 0 || not (eqb (n % d) 0) || ltb m n) ↔ ((n ≡ 0) ⊎ (n % d ≢ 0) ⊎ (m < n))
-size-iff n d m =
+pub bad-size-iff : (one most : ℕ) (bytes : List ℕ) → T (badSize one most bytes) ↔ BadSize one most bytes
+bad-size-iff one most bytes =
+    let n = length bytes in
     simp or-assoc
-    (or-iff (eqb n 0) (not (eqb (n % d) 0) || ltb m n) (eqb-iff n 0)
-    (or-iff (not (eqb (n % d) 0)) (ltb m n) (not-iff (eqb (n % d) 0) (eqb-iff (n % d) 0)) (ltb-iff m n)))
-
-pub bad-size-iff : (pads : List ℕ) → T (badSize pads) ↔ BadSize pads
-bad-size-iff pads = size-iff (length pads) 16 1024
-
-pub bad-port-size-iff : (ports : List ℕ) → T (badPortSize ports) ↔ BadPortSize ports
-bad-port-size-iff ports = size-iff (length ports) 4 512
+    (or-iff (eqb n 0) (not (eqb (n % one) 0) || ltb most n) (eqb-iff n 0)
+    (or-iff (not (eqb (n % one) 0)) (ltb most n) (not-iff (eqb (n % one) 0) (eqb-iff (n % one) 0)) (ltb-iff most n)))
 
 pub bad-weight-iff : (lw bw : ℕ) → T (badWeight lw bw) ↔ BadWeight lw bw
 bad-weight-iff lw bw = or-iff (ltb 1000 lw) (ltb 1000 bw) (ltb-iff 1000 lw) (ltb-iff 1000 bw)
@@ -198,8 +189,8 @@ atWhole r t = atEach r 1 (λ i. t)
 
 -- The tests of each call, as Refusals.antt has its trials; that of the weights or of the table is given to First's and Measure's.
 abbrev pub sizeTests : Form → List ℕ → List ℕ → List Test
-sizeTests Records pads ports = atWhole 1 (badSize pads) ∷ []
-sizeTests Slots pads ports = atWhole 1 (badSize pads) ∷ atWhole 1 (badPortSize ports) ∷ []
+sizeTests Records pads ports = atWhole 1 (badSize 16 1024 pads) ∷ []
+sizeTests Slots pads ports = atWhole 1 (badSize 16 1024 pads) ∷ atWhole 1 (badSize 4 512 ports) ∷ []
 
 abbrev pub enoughTests : Form → List ℕ → List ℕ → List Test
 enoughTests Records pads ports = []
@@ -243,4 +234,4 @@ measureTests form pads ports given work list = firstTests form pads ports given 
 
 unfoldable pub drawTests : List ℕ → ℕ → ℕ → ℕ → List Test
 drawTests bytes i q room =
-    atWhole 1 (badSize bytes) ∷ atWhole 3 (ltb room 6) ∷ jobTests Records bytes bytes ++ (atWhole 11 (badNumber (count bytes) i q) ∷ [])
+    atWhole 1 (badSize 16 1024 bytes) ∷ atWhole 3 (ltb room 6) ∷ jobTests Records bytes bytes ++ (atWhole 11 (badNumber (count bytes) i q) ∷ [])

@@ -15,8 +15,8 @@ enum-told c = search needs
 enum-told-2 : tie.Need-enum-told-2
 enum-told-2 c = search needs
 
-bad-port-size-requires : tie.Need-bad-port-size-requires
-bad-port-size-requires c κs = search needs
+bad-size-requires-2 : tie.Need-bad-size-requires-2
+bad-size-requires-2 c κs = search needs
 
 try-whole-requires-2 : tie.Need-try-whole-requires-2
 try-whole-requires-2 c κs = search needs
@@ -27,7 +27,7 @@ returns c = rw (c .enum-told .given .1, c .before .before .try-whole .ensures, c
 returns-2 : tie.Need-returns-2
 returns-2 c =
     let v = c .before .before .before .before in
-    rw (c .before .before .enum-told2 .given .1, c .try-whole2 .ensures, c .before .bad-port-size .ensures, v .try-whole .ensures, v .before .bad-size .ensures)
+    rw (c .before .before .enum-told2 .given .1, c .try-whole2 .ensures, c .before .bad-size2 .ensures, v .try-whole .ensures, v .before .bad-size .ensures)
 
 pub of-sizes-spec : {M : Type 1} → statement M
 of-sizes-spec =
@@ -37,7 +37,7 @@ of-sizes-spec =
     try-whole-requires
     enum-told
     enum-told-2
-    bad-port-size-requires
+    bad-size-requires-2
     try-whole-requires-2
     returns
     returns-2)
