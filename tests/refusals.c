@@ -14,7 +14,7 @@
 
 #define N 6
 #define P 7 /* ports, where they stand apart */
-#define WAYS 12 /* at most, to deserve one refusal */
+#define WAYS 13 /* at most, to deserve one refusal */
 #define LENGTHS 8
 
 /*
@@ -75,13 +75,13 @@ static bool bad_field(struct question *q, size_t i, int way) {
 
 /* Of the job; then, if there is one, of the list of ports. */
 static bool bad_size(struct question *q, int way) {
-    static const size_t sizes[6] = {16 * N + 1, 16 * N + 15, 0, 1040, 1025, 16 * N - 1};
+    static const size_t sizes[7] = {16 * N + 1, 16 * N + 15, 0, 1040, 1025, 16 * N - 1, 16 * N + 4};
     static const size_t port_sizes[6] = {4 * P + 1, 4 * P + 3, 0, 516, 513, 4 * P - 1};
-    if (way >= 6)
-        q->port_bytes = port_sizes[way - 6];
+    if (way >= 7)
+        q->port_bytes = port_sizes[way - 7];
     else
         q->job_bytes = sizes[way];
-    return way < 6 || takes_slots(q->call);
+    return way < 7 || takes_slots(q->call);
 }
 
 /* A work list of one number too few, or far fewer. */

@@ -623,6 +623,36 @@ static void last_fields(enum call call) {
     }
 }
 
+/* Every name, by one call or another: all pass but 0. */
+static void names(void) {
+    for (uint32_t name = 0; name < 65536; name++) {
+        struct question q = good((enum call)(name % CALLS), 1);
+        put_name(q.job, 0, name);
+        check((ask(&q, AT_END).answer == refused(4, 0)) == (name == 0), &q, "this name");
+    }
+}
+
+/* Names, and x, that are equal in all bits but one are not the same. */
+static void one_bit_apart(enum call call) {
+    for (int bit = 0; bit < 16; bit++) {
+        struct question q = good(call, 3);
+        put_name(q.job, 0, 0x5555);
+        put_name(q.job, 2, 0x5555 ^ (1 << bit));
+        passes(&q);
+        put_name(q.job, 2, 0x5555);
+        is_refused(&q, 6, 2);
+    }
+    for (int bit = 0; bit < 20; bit++) {
+        struct question q = good(call, 3);
+        put_x(q.job, 0, 0x55555);
+        put_x(q.job, 2, 0x55555 ^ (1 << bit));
+        give_best(&q);
+        passes(&q);
+        put_x(q.job, 2, 0x55555);
+        is_refused(&q, 7, 2);
+    }
+}
+
 static void job_rules(enum call call) {
     struct question q = good(call, 3);
     set_port(&q, 1, 0); /* equal port heights */
@@ -750,6 +780,7 @@ int main(void) {
     bends_can_cost();
     drawn_sheets();
     drawn_range();
+    names();
     for (enum call call = 0; call < CALLS; call++) {
         sizes(call);
         port_sizes(call);
@@ -760,6 +791,7 @@ int main(void) {
         room(call);
         fields(call);
         last_fields(call);
+        one_bit_apart(call);
         job_rules(call);
         spacing(call);
         wide_rises(call);
