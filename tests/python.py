@@ -141,7 +141,7 @@ def try_slots(library, pads, strip, weights, r):
     calls = (lambda: library.slots_first(pads, strip, *weights, *r.choice([[], [work]])),
              lambda f: library.slots_next(pads, strip, f, *weights, *r.choice([[], [work]])),
              lambda f: library.slots_measure(pads, strip, f, *weights))
-    given = list(layouts(r, min(board.n, 5), len(strip) // 4)) if board.n else [[], [0]]
+    given = list(layouts(r, min(board.n, 5), min(len(strip) // 4, 128))) if board.n else [[], [0]]
     every = try_calls('slots_', calls, board, table, second, given)
     check('slots_sheets', reply(list, library.slots_sheets(pads, strip, *weights)), board.refusal(None, second) or every)
     short = (ctypes.c_uint64 * (len(work) - 1)).from_buffer(work)
@@ -246,12 +246,12 @@ def try_numbers(library):
     check('job', library.first(bytearray(job)), (5, [0]))
     check('layout', library.measure(job, iter([0])), 5)
     check('largest job', reply(library.first, job * 65), (1, 0, None))
-    most = binding.job_of((i, 100 + i, 8 * i, 8 * i) for i in range(64))
+    most = binding.job_of((1 + i, 100 + i, 8 * i, 8 * i) for i in range(64))
     check('64 records', library.first(most), (sum(range(100, 164)), list(range(64))))
     check('a long list of ports', library.measure(most, list(range(1000))), sum(range(100, 164)))
     check('largest figures', library.table_first(most, iter([4294967295] * 4096))[0], 274877906880)
     check('largest figures', library.table_measure(most, [4294967295] * 4096, range(64)), 274877906880)
-    pads, strip = binding.pads_of((i, 100 + i, 8 * i) for i in range(64)), binding.ports_of(8 * q - 256 for q in range(128))
+    pads, strip = binding.pads_of((1 + i, 100 + i, 8 * i) for i in range(64)), binding.ports_of(8 * q - 256 for q in range(128))
     check('64 pads, 128 ports', library.slots_first(pads, strip), (sum(range(100, 164)), list(range(32, 96))))
     check('64 pads, 128 ports', library.slots_next(pads, bytearray(strip), range(32, 96)), None)
     check('129 ports', reply(library.slots_first, pads, strip + binding.ports_of([10000])), (1, 0, None))

@@ -33,14 +33,16 @@ prints() {
 
 prints '101 1 10 0/102 2 20 0/103 0 60 1/total 90 1/' records 101 10 10 0 102 20 20 10 103 30 30 20
 prints '101 1 10 0/102 2 20 0/103 0 60 1/total 90 1/' slowly 101 10 10 0 102 20 20 10 103 30 30 20
-prints '101 1 10 0/103 0 60 1/total 90 1/' records 101 10 10 0 0 20 20 10 103 30 30 20
-prints 'total 90 1/' records 0 10 10 0 0 20 20 10 0 30 30 20
+prints '1 1 10 0/256 2 20 0/65535 0 60 1/total 90 1/' records 1 10 10 0 256 20 20 10 65535 30 30 20
 prints '65535 0 3000000 1/total 3000000 1/' records 65535 1000000 -1000000 1000000
 prints 'refused 1 record 0/' nothing
 for size in 15 1025 1039 1040 1041 1000000; do prints 'refused 1 record 0/' zeros $size; done
 prints 'refused 1 record 0/' endless
 for size in 16 1024; do prints 'refused 4 record 0/' zeros $size; done
 prints 'refused 4 record 1/' records 101 10 0 10 102 0 30 10
+prints 'refused 4 record 1/' records 101 10 10 0 0 20 20 10 103 30 30 20
+prints 'refused 4 record 0/' records 0 10 10 0 0 20 20 10 0 30 30 20
+prints 'refused 4 record 2/' records 101 10 10 0 101 20 20 0 0 30 30 20
 prints 'refused 5 record 1/' records 101 10 0 10 102 20 30 10
 prints 'refused 12 record 1/' records 101 10 0 10 102 20 30 17
 prints '101 0 20 1/102 1 32 1/total 52 2/' records 101 10 0 10 102 20 30 18
