@@ -24,8 +24,11 @@ abbrev μ-loop : tie.MeasureT-loop
 records-requires : tie.Need-records-requires Inv-loop μ-loop
 records-requires c κs = let s = c .before .before .before in omega (arith, measure-facts (records (now (s .args .job))) (byWeights 0 1) Unlent (now (s .args .list)) (s .pre .0) .0 .size)
 
+-- That a job has a record is said so that a loop from record 1 on is refused for its text.
 loop-holds : tie.Need-loop-holds Inv-loop μ-loop
-loop-holds c = (omega arith, omega arith, lines-none _ _ _)
+loop-holds c =
+    let s = c .before .before .before .before in
+    (omega (arith, measure-facts (records (now (s .args .job))) (byWeights 0 1) Unlent (now (s .args .list)) (s .pre .0) .0 .some), omega arith, lines-none _ _ _)
 
 cast-line : tie.Need-cast-line Inv-loop μ-loop
 cast-line c = search needs
