@@ -234,4 +234,4 @@ measureTests form pads ports given work list = firstTests form pads ports given 
 
 unfoldable pub drawTests : List ℕ → ℕ → ℕ → ℕ → List Test
 drawTests bytes i q room =
-    atWhole 1 (badSize 16 1024 bytes) ∷ atWhole 3 (ltb room 6) ∷ jobTests Records bytes bytes ++ (atWhole 11 (badNumber (count bytes) i q) ∷ [])
+    sizeTests Records bytes bytes ++ (atWhole 3 (ltb room 6) ∷ jobTests Records bytes bytes ++ (atWhole 11 (badNumber (count bytes) i q) ∷ []))

@@ -35,6 +35,7 @@ returns c =
     let v = c .before .before in
     rw (
       after-append,
+      after-append,
       c .try-whole2 .ensures,
       c .before .bad-number .ensures,
       v .of-job .ensures,
