@@ -76,6 +76,10 @@ pictures: build/cheremysl-draw
 	build/cheremysl-draw --area 450,215,725,385 examples/antenna.job >docs/antenna-plain.svg
 	build/cheremysl-draw --area 450,215,725,385 examples/antenna.job $$(cat examples/antenna.layout) >docs/antenna.svg
 	build/cheremysl-draw --slots examples/row.ports examples/sensor.pads >docs/slots.svg
+	build/cheremysl-draw --any examples/copper.job $$(cat examples/copper.layout) >docs/copper-crossed.svg
+	build/cheremysl-draw examples/copper.job >docs/copper.svg
+	build/cheremysl-draw --any examples/relays.job $$(cat examples/relays.layout) >docs/relays-crossed.svg
+	build/cheremysl-draw examples/relays.job >docs/relays.svg
 	build/cheremysl-draw examples/sequencer.job >docs/board-24.svg
 	build/cheremysl-draw examples/strip.job >docs/board-40.svg
 	build/cheremysl-draw examples/matrix.job >docs/board-64.svg

@@ -2,9 +2,10 @@
  * bench.c: the library beside the plain C program, on the same jobs.
  *
  *   bench same TRIALS SEED  both on random jobs, sound and spoilt: fails if an answer, a list or a page differs
- *   bench count             each call on each board at 8, 16, 32 and 64 pads, and on slots at some sizes, by the library
- *                           and then by plain C, marked for the emulator, which counts instructions. Prints
- *                           CALL BOARD SIZE ANSWER; the size is the number of pads, or PADSxPORTS
+ *   bench count             each call on each board at 8, 16, 32 and 64 pads, on those with squares at 32 and 64, and on
+ *                           slots at some sizes, by the library and then by plain C, marked for the emulator, which
+ *                           counts instructions. Prints CALL BOARD SIZE ANSWER; the size is the number of pads, or
+ *                           PADSxPORTS
  */
 #define _POSIX_C_SOURCE 200112L /* getppid */
 
@@ -125,14 +126,15 @@ static void count_calls(bool slots, int last, const char *board, const char *siz
         int64_t answer = both(call, layout);
         if (call == FIRST || call == SLOTS_FIRST) memcpy(start, layout, sizeof start);
         printf("%s %s %s %" PRId64 "\n", by[call].name, board, size, answer);
+        if (cheremysl_is_refusal(answer)) exit(1);
     }
 }
 
-static void count_board(enum measured kind, int n) {
+static void count_board(enum measured kind, int n, int last) {
     char size[32];
     snprintf(size, sizeof size, "%d", n);
     take_board(kind, n);
-    count_calls(false, CALLS - 1, measured_names[kind], size);
+    count_calls(false, last, measured_names[kind], size);
 }
 
 static void count_slots(enum measured kind, int n, int p, int last) {
@@ -152,10 +154,18 @@ static void count_all_slots(void) {
     for (int n = 8; n <= 64; n *= 2) count_slots(RANDOM, n, n, SLOTS_FIRST);
 }
 
+/* After the same boards without squares; tall has not been counted by then. */
+static void count_squares(int n) {
+    count_board(TALL, n, FIRST);
+    for (int kind = RANDOM_SQUARES; kind <= TALL_SQUARES; kind++) count_board((enum measured)kind, n, CALLS - 1);
+    for (int kind = RANDOM_SQUARES; kind <= EVEN_SQUARES; kind++) count_slots((enum measured)kind, n, 2 * n, SLOTS_MEASURE);
+}
+
 static int count_all(void) {
     for (int kind = 0; kind < KINDS; kind++)
-        for (int n = 8; n <= CHEREMYSL_MAX_RECORDS; n *= 2) count_board((enum measured)kind, n);
+        for (int n = 8; n <= CHEREMYSL_MAX_RECORDS; n *= 2) count_board((enum measured)kind, n, CALLS - 1);
     count_all_slots();
+    for (int n = 32; n <= CHEREMYSL_MAX_RECORDS; n *= 2) count_squares(n);
     return 0;
 }
 
@@ -179,7 +189,7 @@ static void spoil_slots(size_t n) {
 static void spoil(size_t n) {
     size_t i = below((uint32_t)n), j = below((uint32_t)n);
     switch (below(12)) {
-    case 0: put_reserved(job, i, 1 + below(65535)); break;
+    case 0: put_half(job, i, below(2) ? 2001 + below(63535) : below(12)); break;
     case 1: put_x(job, i, below(2) ? 0 : 1000001); break;
     case 2: put_y(job, i, below(2) ? 1000001 : -1000001); break;
     case 3: put_port(job, i, below(2) ? 1000001 : -1000001); break;
@@ -219,10 +229,12 @@ static void random_pads(size_t n, int way) {
     bytes = CHEREMYSL_RECORD_BYTES * n;
     port_bytes = CHEREMYSL_PORT_BYTES * p;
     numbers = CHEREMYSL_SLOTS_WORK(n, p);
+    struct plan plan = way == ON_SLOTS ? plan_of_slots(job, n, ports, p) : plan_of_job(job, n);
     if (way == ON_SLOTS)
         make_slots(job, n, ports, p, kind);
     else
         make_board(job, n, kind);
+    any_squares(job, &plan);
 }
 
 /* Any job, one in three spoilt, once or twice; what the lists hold; how much of a page is lent. */

@@ -5,7 +5,12 @@
 #include <stdbool.h>
 #include <stdlib.h>
 
-const char *const measured_names[ALL_KINDS] = {"random", "even", "middle", "ties", "right", "above", "level"};
+const char *const measured_names[ALL_KINDS] = {"random", "even",           "middle",       "ties", "right", "above", "level",
+                                               "tall",   "random-squares", "even-squares", "tall-squares"};
+
+enum measured points_of(enum measured kind) {
+    return kind == RANDOM_SQUARES ? RANDOM : kind == EVEN_SQUARES ? EVEN_SPREAD : kind == TALL_SQUARES ? TALL : kind;
+}
 
 /* On these every step goes over all pads but the rightmost. */
 static bool at_the_right(enum measured kind) { return kind == RIGHT || kind == ABOVE_ALL; }
@@ -20,6 +25,7 @@ static int64_t height(enum measured kind, int n, int p, int i) {
     case AT_PORTS: return 10 * below((uint32_t)p);
     case RIGHT: return 10 * i - 2;
     case ABOVE_ALL: return 10 * n;
+    case TALL: return i < n / 2 ? 10 * i + 5 : 5 * (n / 2 - 1);
     default: return 10 * (i / 2 * 2) + 5;
     }
 }
@@ -34,25 +40,53 @@ static void place(enum measured kind, int n, int *x) {
     for (int i = 0; i < n && at_the_right(kind); i++) x[i] = 10 * (n - i);
 }
 
+/* On tall: from the middle of the first half's ports to just above the last of them. */
+static int tall_half(int n) { return 5 * (n / 2 - 1) + 4; }
+
+/* The second half of tall, so far apart and so far right that no square is in a hand's way or in that of the first half. */
+static void place_tall(int n, int *x) {
+    for (int i = n / 2; i < n; i++) x[i] = 10 * n + (i - n / 2 + 1) * (tall_half(n) + 1);
+    for (int i = 0; i < n / 2; i++) x[i] = 10 * (i + 1);
+}
+
+static void put_squares(enum measured kind, uint8_t *pads, const struct plan *plan) {
+    int n = (int)plan->n;
+    if (kind == RANDOM_SQUARES) give_squares(pads, plan, FITTED);
+    for (int i = 0; i < n && kind == EVEN_SQUARES; i++) put_half(pads, (size_t)i, 2 + i % 3);
+    for (int i = n / 2; i < n && kind == TALL_SQUARES; i++) put_half(pads, (size_t)i, tall_half(n));
+}
+
+static void place_pads(enum measured kind, int n, int *x) {
+    seed_random((uint64_t)(100 * (int)kind + n));
+    if (kind == TALL)
+        place_tall(n, x);
+    else
+        place(kind, n, x);
+}
+
 struct given make_measured(enum measured kind, int n) {
     struct given g = {{0}, 16 * (size_t)n, kind != MIDDLE, {0}, (size_t)(n * n)};
+    struct plan plan = plan_of_job(g.job, (size_t)n);
+    enum measured points = points_of(kind);
     int x[64];
-    seed_random((uint64_t)(100 * (int)kind + n));
-    place(kind, n, x);
+    place_pads(points, n, x);
     for (int i = 0; i < n; i++) {
-        int y = (int)height(kind, n, n, i);
+        int y = (int)height(points, n, n, i);
         put_record(g.job, (size_t)i, 101 + i, x[i], y, 10 * i);
         for (int q = 0; q < n; q++) g.table[n * i + q] = g.length_weight * (uint32_t)(x[i] + abs(y - 10 * q));
     }
+    put_squares(kind, g.job, &plan);
     return g;
 }
 
 struct on_slots make_measured_slots(enum measured kind, int n, int p) {
     struct on_slots g = {{0}, 16 * (size_t)n, {0}, 4 * (size_t)p, kind != MIDDLE};
+    struct plan plan = plan_of_slots(g.pads, (size_t)n, g.ports, (size_t)p);
+    enum measured points = points_of(kind);
     int x[64];
-    seed_random((uint64_t)(100 * (int)kind + n));
-    place(kind, n, x);
-    for (int i = 0; i < n; i++) put_record(g.pads, (size_t)i, 101 + i, x[i], height(kind, n, p, i), 0);
+    place_pads(points, n, x);
+    for (int i = 0; i < n; i++) put_record(g.pads, (size_t)i, 101 + i, x[i], height(points, n, p, i), 0);
     for (int q = 0; q < p; q++) put_height(g.ports, (size_t)q, 10 * q);
+    put_squares(kind, g.pads, &plan);
     return g;
 }

@@ -14,10 +14,17 @@ enum measured {
     ABOVE_ALL,   /* .. or all above all ports, so that few strips can be filled */
     KINDS,
     AT_PORTS = KINDS, /* each pad at a port's height, perhaps the same; on slots alone */
+    TALL,             /* one half of the pads as on even, in the lower half; the other half level with that, far right */
+    RANDOM_SQUARES,   /* the same with squares, which leave a layout: on random up to what some layout leaves .. */
+    EVEN_SQUARES,     /* .. on even half-sides 2 to 4, which are in no leader's way .. */
+    TALL_SQUARES,     /* .. on tall those far right, each level with all ports of the lower half */
     ALL_KINDS
 };
 
 extern const char *const measured_names[ALL_KINDS];
+
+/* The same board without squares; itself if it has none. */
+enum measured points_of(enum measured kind);
 
 /* What First and the others are given; the bend weight is 0. The table has the figures that these weights give. */
 struct given {

@@ -1,7 +1,7 @@
 /*
- * audit JOB PORT..: is an old sheet sound? Sound: each pad has a port of its own and no two leaders
- * share a point. Prints the sheet's length and bends, or what is wrong and the record at fault, or
- * both records if their leaders touch.
+ * audit JOB PORT..: is an old sheet sound? Sound: each pad has a port of its own, and no leader
+ * shares a point with another or with another pad's square. Prints the sheet's length and bends, or
+ * what is wrong and the record at fault, or both records if they touch.
  * The status is 0 for a sound sheet, 1 for any other, 2 if there is nothing to audit.
  */
 #include <inttypes.h>

@@ -11,6 +11,7 @@ As a module, the calls of the shared library for Python:
     total, ports = library.first(job)
     for total, ports in library.sheets(job, length_weight=1, bend_weight=0): ...
     total, ports = library.table_first(job, [7, 0, 0, 7])  # the figure of each pad with each port
+    squares = job_of([(101, 10, 15, 10), (102, 20, 15, 20)], half_sides=2)  # or one for each pad
     pads, strip = pads_of([(101, 10, 15), (102, 20, 15)]), ports_of(range(0, 320, 10))
     total, ports = library.slots_first(pads, strip)  # 32 slots, of which 30 stay free
 
@@ -27,7 +28,7 @@ import signal
 import struct
 import sys
 
-RECORD = struct.Struct("<HHIii")  # name, reserved, x, y, port height: 16 bytes, little-endian
+RECORD = struct.Struct("<HHIii")  # name, half-side, x, y, port height: 16 bytes, little-endian
 HEIGHT = struct.Struct("<i")  # of a port that stands apart
 MAX_RECORDS = 64
 MAX_SLOTS = 128
@@ -45,12 +46,14 @@ TEXTS = {  # as cheremysl_refusal_text of the C header has them
     6: "The name of this record stands in an earlier record too.",
     7: "The x of this record stands in an earlier record too.",
     8: "The port given to this record is not there, or an earlier record has it.",
-    9: "The leader of this record touches the leader of an earlier record.",
-    10: "No two leaders touch, but another sheet has a smaller total.",
+    9: "This record and an earlier one touch: the leader of one meets the leader or the "
+    "square of the other.",
+    10: "No two records touch, but another sheet has a smaller total.",
     11: "There is no pad, or no port, of the number given.",
     12: "This port is less than 8 above the port before it.",
     13: "The table does not have just one figure for each pad with each port.",
     14: "There are fewer ports than pads.",
+    15: "On every sheet of this board a leader meets another leader or the square of another pad.",
     24: "The work list is too short for so many pads and ports.",
 }
 
@@ -68,14 +71,20 @@ class Refusal(Exception):
         return f"refused {self.number} record {self.record}{pair}: {text}"
 
 
-def job_of(records):
-    """The bytes of a job, from a name, x, y and port height for each record."""
-    return b"".join(RECORD.pack(name, 0, x, y, port) for name, x, y, port in records)
+def job_of(records, half_sides=0):
+    """The bytes of a job, from a name, x, y and port height for each record, and one half-side for
+    all pads or a sequence of them."""
+    records = list(records)
+    halves = [half_sides] * len(records) if isinstance(half_sides, int) else list(half_sides)
+    if len(halves) != len(records):
+        raise ValueError(f"{len(halves)} half-sides for {len(records)} pads")
+    pads = zip(records, halves)
+    return b"".join(RECORD.pack(name, half, x, y, port) for (name, x, y, port), half in pads)
 
 
-def pads_of(pads):
-    """The bytes of the pads for a strip of slots, from a name, x and y for each."""
-    return job_of((name, x, y, 0) for name, x, y in pads)
+def pads_of(pads, half_sides=0):
+    """The bytes of the pads for a strip of slots, from a name, x and y for each, and half-sides."""
+    return job_of(((name, x, y, 0) for name, x, y in pads), half_sides)
 
 
 def ports_of(heights):
@@ -191,7 +200,7 @@ class Cheremysl:
         return [page[k * n : (k + 1) * n] for k in range(written)]
 
     def measure(self, job, layout, length_weight=1, bend_weight=0):
-        """The total of a sheet without touching leaders, best or not."""
+        """The total of a sheet on which nothing touches, best or not."""
         return self._ask(self._measure, job, length_weight, bend_weight, *layout_of(layout))
 
     def draw(self, job, record, port):
@@ -213,7 +222,7 @@ class Cheremysl:
         return found(total, layout, job)
 
     def table_measure(self, job, table, layout):
-        """The total by a table of a sheet without touching leaders, best or not."""
+        """The total by a table of a sheet on which nothing touches, best or not."""
         return self._ask_lists(self._table_measure, job, *table_of(table), *layout_of(layout))
 
     def _search_slots(self, call, pads, ports, layout, weights, work):
@@ -233,7 +242,7 @@ class Cheremysl:
         return self._search_slots(self._slots_next, pads, ports, layout, weights, work)
 
     def slots_measure(self, pads, ports, layout, length_weight=1, bend_weight=0):
-        """The total on a strip of slots of a sheet without touching leaders, best or not."""
+        """The total on a strip of slots of a sheet on which nothing touches, best or not."""
         weights = length_weight, bend_weight
         return self._ask_slots(self._slots_measure, pads, ports, weights, *layout_of(layout))
 

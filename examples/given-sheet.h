@@ -76,10 +76,13 @@ static inline int read_given_area(const char *word, int at[4]) {
            word[end] == 0;
 }
 
-/* The name of the pad of record i, which must be one of the job's. */
-static inline int pad_name(const struct given_sheet *s, size_t i) {
-    const uint8_t *record = s->job + CHEREMYSL_RECORD_BYTES * i;
-    return record[0] + 256 * record[1];
+/* A number of 2 bytes in the record of pad i, which must be one of the job's. */
+static inline int short_field(const struct given_sheet *s, size_t i, size_t offset) {
+    const uint8_t *field = s->job + CHEREMYSL_RECORD_BYTES * i + offset;
+    return field[0] + 256 * field[1];
 }
+
+static inline int pad_name(const struct given_sheet *s, size_t i) { return short_field(s, i, 0); }
+static inline int pad_half(const struct given_sheet *s, size_t i) { return short_field(s, i, 2); }
 
 #endif

@@ -6,7 +6,7 @@
  * Pads lie to the right of a vertical line, the label edge, at x = 0. Ports are fixed heights
  * on that line, one for each label: as many as there are pads, or in the slots calls as many or
  * more. A leader joins a pad to a port: from the pad straight up or down to the port's height (the
- * hand), then straight to the edge (the arm).
+ * hand), then straight to the edge (the arm). A pad is a square of copper, or a point.
  *
  *      y
  *     30 |                 o 103         cheremysl_first     the earliest best sheet of a board
@@ -23,14 +23,14 @@
  *                                        cheremysl_slots_next      strip of slots: ports may be
  *                                        cheremysl_slots_measure   more than pads, and stay free
  *
- * Best: no two leaders share a point, and no such sheet has a smaller total. The total is that of
- * lengths and bends, each times a weight that the caller chooses; in the table calls it is that of
- * the caller's own figures.
+ * Best: no leader shares a point with another leader or with another pad's square, and no such
+ * sheet has a smaller total. The total is that of lengths and bends, each times a weight that the
+ * caller chooses; in the table calls it is that of the caller's own figures.
  *
  * First and then Next until the end list every best sheet once and nothing else, and so do
  * TableFirst and TableNext, and SlotsFirst and SlotsNext; Page does the work of several calls of
- * Next. Every accepted job has a best sheet. Answers and lists are proved to be what this header
- * says, for every input.
+ * Next. Every job that a First accepts has a best sheet. Answers and lists are proved to be what
+ * this header says, for every input.
  *
  * A MINUTE'S USE
  *
@@ -54,7 +54,7 @@
  *
  *      offset  bytes  field         allowed
  *         0      2    name          1 to 65,535
- *         2      2    reserved      0 only
+ *         2      2    half-side     0 to 2,000
  *         4      4    x             1 to 1,000,000
  *         8      4    y             -1,000,000 to 1,000,000, two's complement
  *        12      4    port height   -1,000,000 to 1,000,000, two's complement
@@ -62,6 +62,10 @@
  * Port heights rise from record to record, by at least 8, so that labels do not run into each
  * other: the port of record i is port number i. The x of all pads differ, and so do their names.
  * Pads may share a height with each other and with ports.
+ *
+ * (x, y) is the centre of the pad's square, which reaches by the half-side to either side of x and
+ * of y, its sides included. With half-side 0 it is a point. A square may reach past the label edge,
+ * past ports and over other squares.
  *
  * Below, n is the number of records, job_bytes / 16.
  *
@@ -116,16 +120,24 @@
  *
  * The leader of a pad (x, y) to a port of height q has a hand on the vertical line at x, from y
  * to q, and an arm at height q, from x to 0; both include their ends. Its length is x plus the
- * distance of y and q. It has 0 bends if y = q, else 1. Two leaders touch if they share a
- * point. For pad A right of pad B that is so exactly if A's port height lies between B's own
- * height and B's port height, ends included.
+ * distance of y and q. It has 0 bends if y = q, else 1.
+ *
+ * Two records touch if their leaders share a point, or if the leader of one shares a point with the
+ * square of the other; that two squares overlap is no touching. For pad A right of pad B leaders
+ * share a point exactly if A's port height lies between B's own height and B's port height, ends
+ * included. That of a pad (x, y) to a port of height q meets the square at (u, v) with half-side h
+ * exactly if u - h <= x and q lies in v - h to v + h (the arm), or if x lies in u - h to u + h and
+ * some height between y and q in v - h to v + h (the hand), ends included.
  *
  * The total of a layout is length_weight times the sum of the lengths plus bend_weight times
  * the sum of the bends. By a table it is the sum of the figures of the pads with their ports. A
  * best layout has no touching pair, and no layout without a touching pair has a smaller total.
- * With both weights 0, or all figures equal, every layout without a touching pair is best. With
- * bend_weight 0 no layout at all, touching or not, has a smaller total than a best one; with a
- * larger bend_weight, or by a table, one with a touching pair may have.
+ * With both weights 0, or all figures equal, every layout without a touching pair is best. If all
+ * half-sides are 0, with bend_weight 0 no layout at all, touching or not, has a smaller total than
+ * a best one; with squares, a larger bend_weight or by a table, one with a touching pair may have.
+ *
+ * If all half-sides are 0, some layout has no touching pair. With squares there may be none: each
+ * First then refuses with 15. No other call does, since any layout that it is given gets 8 or 9.
  *
  * With weights up to 1,000, First, Next and Measure answer as the table calls do with the table of
  * weighted leaders: the figure of a pad with a port is length_weight times the length of that
@@ -167,26 +179,27 @@
  *       7   an x stood in an earlier record                                  first such record
  *       8   a given entry is n or more, in the slots calls p or more, or     first such record
  *           stood earlier
- *       9   a leader touches that of an earlier record                       first such record,
- *                                                                            and the earlier one
+ *       9   a record touches an earlier one: the leader of one meets the     first such record,
+ *           leader or the square of the other                                and the earlier one
  *      10   the given layout has no touching pair but is not best            0
  *      11   Draw's record number or port number is n or more                 0
  *      12   a port height is less than 8 above the one before                first such record
  *      13   the table has fewer or more than n * n figures                   0
  *      14   there are fewer ports than pads                                  0
+ *      15   no layout is without a touching pair                             0
  *      24   the work list has fewer than 2(n + 1)(p + 2)(p + 2) numbers      0
  *
  * Each call checks for these, in this order, each over the whole job before the next:
  *
- *      First          1, 2, 3, 4, 5, 12, 6, 7
+ *      First          1, 2, 3, 4, 5, 12, 6, 7, 15
  *      Next           1, 2, 3, 4, 5, 12, 6, 7, 8, 9, 10
  *      Page           1, 2, 3, 4, 5, 12, 6, 7, 8, 9, 10
  *      Measure        1, 2, 3, 4, 5, 12, 6, 7, 8, 9
  *      Draw           1, 3, 4, 5, 12, 6, 7, 11
- *      TableFirst     1, 13, 3, 4, 5, 12, 6, 7
+ *      TableFirst     1, 13, 3, 4, 5, 12, 6, 7, 15
  *      TableNext      1, 13, 3, 4, 5, 12, 6, 7, 8, 9, 10
  *      TableMeasure   1, 13, 3, 4, 5, 12, 6, 7, 8, 9
- *      SlotsFirst     1, 2, 3, 14, 24, 4, 5, 12, 6, 7
+ *      SlotsFirst     1, 2, 3, 14, 24, 4, 5, 12, 6, 7, 15
  *      SlotsNext      1, 2, 3, 14, 24, 4, 5, 12, 6, 7, 8, 9, 10
  *      SlotsMeasure   1, 2, 3, 14, 4, 5, 12, 6, 7, 8, 9
  *
@@ -198,9 +211,10 @@
  * port's number there, and so does 4 for a port: it speaks of a port exactly if SlotsMeasure, given
  * as many ports without a fault in their place, does not give it.
  *
- * Refusal 9 names both leaders, in every call that gives it: record i is the smallest that touches
- * an earlier one, and j the smallest earlier one that it touches. Record 0 is a record, so ask for
- * the refusal's number first: it tells whether a j of 0 names record 0 or none.
+ * Refusal 9 names both records, in every call that gives it: record i is the smallest that touches
+ * an earlier one, and j the smallest earlier one that it touches, whichever leader meets what.
+ * Record 0 is a record, so ask for the refusal's number first: it tells whether a j of 0 names
+ * record 0 or none.
  *
  * WHO OWNS WHAT, AND WHAT STAYS UNCHANGED
  *
@@ -217,19 +231,19 @@
  *      the layout of Page, Measure,  never written
  *      TableMeasure, SlotsMeasure
  *      after a refusal, or the end   nothing was written: every lent list is as it was, but for
- *                                    the work list after the end or refusal 10
+ *                                    the work list after the end or refusal 10 or 15
  *      each First and Next with a    entries 0 to n - 1 are replaced, those from n on unchanged
  *      total
  *      SlotsFirst and SlotsNext      the whole work list may have been written, with anything
  *      with a total, the end or
- *      refusal 10
+ *      refusal 10 or 15
  *      Page with k layouts           the page's entries 0 to k * n - 1 are replaced, those from
  *                                    k * n on unchanged
  *      Draw with 2 or 3 points       the first 4 or 6 floats are replaced, those after unchanged
  *
  * Reply and lists depend on the arguments and on what the lists hold, and on nothing else; what a
  * work list holds on entry makes no difference, and what it holds after a total, the end or refusal
- * 10 is left open.
+ * 10 or 15 is left open.
  *
  * THREADS AND MEMORY
  *
@@ -243,9 +257,9 @@
  * in any call (CHEREMYSL_STACK_BYTES). As built, a call takes so many bytes of it at most, whatever
  * it is given, from its return address on:
  *
- *      First 38,480   Next 38,656   Page 38,672   Measure 536   Draw 136
- *      TableFirst 22,032   TableNext 22,208   TableMeasure 520
- *      SlotsFirst 3,328   SlotsNext 3,472   SlotsMeasure 568
+ *      First 42,712   Next 42,888   Page 42,904   Measure 584   Draw 136
+ *      TableFirst 26,264   TableNext 26,440   TableMeasure 568
+ *      SlotsFirst 11,688   SlotsNext 11,832   SlotsMeasure 616
  *
  * tests/stack.c measures it at 64 records, and fails if a call takes 48 bytes more.
  *
@@ -293,14 +307,14 @@
 /* ---- version ----------------------------------------------------------------------------- */
 
 #define CHEREMYSL_VERSION_MAJOR 2
-#define CHEREMYSL_VERSION_MINOR 0
+#define CHEREMYSL_VERSION_MINOR 1
 #define CHEREMYSL_VERSION_PATCH 0
 
-/* A number to compare, in #if too: 2000000 for 2.0.0. */
+/* A number to compare, in #if too: 2001000 for 2.1.0. */
 #define CHEREMYSL_VERSION_NUMBER \
     (1000000 * CHEREMYSL_VERSION_MAJOR + 1000 * CHEREMYSL_VERSION_MINOR + CHEREMYSL_VERSION_PATCH)
 
-/* A string: "2.0.0". */
+/* A string: "2.1.0". */
 #define CHEREMYSL_VERSION_TEXT \
     CHEREMYSL_JOIN(CHEREMYSL_VERSION_MAJOR, CHEREMYSL_VERSION_MINOR, CHEREMYSL_VERSION_PATCH)
 #define CHEREMYSL_JOIN(major, minor, patch) CHEREMYSL_JOIN_WORDS(major, minor, patch)
@@ -368,6 +382,7 @@ extern "C" {
 #define CHEREMYSL_MAX_PORT_BYTES 512           /* bytes of a list of ports */
 #define CHEREMYSL_MAX_SLOTS_WORK 2197000       /* numbers of a work list, for the largest job */
 #define CHEREMYSL_MAX_WEIGHT 1000              /* a weight; the smallest is 0 */
+#define CHEREMYSL_MAX_HALF_SIDE 2000           /* a pad's half-side; the smallest is 0 */
 #define CHEREMYSL_MAX_X 1000000                /* a pad's x; the smallest is 1 */
 #define CHEREMYSL_MAX_HEIGHT 1000000           /* a pad's y or a port height, up or down */
 #define CHEREMYSL_MIN_RISE 8                   /* from one port height to the next */
@@ -395,12 +410,13 @@ enum cheremysl_refusal {
     CHEREMYSL_NAME_TWICE = 6,      /* a name stood in an earlier record */
     CHEREMYSL_X_TWICE = 7,         /* an x stood in an earlier record */
     CHEREMYSL_BAD_ENTRY = 8,       /* a given entry is no port's number, or stood earlier */
-    CHEREMYSL_TOUCHING = 9,        /* a leader touches that of an earlier record */
+    CHEREMYSL_TOUCHING = 9,        /* a record touches an earlier one */
     CHEREMYSL_NOT_BEST = 10,       /* the given layout has no touching pair but is not best */
     CHEREMYSL_BAD_NUMBER = 11,     /* Draw's record or port number is n or more */
     CHEREMYSL_PORT_TOO_CLOSE = 12, /* a port height is less than 8 above the one before */
     CHEREMYSL_BAD_TABLE = 13,      /* a table of fewer or more than n * n figures */
     CHEREMYSL_TOO_FEW_PORTS = 14,  /* fewer ports than pads */
+    CHEREMYSL_NO_LAYOUT = 15,      /* no layout is without a touching pair */
     CHEREMYSL_NO_WORK_ROOM = 24    /* a work list of fewer than 2(n + 1)(p + 2)(p + 2) numbers */
 };
 
@@ -416,8 +432,8 @@ enum cheremysl_refusal {
  *                       makes no difference
  *
  * Answers the layout's total; entries 0 to n - 1 hold the layout and those from n on are
- * unchanged. Or refuses with 1 to 5, 12, 6 or 7, checked in this order, and writes nothing. Never
- * answers the end.
+ * unchanged. Or refuses with 1 to 5, 12, 6, 7 or 15, checked in this order, and writes nothing.
+ * Never answers the end.
  */
 int64_t cheremysl_first(const uint8_t *job, size_t job_bytes, uint32_t length_weight,
                         uint32_t bend_weight, uint16_t *layout, size_t entries)
@@ -486,7 +502,7 @@ int64_t cheremysl_page(const uint8_t *job, size_t job_bytes, uint32_t length_wei
  *      layout, entries  a list of at least n entries, whose first n are the layout; only read
  *
  * Answers the total, or refuses with 1 to 5, 12 or 6 to 9, checked in this order. Writes
- * nothing. Refusal 9 names the first pair of records whose leaders touch.
+ * nothing. Refusal 9 names the first pair of records that touch.
  */
 int64_t cheremysl_measure(const uint8_t *job, size_t job_bytes, uint32_t length_weight,
                           uint32_t bend_weight, const uint16_t *layout, size_t entries)
@@ -522,8 +538,8 @@ int64_t cheremysl_draw(const uint8_t *job, size_t job_bytes, uint32_t record, ui
  *                       makes no difference; it must overlap neither the job nor the table
  *
  * Answers the layout's total, the sum of its figures; entries 0 to n - 1 hold the layout and those
- * from n on are unchanged. Or refuses with 1, 13, 3 to 5, 12, 6 or 7, checked in this order, and
- * writes nothing. Never answers the end.
+ * from n on are unchanged. Or refuses with 1, 13, 3 to 5, 12, 6, 7 or 15, checked in this order,
+ * and writes nothing. Never answers the end.
  */
 int64_t cheremysl_table_first(const uint8_t *job, size_t job_bytes, const uint32_t *table,
                               size_t figures, uint16_t *layout, size_t entries)
@@ -554,7 +570,7 @@ int64_t cheremysl_table_next(const uint8_t *job, size_t job_bytes, const uint32_
  *      layout, entries  a list of at least n entries, whose first n are the layout; only read
  *
  * Answers the total, or refuses with 1, 13, 3 to 5, 12 or 6 to 9, checked in this order. Writes
- * nothing. Refusal 9 names the first pair of records whose leaders touch.
+ * nothing. Refusal 9 names the first pair of records that touch.
  */
 int64_t cheremysl_table_measure(const uint8_t *job, size_t job_bytes, const uint32_t *table,
                                 size_t figures, const uint16_t *layout, size_t entries)
@@ -574,9 +590,9 @@ int64_t cheremysl_table_measure(const uint8_t *job, size_t job_bytes, const uint
  *                         on entry makes no difference; it must overlap no other list
  *
  * Answers the layout's total; entries 0 to n - 1 hold the layout, port numbers 0 to p - 1, and
- * those from n on are unchanged; what the work list then holds is left open. Or refuses with 1 to
- * 3, 14, 24, 4, 5, 12, 6 or 7, checked in this order, and writes nothing, to the work list neither.
- * Never answers the end.
+ * those from n on are unchanged. Or refuses with 1 to 3, 14, 24, 4, 5, 12, 6, 7 or 15, checked in
+ * this order, and leaves the layout as it was. What the work list holds is left open after a total
+ * and refusal 15; the other refusals leave it as it was. Never answers the end.
  */
 int64_t cheremysl_slots_first(const uint8_t *pads, size_t pad_bytes, const uint8_t *ports,
                               size_t port_bytes, uint32_t length_weight, uint32_t bend_weight,
@@ -617,7 +633,7 @@ int64_t cheremysl_slots_next(const uint8_t *pads, size_t pad_bytes, const uint8_
  *      layout, entries    a list of at least n entries, whose first n are the layout; only read
  *
  * Answers the total, or refuses with 1 to 3, 14, 4, 5, 12 or 6 to 9, checked in this order. Writes
- * nothing, and needs no work list. Refusal 9 names the first pair of records whose leaders touch.
+ * nothing, and needs no work list. Refusal 9 names the first pair of records that touch.
  */
 int64_t cheremysl_slots_measure(const uint8_t *pads, size_t pad_bytes, const uint8_t *ports,
                                 size_t port_bytes, uint32_t length_weight, uint32_t bend_weight,
@@ -632,7 +648,7 @@ static inline int cheremysl_is_refusal(int64_t answer) { return answer < CHEREMY
 /* 1 if the answer is the end, else 0. */
 static inline int cheremysl_is_end(int64_t answer) { return answer == CHEREMYSL_END; }
 
-/* The refusal's number, 1 to 14 or 24; 0 if the answer is not a refusal. */
+/* The refusal's number, 1 to 15 or 24; 0 if the answer is not a refusal. */
 static inline int cheremysl_refusal_number(int64_t answer) {
     return cheremysl_is_refusal(answer) ? CHEREMYSL_CAST(int, answer / -65536 % 65536) : 0;
 }
@@ -675,9 +691,10 @@ static inline const char *cheremysl_refusal_text(int64_t answer) {
     case CHEREMYSL_BAD_ENTRY:
         return "The port given to this record is not there, or an earlier record has it.";
     case CHEREMYSL_TOUCHING:
-        return "The leader of this record touches the leader of an earlier record.";
+        return "This record and an earlier one touch: the leader of one meets the leader or the "
+               "square of the other.";
     case CHEREMYSL_NOT_BEST:
-        return "No two leaders touch, but another sheet has a smaller total.";
+        return "No two records touch, but another sheet has a smaller total.";
     case CHEREMYSL_BAD_NUMBER:
         return "There is no pad, or no port, of the number given.";
     case CHEREMYSL_PORT_TOO_CLOSE:
@@ -686,6 +703,9 @@ static inline const char *cheremysl_refusal_text(int64_t answer) {
         return "The table does not have just one figure for each pad with each port.";
     case CHEREMYSL_TOO_FEW_PORTS:
         return "There are fewer ports than pads.";
+    case CHEREMYSL_NO_LAYOUT:
+        return "On every sheet of this board a leader meets another leader or the square of "
+               "another pad.";
     case CHEREMYSL_NO_WORK_ROOM:
         return "The work list is too short for so many pads and ports.";
     }

@@ -1,16 +1,19 @@
 /*
  * cheremysl-draw [--any] [--area X1,Y1,X2,Y2] [--slots HEIGHTS] JOB [PORT..] >SVG: draws a sheet:
- * the label edge with port numbers and names, the pads as dots with their names, and the leaders.
- * Without ports it is First's sheet. With heights the job has pads alone, and its ports are these:
- * a strip of slots, of which some may stay free. An area of the board is shaded.
+ * the label edge with port numbers and names, the pads as dots with their names, on their squares
+ * where they have a half-side, and the leaders. Without ports it is First's sheet. With heights the
+ * job has pads alone, and its ports are these: a strip of slots, of which some may stay free. An
+ * area of the board is shaded.
  * The status is 0 if it was drawn, 1 if job or sheet is refused, 2 if it cannot be read or written.
  *
  * There is one scale for x and y, but what would come too close to be told apart is pushed on, to
- * the right or down, with all that follows. So the order of the heights, and that of the pads' x,
- * stay what they are, and these orders alone decide what touches: the picture shows no touching
- * that is not there, hides none, and has room for every line, dot, name and label. An area's sides
- * are pushed on with what lies before them, so they too keep their places in these orders. A
- * polyline's data-points are Draw's numbers as they are, its points the same places in pixels.
+ * the right or down, with all that follows. The sides of squares are pushed with the rest. So the
+ * order of the heights of pads, ports and sides, and that of the x of pads and sides, stay what
+ * they are, equal ones stay equal, and these orders alone decide what touches: the picture shows no
+ * touching that is not there, hides none, and has room for every line, dot, name and label. An
+ * area's sides are pushed on with what lies before them, so they too keep their places in these
+ * orders. A polyline's data-points are Draw's numbers as they are, its points the same places in
+ * pixels.
  */
 #include <inttypes.h>
 
@@ -22,6 +25,7 @@
 #define LINE 1.2        /* the width of a leader */
 #define DOT 3.0         /* the radius of a pad's dot */
 #define APART 8.0       /* least distance of two heights and of two hands; a name fits in between */
+#define SIDE 5.0        /* least distance of a square's side from a line or another side */
 #define LABELS 13.0     /* least distance of two ports */
 #define AROUND 16.0     /* left free at the picture's borders, and between edge and pads */
 #define NAME_LETTERS 40 /* letters of the file's name that are shown */
@@ -30,19 +34,30 @@ static char program[] = "cheremysl-draw";
 static const char usage[] =
     "usage: cheremysl-draw [--any] [--area X1,Y1,X2,Y2] [--slots HEIGHTS] JOB [PORT..] >SVG\n"
     "Draws a sheet: a job file, - for standard input, and then each pad's port number. Without\n"
-    "port numbers it is the earliest sheet of least length that has no touching leaders.\n"
-    "  --any      draws a sheet with touching leaders or with a port given twice, too\n"
+    "port numbers it is the earliest sheet of least length on which no leader meets another\n"
+    "one or another pad.\n"
+    "  --any      draws a sheet on which they do, or with a port given twice, too\n"
     "  --area     shades the rectangle with these corners, in the job's units\n"
     "  --slots    takes the port heights from a file of their own; the job has pads alone\n"
     "  --help     prints this\n"
     "  --version  prints the version\n";
 
+/* A side of a pad's square: its x or height on the canvas, and the pixels that it is pushed on. */
+struct side {
+    double at, push;
+};
+
+struct square {
+    struct side left, top, right, bottom;
+};
+
 /* One leader as Draw gives it: 2 or 3 points, the pad's first, the port's last. */
 struct leader {
     size_t record, port;
-    int name, points;
+    int name, half, points;
     float at[CHEREMYSL_DRAW_FLOATS];
-    double right, down; /* pixels that its pad is pushed on */
+    double right, down;   /* pixels that its pad is pushed on */
+    struct square square; /* the pad's; of half-side 0 it is not drawn, and all 0 */
 };
 
 struct port {
@@ -131,6 +146,7 @@ static int blames_ports(const struct given_sheet *s, int64_t answer) {
         ports[CHEREMYSL_PORT_BYTES * q + 1] = (uint8_t)(CHEREMYSL_MIN_RISE * q / 256);
     }
     return s->slots && number != CHEREMYSL_BAD_ENTRY && number != CHEREMYSL_TOUCHING &&
+           number != CHEREMYSL_NO_LAYOUT &&
            cheremysl_slots_measure(s->job, s->job_bytes, ports, sizeof ports, 1, 0, layout,
                                    CHEREMYSL_MAX_RECORDS) != answer;
 }
@@ -184,9 +200,16 @@ static int64_t judge(struct given_sheet *s, const char *file, const struct optio
     return answer;
 }
 
+/* What of a leader's pad lies right of the label edge, where all leaders end. */
+static struct square square_of(const struct leader *l) {
+    double x = l->at[0], y = l->at[1], half = l->half / 4.0;
+    if (l->half == 0) return (struct square){.left = {0, 0}};
+    return (struct square){{larger(0, x - half), 0}, {y - half, 0}, {x + half, 0}, {y + half, 0}};
+}
+
 /* Draw takes jobs of the first form: pad and port height make one of a single record. */
 static struct leader leader_of(const struct given_sheet *s, size_t record, size_t port) {
-    struct leader l = {record, port, pad_name(s, record), 0, {0}, 0, 0};
+    struct leader l = {.record = record, .port = port, .name = pad_name(s, record)};
     size_t last = CHEREMYSL_RECORD_BYTES - CHEREMYSL_PORT_BYTES; /* the field for the height */
     uint8_t one[CHEREMYSL_RECORD_BYTES];
     memcpy(one, s->job + CHEREMYSL_RECORD_BYTES * record, last);
@@ -194,6 +217,8 @@ static struct leader leader_of(const struct given_sheet *s, size_t record, size_
                                 : s->job + CHEREMYSL_RECORD_BYTES * port + last,
            CHEREMYSL_PORT_BYTES);
     l.points = (int)cheremysl_draw(one, sizeof one, 0, 0, l.at, CHEREMYSL_DRAW_FLOATS);
+    l.half = pad_half(s, record);
+    l.square = square_of(&l);
     return l;
 }
 
@@ -238,63 +263,89 @@ static double pad_y(const struct picture *p, const struct leader *l) {
 static double port_y(const struct picture *p, size_t port) {
     return height_of(p, p->ports[port].at, p->ports[port].down);
 }
+static double x_of(const struct picture *p, double at, double right) {
+    return p->left + p->scale * at + right;
+}
 static double pad_x(const struct picture *p, const struct leader *l) {
-    return p->left + p->scale * l->at[0] + l->right;
+    return x_of(p, l->at[0], l->right);
 }
 
 /* The scale by which the board's longer side has a length that grows with the number of ports. */
 static void choose_scale(struct picture *p) {
     double right = 0, top = p->ports[p->slots - 1].at, bottom = p->ports[0].at;
     for (size_t i = 0; i < p->n; i++) {
-        right = larger(right, p->leaders[i].at[0]);
-        top = smaller(top, p->leaders[i].at[1]);
-        bottom = larger(bottom, p->leaders[i].at[1]);
+        const struct leader *l = p->leaders + i;
+        double half = l->half / 4.0;
+        right = larger(right, l->at[0] + half);
+        top = smaller(top, l->at[1] - half);
+        bottom = larger(bottom, l->at[1] + half);
     }
     p->scale = (200 + 12 * (double)p->slots) / larger(right, bottom - top);
     p->top = -p->scale * top;
 }
 
+/* The height of a side, a pad or a port. */
 struct height {
     double at;
-    int port;
+    enum { OF_SIDE, OF_PAD, OF_PORT } of;
     double *down;
 };
 
-/* From the top down; a port before the pads at its height, which are pushed as it is. */
+/* From the top down; at one height first what asks for most room, as all are pushed as it is. */
 static int by_height(const void *one, const void *other) {
     const struct height *a = one, *b = other;
-    return a->at != b->at ? (a->at > b->at) - (a->at < b->at) : b->port - a->port;
+    return a->at != b->at ? (a->at > b->at) - (a->at < b->at) : (int)b->of - (int)a->of;
 }
 
-static void push_down(struct picture *p, const struct height *heights) {
-    double down = 0, above = 0, label = -LABELS;
-    for (size_t k = 0; k < p->n + p->slots; k++) {
+static void push_down(struct picture *p, const struct height *heights, size_t count) {
+    double down = 0, above = -SIDE, line = -APART, label = -LABELS;
+    for (size_t k = 0; k < count; k++) {
         double y = height_of(p, heights[k].at, down), least = y;
-        if (k > 0 && heights[k].at > heights[k - 1].at) least = larger(least, above + APART);
-        if (heights[k].port) least = larger(least, label + LABELS);
+        int other = k > 0 && heights[k].at > heights[k - 1].at;
+        if (other) least = larger(least, above + SIDE);
+        if (other && heights[k].of != OF_SIDE) least = larger(least, line + APART);
+        if (heights[k].of == OF_PORT) least = larger(least, label + LABELS);
         down += least - y;
         *heights[k].down = down;
         above = height_of(p, heights[k].at, down);
-        if (heights[k].port) label = above;
+        if (heights[k].of != OF_SIDE) line = above;
+        if (heights[k].of == OF_PORT) label = above;
     }
     p->pushed = p->pushed || down > 0;
     p->height = above;
 }
 
 static void place_heights(struct picture *p) {
-    struct height heights[CHEREMYSL_MAX_SLOTS + CHEREMYSL_MAX_RECORDS];
+    struct height heights[CHEREMYSL_MAX_SLOTS + 3 * CHEREMYSL_MAX_RECORDS];
+    size_t count = 0;
     for (size_t q = 0; q < p->slots; q++)
-        heights[q] = (struct height){p->ports[q].at, 1, &p->ports[q].down};
-    for (size_t i = 0; i < p->n; i++)
-        heights[p->slots + i] = (struct height){p->leaders[i].at[1], 0, &p->leaders[i].down};
-    qsort(heights, p->n + p->slots, sizeof *heights, by_height);
-    push_down(p, heights);
+        heights[count++] = (struct height){p->ports[q].at, OF_PORT, &p->ports[q].down};
+    for (size_t i = 0; i < p->n; i++) {
+        struct leader *l = p->leaders + i;
+        struct side *top = &l->square.top, *bottom = &l->square.bottom;
+        heights[count++] = (struct height){l->at[1], OF_PAD, &l->down};
+        if (l->half == 0) continue;
+        heights[count++] = (struct height){top->at, OF_SIDE, &top->push};
+        heights[count++] = (struct height){bottom->at, OF_SIDE, &bottom->push};
+    }
+    qsort(heights, count, sizeof *heights, by_height);
+    push_down(p, heights, count);
+}
+
+static double name_width(const struct leader *l) {
+    char digits[16];
+    return LETTER * snprintf(digits, sizeof digits, "%d", l->name);
+}
+
+/* The pixels from a pad to its name: beside its dot, or its square if that has no room for it. */
+static double name_offset(const struct picture *p, const struct leader *l) {
+    double half = p->scale * l->half / 4.0, inside = 2 * DOT + name_width(l) + DOT;
+    return l->half == 0 || half > inside ? 2 * DOT : larger(half, SIDE) + DOT;
 }
 
 /* The pixels from a pad to the end of its name. */
-static double name_room(const struct leader *l) {
-    char digits[16];
-    return 2 * DOT + LETTER * snprintf(digits, sizeof digits, "%d", l->name);
+static double name_room(const struct picture *p, const struct leader *l) {
+    return name_offset(p, l) + name_width(l);
 }
 
 /* Would b's hand, dot or name meet the name of a, pad b being a little to the right of pad a? */
@@ -303,55 +354,112 @@ static int meets_name(const struct picture *p, const struct leader *a, const str
     return smaller(pad, port) - FONT < name && name < larger(pad, port) + FONT;
 }
 
-static int by_x(const void *one, const void *other) {
-    const struct leader *const *a = one, *const *b = other;
-    return ((*a)->at[0] > (*b)->at[0]) - ((*a)->at[0] < (*b)->at[0]);
+/* Does b's square reach over the height of the name of a? */
+static int covers_name(const struct picture *p, const struct leader *a, const struct leader *b) {
+    const struct square *s = &b->square;
+    double name = pad_y(p, a);
+    return height_of(p, s->top.at, s->top.push) <= name &&
+           name <= height_of(p, s->bottom.at, s->bottom.push);
 }
 
-/* The least pixel for pad k, with the pads left of it in their places. */
-static double least_x(const struct picture *p, struct leader *const *order, size_t k) {
-    double least = p->left + AROUND;
-    for (size_t i = 0; i < k; i++) {
-        double room = meets_name(p, order[i], order[k]) ? name_room(order[i]) + 2 * DOT : 0;
-        least = larger(least, pad_x(p, order[i]) + larger(room, APART));
-    }
+/* The x of a pad, or of a side of its square. */
+struct across {
+    double at;
+    enum { LEFT, CENTRE, RIGHT } of;
+    const struct leader *pad;
+    double *right;
+};
+
+static int by_x(const void *one, const void *other) {
+    const struct across *a = one, *b = other;
+    return (a->at > b->at) - (a->at < b->at);
+}
+
+/* The pixels that b keeps from a, which is left of it or, with none, at the same x. */
+static double room_between(const struct picture *p, const struct across *a,
+                           const struct across *b) {
+    int both = a->of == CENTRE && b->of == CENTRE;
+    int named = (both && meets_name(p, a->pad, b->pad)) ||
+                (a->of == CENTRE && b->of == LEFT && covers_name(p, a->pad, b->pad));
+    double room = named ? name_room(p, a->pad) + 2 * DOT : 0;
+    return a->at == b->at ? 0 : larger(room, both ? APART : SIDE);
+}
+
+/* The least pixel for number k, with those left of it in their places. */
+static double least_x(const struct picture *p, const struct across *order, size_t k) {
+    double least = p->left + (order[k].of == CENTRE ? AROUND : SIDE);
+    for (size_t i = 0; i < k; i++)
+        least = larger(least, x_of(p, order[i].at, *order[i].right) +
+                                  room_between(p, order + i, order + k));
     return least;
 }
 
-static void push_right(struct picture *p, struct leader **order) {
+/* The same for all that have its x, so that they stay in one place. */
+static double least_together(const struct picture *p, const struct across *order, size_t count,
+                             size_t k) {
+    double least = 0;
+    for (size_t j = k; j < count && order[j].at == order[k].at; j++)
+        least = larger(least, least_x(p, order, j));
+    return least;
+}
+
+static void push_right(struct picture *p, const struct across *order, size_t count) {
     double right = 0;
-    for (size_t k = 0; k < p->n; k++) {
-        order[k]->right = right;
-        right += larger(0, least_x(p, order, k) - pad_x(p, order[k]));
-        order[k]->right = right;
-        p->width = larger(p->width, pad_x(p, order[k]) + name_room(order[k]));
+    for (size_t k = 0; k < count; k++) {
+        double x = x_of(p, order[k].at, right), name = 0;
+        right += larger(0, least_together(p, order, count, k) - x);
+        *order[k].right = right;
+        if (order[k].of == CENTRE) name = name_room(p, order[k].pad);
+        p->width = larger(p->width, x_of(p, order[k].at, right) + name);
     }
     p->pushed = p->pushed || right > 0;
 }
 
+/* A square that reaches past the label edge ends there: that side stays with the edge. */
 static void place_pads(struct picture *p) {
-    struct leader *order[CHEREMYSL_MAX_RECORDS];
-    for (size_t i = 0; i < p->n; i++) order[i] = p->leaders + i;
-    qsort(order, p->n, sizeof *order, by_x);
-    push_right(p, order);
+    struct across order[3 * CHEREMYSL_MAX_RECORDS];
+    size_t count = 0;
+    for (size_t i = 0; i < p->n; i++) {
+        struct leader *l = p->leaders + i;
+        struct side *left = &l->square.left, *right = &l->square.right;
+        order[count++] = (struct across){l->at[0], CENTRE, l, &l->right};
+        if (l->half == 0) continue;
+        order[count++] = (struct across){right->at, RIGHT, l, &right->push};
+        if (left->at > 0) order[count++] = (struct across){left->at, LEFT, l, &left->push};
+    }
+    qsort(order, count, sizeof *order, by_x);
+    push_right(p, order, count);
 }
 
-/* Where a height stands that need not be a pad's or a port's: pushed as the last one above it. */
+/* A push, or that of something that lies no further on than the place, if it is larger. */
+static double pushed_on(double push, double at, struct side seen) {
+    return seen.at <= at ? larger(push, seen.push) : push;
+}
+
+/* Where a height stands that need not be of the sheet: pushed as the last one above it. */
 static double any_y(const struct picture *p, double at) {
     double down = 0;
-    for (size_t i = 0; i < p->n; i++)
-        if (p->leaders[i].at[1] <= at) down = larger(down, p->leaders[i].down);
+    for (size_t i = 0; i < p->n; i++) {
+        const struct leader *l = p->leaders + i;
+        down = pushed_on(down, at, (struct side){l->at[1], l->down});
+        down = pushed_on(down, at, l->square.top);
+        down = pushed_on(down, at, l->square.bottom);
+    }
     for (size_t q = 0; q < p->slots; q++)
-        if (p->ports[q].at <= at) down = larger(down, p->ports[q].down);
+        down = pushed_on(down, at, (struct side){p->ports[q].at, p->ports[q].down});
     return height_of(p, at, down);
 }
 
-/* Where an x stands that need not be a pad's. */
+/* Where an x stands that need not be of the sheet. */
 static double any_x(const struct picture *p, double at) {
     double right = 0;
-    for (size_t i = 0; i < p->n; i++)
-        if (p->leaders[i].at[0] <= at) right = larger(right, p->leaders[i].right);
-    return p->left + p->scale * at + right;
+    for (size_t i = 0; i < p->n; i++) {
+        const struct leader *l = p->leaders + i;
+        right = pushed_on(right, at, (struct side){l->at[0], l->right});
+        right = pushed_on(right, at, l->square.left);
+        right = pushed_on(right, at, l->square.right);
+    }
+    return x_of(p, at, right);
 }
 
 /* ---- texts ---- */
@@ -492,6 +600,30 @@ static void draw_area(const struct picture *p, const struct area *a) {
            "fill=\"#ffdf80\"/>\n", left, top, right - left, bottom - top);
 }
 
+/* Corner by corner, so that a side has just the number of a line at its place. */
+static void draw_square(const struct picture *p, const struct leader *l) {
+    const struct square *s = &l->square;
+    double left = x_of(p, s->left.at, s->left.push), right = x_of(p, s->right.at, s->right.push);
+    double top = height_of(p, s->top.at, s->top.push);
+    double bottom = height_of(p, s->bottom.at, s->bottom.push);
+    printf("<polygon id=\"square-%d\" points=\"%.6g,%.6g %.6g,%.6g %.6g,%.6g %.6g,%.6g\">\n",
+           (int)l->record, left, top, right, top, right, bottom, left, bottom);
+    printf("<title>pad %d (record %d): half-side %d</title>\n</polygon>\n", l->name,
+           (int)l->record, l->half);
+}
+
+/* Below all leaders, so that none is hidden. */
+static void draw_squares(const struct picture *p) {
+    int any = 0;
+    for (size_t i = 0; i < p->n; i++) {
+        if (p->leaders[i].half == 0) continue;
+        if (!any) printf("<g fill=\"#f6dcc0\" stroke=\"#d0a070\" stroke-width=\"0.6\">\n");
+        any = 1;
+        draw_square(p, p->leaders + i);
+    }
+    if (any) printf("</g>\n");
+}
+
 static void draw_line(const struct picture *p, const struct leader *l) {
     double x = pad_x(p, l), pad = pad_y(p, l), port = port_y(p, l->port);
     printf("<polyline data-points=\"%.9g,%.9g", l->at[0], l->at[1]);
@@ -519,7 +651,7 @@ static void draw_text(double x, double y, const char *colour, const char *text) 
 static void draw_name(const struct picture *p, const struct leader *l) {
     char digits[16];
     sprintf(digits, "%d", l->name);
-    draw_text(pad_x(p, l) + 2 * DOT, pad_y(p, l), colour_of(p, l->port), digits);
+    draw_text(pad_x(p, l) + name_offset(p, l), pad_y(p, l), colour_of(p, l->port), digits);
 }
 
 static void draw_leaders(const struct picture *p) {
@@ -573,6 +705,7 @@ static void draw_picture(struct picture *p, const char *file) {
     printf("<title>%s</title>\n", h.lines[0]);
     printf("<rect width=\"100%%\" height=\"100%%\" fill=\"white\"/>\n");
     draw_area(p, &p->area);
+    draw_squares(p);
     draw_heading(&h);
     draw_edge(p);
     draw_leaders(p);

@@ -18,7 +18,7 @@ enum { SHEET, REFUSED, FAILED };
 static const char version[] = "cheremysl-sheet " CHEREMYSL_VERSION_TEXT "\n";
 static const char help[] = USAGE
     "Prints the sheet of the job in FILE, or on standard input without one or with -:\n"
-    "name, port, length and bends of each named pad, then the totals; or the refusal.\n"
+    "name, port, length and bends of each pad, then the totals; or the refusal.\n"
     "--help prints this text, --version the version; -- ends the options.\n"
     "The status is 0 for a sheet, 1 for a refused job, 2 for any other failure.\n";
 

@@ -7,8 +7,8 @@
 #include <stdio.h>
 #include <string.h>
 
-#if CHEREMYSL_VERSION_NUMBER < 2000000 || CHEREMYSL_VERSION_NUMBER >= 3000000
-#error "the version is not 2.0 or a later 2"
+#if CHEREMYSL_VERSION_NUMBER < 2001000 || CHEREMYSL_VERSION_NUMBER >= 3000000
+#error "the version is not 2.1 or a later 2"
 #endif
 
 /* These are refused by the compiler if a prototype is another. */
@@ -83,7 +83,7 @@ static void pairs(void) {
 static const char *text(int number) { return cheremysl_refusal_text(-65536 * (int64_t)number); }
 
 static int is_known(int number) {
-    return number <= CHEREMYSL_TOO_FEW_PORTS || number == CHEREMYSL_NO_WORK_ROOM;
+    return number <= CHEREMYSL_NO_LAYOUT || number == CHEREMYSL_NO_WORK_ROOM;
 }
 
 /* A sentence, and not one that a smaller number has, if that or this is known. */
@@ -97,10 +97,10 @@ static void is_sentence(int number) {
 
 /* All that are unknown share one. */
 static void texts(void) {
-    int unknown = CHEREMYSL_TOO_FEW_PORTS + 1;
+    int unknown = CHEREMYSL_NO_LAYOUT + 1;
     for (int number = CHEREMYSL_BAD_SIZE; number <= CHEREMYSL_NO_WORK_ROOM + 1; number++)
         is_sentence(number);
-    check(strcmp(text(16), text(unknown)) == 0 && strcmp(text(65535), text(unknown)) == 0);
+    check(strcmp(text(23), text(unknown)) == 0 && strcmp(text(65535), text(unknown)) == 0);
     check(strcmp(cheremysl_refusal_text(-2), text(unknown)) == 0);
     check(strcmp(cheremysl_refusal_text(-4295557122), text(CHEREMYSL_TOUCHING)) == 0);
 }
@@ -132,6 +132,7 @@ static void limits(void) {
     check(CHEREMYSL_TOUCHING == 9 && CHEREMYSL_DRAW_FLOATS == 6 && CHEREMYSL_BAD_TABLE == 13);
     check(CHEREMYSL_PORT_TOO_CLOSE == 12 && CHEREMYSL_MIN_RISE == 8);
     check(CHEREMYSL_TOO_FEW_PORTS == 14 && CHEREMYSL_NO_WORK_ROOM == 24);
+    check(CHEREMYSL_NO_LAYOUT == 15 && CHEREMYSL_MAX_HALF_SIDE == 2000);
     check(CHEREMYSL_MAX_PORT_BYTES == CHEREMYSL_PORT_BYTES * CHEREMYSL_MAX_SLOTS);
     check(CHEREMYSL_MAX_SLOTS_WORK ==
           CHEREMYSL_SLOTS_WORK(CHEREMYSL_MAX_RECORDS, CHEREMYSL_MAX_SLOTS));
@@ -295,6 +296,28 @@ static void page_keeps(uint16_t port, int64_t wanted) {
     check(cheremysl_page(one_pad, sizeof one_pad, 1, 0, &port, 1, page, LENT) == wanted);
     check_own(page, 0);
 }
+
+/* Pads (5, 0) and (6, 1), the first with a square around the second; ports 0 and 8, or apart. */
+static const uint8_t in_square[2 * CHEREMYSL_RECORD_BYTES] = {
+    1, 0, 1, 0, 5, 0, 0, 0, 0, 0, 0, 0, 0, 0, 0, 0, 2, 0, 0, 0, 6, 0, 0, 0, 1, 0, 0, 0, 8};
+
+/* No layout: each First keeps the list. */
+static void none_keeps(void) {
+    static const uint32_t figures[4] = {1, 2, 3, 4};
+    int64_t none = -65536 * CHEREMYSL_NO_LAYOUT;
+    uint8_t pads[sizeof in_square];
+    uint16_t layout[LENT];
+    enum { NUMBERS = CHEREMYSL_SLOTS_WORK(2, 2) };
+    uint64_t work[NUMBERS];
+    memcpy(pads, in_square, sizeof pads);
+    memcpy(layout, own, sizeof own);
+    pads[CHEREMYSL_RECORD_BYTES + 12] = 0;
+    check(cheremysl_first(in_square, sizeof in_square, 1, 0, layout, LENT) == none);
+    check(cheremysl_table_first(in_square, sizeof in_square, figures, 4, layout, LENT) == none);
+    check(none == cheremysl_slots_first(pads, sizeof pads, two_ports, PORTS, 1, 0, layout, LENT,
+                                        work, NUMBERS));
+    check_own(layout, 0);
+}
 #endif
 
 static void lists(void) {
@@ -312,6 +335,7 @@ static void lists(void) {
     next_keeps(1, bad_entry);
     page_keeps(0, 0);
     page_keeps(1, bad_entry);
+    none_keeps();
     slots_keep(WORK, 5, 1);
     slots_keep(WORK - 1, -65536 * CHEREMYSL_NO_WORK_ROOM, 0);
     slots_next_keeps(0, CHEREMYSL_END);

@@ -1,13 +1,16 @@
 #!/usr/bin/env python3
 """tests/draw.py PROGRAM..: draws the sample jobs and boards of every kind, and looks at the pictures as a reader does: each is well-formed, its
 leaders are those of 01 worked out here, those touch that do by 01 and no others come close, no dot or name meets a foreign leader, and no text meets
-another; the ports that stay free have their marks; a shaded area meets the leaders that it meets on the board. The last line has the counts."""
+another; the ports that stay free have their marks; a pad's square meets the leaders that it meets on the board, and so does a shaded area. The last
+line has the counts."""
 import glob, itertools, math, os, random, struct, subprocess, sys, tempfile
 import xml.etree.ElementTree as xml
 
 SVG = '{http://www.w3.org/2000/svg}'
 LEAST = 7.98  # pixels from a line to the next: 8, and the last digit may be rounded
-SIZES = {64: (4200, 2400), 128: (5000, 4000)}  # pixels, for up to so many ports: no sound sheet has a larger picture
+SIDE = 4.98  # pixels from a square's side to a line or to another side
+SIZES = {64: (4200, 2400), 128: (5000, 4000)}  # pixels, for up to so many ports: no sound sheet has a larger picture ..
+SQUARES = 600, 800  # .. but for what squares can add
 passed = failed = 0
 
 def check(what, good, *seen):
@@ -17,7 +20,13 @@ def check(what, good, *seen):
         print('FAILED:', what, *seen)
 
 def records(job):
+    """Of each record the name, the half-side, x, y and the last field."""
     return [struct.unpack_from('<HHIii', job, 16 * i) for i in range(len(job) // 16)]
+
+def square(record):
+    """Left, low, right, high of a pad's square, on the board."""
+    _, half, x, y, _ = record
+    return x - half, y - half, x + half, y + half
 
 # ---- reading a picture
 
@@ -32,6 +41,10 @@ def box(text, size, half=0.37):
 
 def meet(a, b):
     return a[0] < b[2] and b[0] < a[2] and a[1] < b[3] and b[1] < a[3]
+
+def share(a, b):
+    """Whether two boxes share a point, if only one of their sides."""
+    return a[0] <= b[2] and b[0] <= a[2] and a[1] <= b[3] and b[1] <= a[3]
 
 def segments(line):
     """The boxes of a leader's hand and arm."""
@@ -52,6 +65,9 @@ class Picture:
         self.title, self.edge = root.find(SVG + 'title').text, root.find(SVG + 'path').get('d')
         self.ids = [e.get('id') for e in root.iter() if e.get('id')]
         group = root.findall(SVG + 'g')
+        self.polygons = group.pop(0).findall(SVG + 'polygon') if group[0].find(SVG + 'polygon') is not None else []
+        self.squares = {int(g.get('id').removeprefix('square-')): points(g.get('points')) for g in self.polygons}
+        self.boxes = {i: corners[0] + corners[2] for i, corners in self.squares.items()}  # left, top, right, bottom
         self.leaders = group[0].findall(SVG + 'g')
         self.width_of_line = float(group[0].get('stroke-width'))
         self.lines = [points(g.find(SVG + 'polyline').get('points')) for g in self.leaders]
@@ -76,7 +92,10 @@ def check_leaders(what, picture, rs, hs, layout):
     """The leaders are Draw's, with their titles and the total."""
     lengths = [r[2] + abs(r[3] - hs[q]) for r, q in zip(rs, layout)]
     bends = [int(r[3] != hs[q]) for r, q in zip(rs, layout)]
-    check(what + ': ids', picture.ids == ['leader-%d' % i for i in range(len(rs))], picture.ids)
+    squares = [i for i, r in enumerate(rs) if r[1]]
+    check(what + ': ids', picture.ids == ['square-%d' % i for i in squares] + ['leader-%d' % i for i in range(len(rs))], picture.ids)
+    check(what + ': squares', [g.find(SVG + 'title').text for g in picture.polygons] == [
+        'pad %d (record %d): half-side %d' % (rs[i][0], i, rs[i][1]) for i in squares])
     check(what + ': points', picture.drawn == [expected_leader(r, hs[q]) for r, q in zip(rs, layout)], picture.drawn)
     check(what + ': titles', [g.find(SVG + 'title').text for g in picture.leaders] == [
         'pad %d (record %d) to port %d: length %d, bends %d' % (r[0], i, layout[i], lengths[i], bends[i]) for i, r in enumerate(rs)])
@@ -84,13 +103,21 @@ def check_leaders(what, picture, rs, hs, layout):
     check(what + ': total shown', picture.heading[0].text == picture.title)
 
 def check_places(what, picture, rs, hs):
-    """Pads and ports stand in the order of their heights and x, far enough from each other, and equal heights in one place."""
-    heights = {(-r[3], dot[1]) for r, dot in zip(rs, picture.dots)} | {(-h, float(t.get('y'))) for h, t in zip(hs, picture.labels[1:])}
-    at = sorted(heights)
-    check(what + ': one place for each height', len(at) == len(dict(at)))
-    check(what + ': heights apart', all(b[1] - a[1] >= LEAST for a, b in zip(at, at[1:])), at)
-    across = [(0, picture.lines[0][-1][0])] + sorted((r[2], dot[0]) for r, dot in zip(rs, picture.dots))
-    check(what + ': pads apart', all(b[1] - a[1] >= LEAST for a, b in zip(across, across[1:])), across)
+    """Pads, ports and squares' sides stand in the order of their heights and x, far enough from each other, and equal ones in one place."""
+    apart = lambda at, least: len(at) == len(dict(at)) and all(b[1] - a[1] >= least for a, b in zip(at, at[1:]))
+    lines = {(-r[3], dot[1]) for r, dot in zip(rs, picture.dots)} | {(-h, float(t.get('y'))) for h, t in zip(hs, picture.labels[1:])}
+    check(what + ': heights apart', apart(sorted(lines), LEAST), lines)
+    hands = {(0, picture.lines[0][-1][0])} | {(r[2], dot[0]) for r, dot in zip(rs, picture.dots)}
+    check(what + ': pads apart', apart(sorted(hands), LEAST), hands)
+    sides = [(square(rs[i]), box) for i, box in picture.boxes.items()]
+    at = sorted(lines | {(-high, box[1]) for (_, _, _, high), box in sides} | {(-low, box[3]) for (_, low, _, _), box in sides})
+    check(what + ': sides apart in height', apart(at, SIDE), at)
+    across = sorted(hands | {(max(left, 0), box[0]) for (left, _, _, _), box in sides} | {(right, box[2]) for (_, _, right, _), box in sides})
+    check(what + ': sides apart in x', apart(across, SIDE), across)
+    check(what + ': upright squares', all(corners == [(a, b), (c, b), (c, d), (a, d)] for corners, (a, b, c, d) in zip(
+        picture.squares.values(), picture.boxes.values())))
+    check(what + ': squares inside', all(picture.lines[0][-1][0] <= a and c < picture.width and float(picture.edge[1:].split(',')[1].split('V')[0]) <= b
+                                         and d < picture.height for a, b, c, d in picture.boxes.values()))
     check(what + ': one edge', len({line[-1][0] for line in picture.lines}) == 1)
     check(what + ': lines', all(line[0] == dot[:2] and all(a[0] == b[0] or a[1] == b[1] for a, b in zip(line, line[1:]))
                                 and len(line) == len(drawn.split()) for line, dot, drawn in zip(picture.lines, picture.dots, picture.drawn)))
@@ -124,26 +151,39 @@ def touch(a, p, b, q):
     return min(y, q) <= p <= max(y, q)
 
 def check_touching(what, picture, rs, hs, layout):
-    """Leaders touch in the picture exactly if they do on the sheet, and others are far enough from each other for the width of a line."""
+    """Leaders touch in the picture exactly if they do on the sheet, and others are far enough from each other for the width of a line. So it is with a
+    leader and another pad's square, whose sides have just the places of lines in it."""
     bad = []
     for i, j in itertools.combinations(range(len(rs)), 2):
         near, touching = apart(picture.segments[i], picture.segments[j]), touch(rs[i], hs[layout[i]], rs[j], hs[layout[j]])
         if near > 0 if touching else near < LEAST:
             bad.append((i, j, near))
     check(what + ': leaders apart', not bad, bad)
-    check(what + ': width of lines', picture.width_of_line < LEAST / 3)
+    bad = []
+    for i, j in itertools.product(range(len(rs)), picture.boxes):
+        near, met = apart(picture.segments[i], [picture.boxes[j]]), meets(square(rs[j]), rs[i], hs[layout[i]])
+        if i != j and (near > 0 if met else near < SIDE):
+            bad.append((i, j, near))
+    check(what + ': squares apart', not bad, bad)
+    check(what + ': width of lines', picture.width_of_line < SIDE / 3)
 
 def check_sound(what, picture, rs, hs, boxes):
-    """On a sheet without touching leaders nothing meets a foreign leader, and no two texts meet."""
+    """On a sheet without touching records nothing meets a foreign leader or square but another square, and no two texts meet."""
     n, (widest, highest) = len(rs), min(size for ports, size in SIZES.items() if len(hs) <= ports)
-    check(what + ': size', picture.width <= widest and picture.height <= highest and picture.size >= 10, picture.width, picture.height)
+    wider, higher = SQUARES if picture.boxes else (0, 0)
+    check(what + ': size', picture.width <= widest + wider and picture.height <= highest + higher and picture.size >= 10, picture.width, picture.height)
     for i, (x, y, r) in enumerate(picture.dots):
         near = min([distance((x, y, x, y), s) for j in range(n) if j != i for s in picture.segments[j]], default=LEAST)
-        check(what + ': dot of %d' % i, 2 <= r < near - picture.width_of_line, r, near)
+        clear = min([distance((x, y, x, y), s) for j, s in picture.boxes.items() if j != i], default=SIDE)
+        check(what + ': dot of %d' % i, 2 <= r < near - picture.width_of_line and r < clear, r, near, clear)
     check(what + ': texts apart', not any(meet(a, b) for a, b in itertools.combinations(boxes, 2)))
+    check(what + ': sound', all(apart(picture.segments[i], picture.segments[j] + [s for s in [picture.boxes.get(j)] if s]) > 0
+                                for i, j in itertools.permutations(range(n), 2)))
     names = [(t.text, box(t, picture.size)) for t in picture.names]
     on = [(name, j) for name, place in names for j in range(n) for s in picture.segments[j] if meet(place, s)]
     check(what + ': names clear of leaders', not on, on)
+    on = [(i, j) for i, (_, place) in enumerate(names) for j, s in picture.boxes.items() if i != j and meet(place, s)]
+    check(what + ': names clear of squares', not on, on)
 
 # ---- running it
 
@@ -183,7 +223,8 @@ def try_board(path, layout=None, sound=True, slots=None):
     shown = ports_shown(picture)
     if layout is None:  # First's: no shorter sheet
         check(what + ': a layout', len(set(shown)) == len(rs) and set(shown) <= set(range(len(hs))))
-        check(what + ': shortest', sum(abs(r[3] - hs[q]) for r, q in zip(rs, shown)) == least_rise(rs, hs))
+        longer = sum(abs(r[3] - hs[q]) for r, q in zip(rs, shown)) - least_rise(rs, hs)
+        check(what + ': shortest', longer == 0 or longer > 0 and picture.boxes, longer)
     layout = shown if layout is None else layout
     check_leaders(what, picture, rs, hs, layout)
     check_places(what, picture, rs, hs)
@@ -196,17 +237,17 @@ def try_board(path, layout=None, sound=True, slots=None):
 def meets(area, record, port):
     """Whether a leader shares a point with the area, on the board: left, low, right, high."""
     _, _, x, y, _ = record
-    hand, arm = (x, min(y, port), x, max(y, port)), (0, port, x, port)
-    return any(a[0] <= area[2] and area[0] <= a[2] and a[1] <= area[3] and area[1] <= a[3] for a in (hand, arm))
+    return any(share(area, part) for part in ((x, min(y, port), x, max(y, port)), (0, port, x, port)))
 
 def try_area(r, path, slots=None):
-    """In the picture a shaded area meets the leaders that it meets on the board, but for what is lost in rounding; all else is drawn as without it."""
+    """In the picture a shaded area meets the leaders and squares that it meets on the board, but for what is lost in rounding; all else is drawn as
+    without it."""
     words = ['--slots', slots] * bool(slots)
     (rs, hs), what, plain = board_at(path, slots), os.path.basename(path) + ', area', draw(path, *words)
     near = lambda places: r.choice(places) + r.choice((-30, -1, 0, 1, 30))
     for _ in range(3):
-        x, u = (near([0] + [s[2] for s in rs]) for _ in 'xu')
-        y, v = (near([s[3] for s in rs] + hs) for _ in 'yv')
+        x, u = (near([0] + [s[2] for s in rs] + [end for s in rs for end in square(s)[::2]]) for _ in 'xu')
+        y, v = (near([s[3] for s in rs] + [end for s in rs for end in square(s)[1::2]] + hs) for _ in 'yv')
         text = draw(path, *words, '--area', '%d,%d,%d,%d' % (x, y, u, v))
         shaded = [line for line in text.splitlines() if b'id="area"' in line]
         check(what + ': the rest', [line for line in text.splitlines() if line not in shaded] == plain.splitlines() and len(shaded) < 2)
@@ -216,10 +257,12 @@ def try_area(r, path, slots=None):
             check(what + ': not shaded', not any(met), area)
             continue
         left, top, width, height = (float(xml.fromstring(shaded[0]).get(k)) for k in ('x', 'y', 'width', 'height'))
+        met += [share(area, square(rs[j])) for j in picture.boxes]
+        things = picture.segments + [[box] for box in picture.boxes.values()]
         for grow, wrong in (-0.02, lambda m: not m), (0.02, lambda m: m):
             box = left - grow, top - grow, left + width + grow, top + height + grow
-            seen = [any(s[0] <= box[2] and box[0] <= s[2] and s[1] <= box[3] and box[1] <= s[3] for s in line) for line in picture.segments]
-            check(what + ': leaders', not any(wrong(m) and (s if grow < 0 else not s) for m, s in zip(met, seen)), area, met, seen)
+            seen = [any(share(s, box) for s in boxes) for boxes in things]
+            check(what + ': leaders and squares', not any(wrong(m) and (s if grow < 0 else not s) for m, s in zip(met, seen)), area, met, seen)
 
 # ---- boards
 
@@ -246,9 +289,9 @@ def boards(r):
         yield 'crowd-%d' % n, list(range(1, n)) + [END], [0] * n, high
         yield 'level-with-ports-%d' % n, any_x(2 * n), [r.choice(close) + r.choice((0, 0, 1, -1)) for _ in range(n)], close
 
-def pack(r, xs, ys, ports):
+def pack(r, xs, ys, ports, halves=itertools.repeat(0)):
     names = r.sample(range(1, 65536), len(xs))
-    return b''.join(struct.pack('<HHIii', name, 0, x, y, q) for name, x, y, q in zip(names, xs, ys, ports))
+    return b''.join(struct.pack('<HHIii', name, half, x, y, q) for name, half, x, y, q in zip(names, halves, xs, ys, ports))
 
 def pack_heights(heights):
     return struct.pack('<%di' % len(heights), *heights)
@@ -276,6 +319,41 @@ def try_slots(r, room):
         try_area(r, path, slots)
         try_board(path, r.sample(range(len(strip)), len(xs)), False, slots)
 
+def half_sides(r, n):
+    """Of n pads: one for all, or any of them, some 0."""
+    most = r.choice((20, 200, 2000))
+    return [most] * n if r.random() < .3 else [r.choice((0, most, r.randint(0, most))) for _ in range(n)]
+
+def has_no_sheet(path, slots):
+    run = subprocess.run(program + ['--slots', slots] * bool(slots) + [path], stdout=subprocess.DEVNULL, stderr=subprocess.PIPE)
+    return run.returncode == 1 and b': refused 15 record 0: ' in run.stderr
+
+def squares_boards(r, room):
+    """All boards again with half-sides, smaller and smaller until there is a sheet: the file, one of slots or None, and if there is."""
+    forms = [(*board, False) for board in boards(r)] + [(*board, True) for board in slots_boards(r)]
+    for name, xs, ys, ports, on_slots in forms:
+        path, slots, halves = os.path.join(room, name), os.path.join(room, 'strip') if on_slots else None, half_sides(r, len(xs))
+        if slots:
+            open(slots, 'wb').write(pack_heights(ports))
+        sound = False
+        while not sound:
+            open(path, 'wb').write(pack(r, xs, ys, [0] * len(xs) if slots else ports, halves))
+            sound = not has_no_sheet(path, slots)
+            yield path, slots, sound
+            halves = [half // 3 for half in halves]
+
+def try_squares(r, room):
+    """What is drawn where pads are squares: touching and apart, sides at the places of lines, squares that overlap and that reach past the edge."""
+    none = squares = 0
+    for path, slots, sound in squares_boards(r, room):
+        rs, hs = board_at(path, slots)
+        try_board(path, r.sample(range(len(hs)), len(rs)), False, slots)
+        none, squares = none + (not sound), squares + (sound and any(half for _, half, _, _, _ in rs))
+        if sound:
+            try_board(path, slots=slots)
+            try_area(r, path, slots)
+    check('boards with squares: %d without a sheet, %d with one' % (none, squares), none > 9 and squares > 20)
+
 def odd_names(room):
     """Names of files, and how they are shown."""
     yield b'a & b <c> "d" \'e\'', 'a & b <c> "d" \'e\''
@@ -297,6 +375,8 @@ def main():
     try_board('examples/matrix.job', [63] * 64, False)
     with open('examples/antenna.layout') as file:
         try_board('examples/antenna.job', [int(q) for q in file.read().split()])
+    with open('examples/copper.layout') as file:
+        try_board('examples/copper.job', [int(q) for q in file.read().split()], False)
     try_board('examples/sensor.pads', slots='examples/row.ports')
     try_board('examples/sensor.pads', [31, 17, 15, 14, 18, 10, 8, 23, 0], False, 'examples/row.ports')
     with tempfile.TemporaryDirectory() as room:
@@ -308,6 +388,7 @@ def main():
             if len(xs) > 1:
                 try_board(path, r.sample(range(len(xs)), len(xs)), False)
         try_slots(r, room)
+        try_squares(r, room)
         for name, shown in odd_names(room):
             path = os.path.join(room.encode(), name)
             open(path, 'wb').write(open('examples/J1.job', 'rb').read())

@@ -54,11 +54,30 @@ for any in '' --any; do
     says 1 'cheremysl-draw: *name.job: refused 6 record 1 (pad 7): ?*' $any "$room/name.job" 1 0
     printf '7 1 5 5\n8 1 5 13\n' | made x
     says 1 'cheremysl-draw: *x.job: refused 7 record 1 (pad 8): ?*' $any "$room/x.job"
+    printf '7 1 5 5\n8 2 5 13 half=2001\n' | made half
+    says 1 'cheremysl-draw: *half.job: refused 4 record 1 (pad 8): ?*' $any "$room/half.job"
+    says 1 'cheremysl-draw: *half.job: refused 4 record 1 (pad 8): ?*' $any "$room/half.job" 0 1
+    printf '7 10 5 5 half=2000\n8 20 5 13\n' | made inside # one pad inside the square of the other: no sheet at all
+    says 1 'cheremysl-draw: *inside.job: refused 15 record 0: On every sheet of this board ?*' $any "$room/inside.job"
 done
 says 1 "cheremysl-draw: $crossing: $touching" $crossing 3 1 2 0
 says 1 "cheremysl-draw: $J5: refused 8 record 2 (pad 103): ?*" $J5 1 2 1
 check "touching, with --any" draw --any $crossing 3 1 2 0
 check "a port twice, with --any" draw $J5 1 --any 2 1
+
+# Squares: the leader of the later record meets the square of the earlier one, or the other way round; one unit less and it does not.
+printf '7 10 5 0 half=5\n8 20 30 10\n' | made met
+says 1 'cheremysl-draw: *met.job: refused 9 record 1 (pad 8) and record 0 (pad 7): ?*' "$room/met.job" 0 1
+check "a square that is met, with --any" draw --any "$room/met.job" 0 1
+printf '7 20 30 0\n8 10 5 10 half=5\n' | made meets
+says 1 'cheremysl-draw: *meets.job: refused 9 record 1 (pad 8) and record 0 (pad 7): ?*' "$room/meets.job" 1 0
+check "a square that meets, with --any" draw --any "$room/meets.job" 1 0
+printf '7 10 5 0 half=4\n8 20 30 10\n' | made beside
+check "a leader beside a square" draw "$room/beside.job" 0 1
+says 1 'cheremysl-draw: *inside.job: refused 9 record 1 (pad 8) and record 0 (pad 7): ?*' "$room/inside.job" 0 1
+check "a pad in a square, with --any" draw --any "$room/inside.job" 0 1
+copper=examples/copper.job
+says 1 "cheremysl-draw: $copper: refused 9 record 9 (pad 310) and record 5 (pad 306): ?*" $copper $(cat examples/copper.layout)
 
 # ---- a strip of slots: the same, of the file that is at fault, and of a port's number where a port is
 
@@ -97,6 +116,14 @@ for any in '' --any; do
     says 1 'cheremysl-draw: *two.pads: refused: more port numbers than pads (2)' $any --slots $row "$room/two.pads" 0 1 2
     says 1 'cheremysl-draw: *two.pads: refused 8 record 1 (pad 8): ?*' $any --slots $row "$room/two.pads" 0 32
 done
+printf '7 10 5 half=2000\n8 20 5\n' | made inside pads
+printf '7 10 5 half=2000\n8 20 5 half=2001\n' | made half pads
+for any in '' --any; do
+    says 1 'cheremysl-draw: *inside.pads: refused 15 record 0: ?*' $any --slots $row "$room/inside.pads"
+    says 1 'cheremysl-draw: *half.pads: refused 4 record 1 (pad 8): ?*' $any --slots "$room/far.ports" "$room/half.pads"
+done
+says 1 'cheremysl-draw: *inside.pads: refused 9 record 1 (pad 8) and record 0 (pad 7): ?*' --slots $row "$room/inside.pads" 0 31
+check "a pad in a square, on a strip, with --any" draw --any --slots $row "$room/inside.pads" 0 31
 says 1 'cheremysl-draw: *two.pads: refused 8 record 1 (pad 8): ?*' --slots $row "$room/two.pads" 31 31
 says 1 'cheremysl-draw: *two.pads: refused 9 record 1 (pad 8) and record 0 (pad 7): ?*' --slots $row "$room/two.pads" 2 1
 check "touching on a strip, with --any" draw --any --slots $row "$room/two.pads" 2 1
@@ -153,6 +180,9 @@ made_pictures=$(cut -d ' ' -f 1 "$room/pictures" | LC_ALL=C sort)
 check "every picture is made" [ "$made_pictures" = "$(cd docs && ls | LC_ALL=C sort | grep '[.]svg$')" ]
 svg=j5.svg
 check "First's sheet" picture $J5
+squares_in() { draw "$1" | grep -c '^<polygon '; }
+prints 0 24 squares_in $copper
+prints 1 0 squares_in examples/sequencer.job
 from_input() { draw - <$J5 | sed 's/standard input/J5.job/' | cmp - docs/j5.svg; }
 check "from standard input" from_input
 pads_from_input() { draw --slots $row - <$sensor | sed 's/standard input/sensor.pads/' | cmp - docs/slots.svg; }

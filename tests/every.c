@@ -1,10 +1,12 @@
 /*
  * every [COUNT [SEED]]: First, Next, .., end on jobs of up to seven pads, over weights, with a page
  * from each sheet, over a table, or on up to seven slots, against the list of every best layout
- * among all assignments. Random and degenerate boards, tables of every kind; now and then with a
- * port too close to the one before, for which every call refuses the job. For bend weight 0,
- * First's total on each board against the least of all assignments, touching or not. Over the table
- * of weighted lengths and bends, and on as many slots as pads, every reply is that over weights.
+ * among all assignments. Random and degenerate boards, pads with squares and without, tables of
+ * every kind; now and then with a port too close to the one before, for which every call refuses
+ * the job. Where the squares leave no layout, every First gives 15, and Next and Page give 8 or 9
+ * for every list. For bend weight 0, First's total on each board of points against the least of all
+ * assignments, touching or not. Over the table of weighted lengths and bends, and on as many slots
+ * as pads, every reply is that over weights.
  */
 #include <stdio.h>
 #include <stdlib.h>
@@ -15,6 +17,8 @@
 
 static long sheets_listed, most_sheets, crossed, dearer, tables_dearer, tables_tied, weighed;
 static long slots_listed, slots_free; /* runs on slots, and those on more slots than pads */
+static long squared, longer; /* jobs with squares, and those with more length than points */
+static long none[3];         /* without a layout: over weights, over a table, on slots */
 
 /* ---- a complete run ---- */
 
@@ -25,9 +29,10 @@ static bool page_from(struct question *q, const struct sheets *all, size_t k) {
     return expect(q, fills(q, all->sheet[k].port + PLAIN_PORTS, PLAIN_PORTS, all->found - k - 1));
 }
 
-/* Over a table and on slots there are no pages. */
+/* Over a table and on slots there are no pages. Without a layout there is no run. */
 static bool run(struct question *q, const struct sheets *all) {
     turn_to(q, FIRST);
+    if (all->found == 0) return expect(q, keeps(q, refused(15, 0)));
     for (size_t k = 0; k < all->found; k++) {
         struct reply expected = gives(q, all->total, all->sheet[k].port);
         if (!expect(q, expected)) return false;
@@ -120,7 +125,10 @@ static void too_close(struct question q) {
 /* Of n pads to p ports. */
 static size_t assignments(size_t n, size_t p) { return n == 0 ? 1 : p * assignments(n - 1, p - 1); }
 
-/* For bend weight 0 First's total is the least of all assignments, touching or not. */
+/*
+ * For bend weight 0 First's total is the least of all assignments, touching or not; among squares
+ * it may be more.
+ */
 static void least_of_all(struct question q) {
     static struct sheets all;
     q.call = takes_slots(q.call) ? SLOTS_FIRST : FIRST;
@@ -128,18 +136,26 @@ static void least_of_all(struct question q) {
     q.b = 0;
     struct given g = given_of(&q);
     struct plan plan = plan_of(&q);
+    bool points = plain_no_squares(&g);
     plain_sheets(&g, &all);
-    expect(&q, gives(&q, all.least, all.sheet[0].port));
+    if (points) check(all.found > 0 && all.total == all.least, &q, "not the least of all");
+    if (all.found > 0) expect(&q, gives(&q, all.total, all.sheet[0].port));
     check(all.tried == assignments(plan.n, plan.p), &q, "not every assignment was tried");
     check(all.least == q.a * least_length(&plan), &q, "another least length");
-    crossed += q.a > 0 && all.crossed;
+    crossed += q.a > 0 && points && all.crossed;
+    longer += all.found > 0 && all.total > all.least;
 }
 
 static void count_sheets(const struct question *q, const struct sheets *all) {
     bool tabled = takes_table(q->call);
-    check(all->found > 0, q, "no best layout");
-    check(tabled || q->b != 0 || all->total == all->least, q, "not the least of all assignments");
-    *(tabled ? &tables_dearer : &dearer) += all->total > all->least;
+    struct given g = given_of(q);
+    bool points = plain_no_squares(&g);
+    check(!points || all->found > 0, q, "no best layout");
+    check(tabled || !points || q->b != 0 || all->total == all->least, q,
+          "not the least of all assignments");
+    squared += !points;
+    none[tabled ? 1 : takes_slots(q->call) ? 2 : 0] += all->found == 0;
+    *(tabled ? &tables_dearer : &dearer) += points && all->total > all->least;
     tables_tied += tabled && all->found > 1;
     slots_listed += takes_slots(q->call);
     slots_free += ports_of(q) > records_of(q);
@@ -174,9 +190,14 @@ int main(int argc, char **argv) {
     printf("over tables: in %ld jobs they have; %ld jobs with several sheets; %ld runs as over "
            "weights\n", tables_dearer, tables_tied, weighed);
     printf("on slots: %ld jobs, %ld of them with free ones\n", slots_listed, slots_free);
+    printf("with squares: %ld jobs, no layout in %ld over weights, %ld over tables, %ld on slots; "
+           "bend weight 0: in %ld more than the least of all\n", squared, none[0], none[1], none[2],
+           longer);
     check(count < 1000 || (crossed > 0 && dearer > 0), NULL, "no touching leaders were weighed");
     check(count < 1000 || (tables_dearer > 0 && tables_tied > 0 && weighed > 0), NULL,
           "no such tables");
     check(count < 1000 || slots_free > 0, NULL, "no slots were free");
+    check(count < 1000 || (none[0] > 0 && none[1] > 0 && none[2] > 0 && longer > 0), NULL,
+          "no squares were in the way");
     return done();
 }

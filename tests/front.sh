@@ -61,11 +61,14 @@ job six '101 10 0 10' '101 20 30 20'
 job seven '101 10 0 10' '102 10 30 20'
 job twelve '101 10 0 10' '102 20 30 17'
 job unnamed '101 10 0 10' '0 20 30 20'
+job squares '101 10 6 0 half=4' '102 20 30 10'
+job half '101 10 0 10' '102 20 30 20 half=2001'
+job fifteen '101 10 6 0 half=6' '102 20 30 10'
 awk 'BEGIN { for (i = 0; i < 64; i++) print 65472 + i, 1000000 - i, -1000000, 999000 + 8 * i }' | examples/mkjob >"$room/longest"
 cp Makefile "$room/-x"
 cp examples/J5.job "$room/a name
 with a line's end"
-for file in examples/*.job "$room"/z* "$room"/four "$room"/five "$room"/six "$room"/seven "$room"/twelve "$room"/unnamed "$room"/longest "$room/-x" "$room"/a*; do
+for file in examples/*.job "$room"/z* "$room"/four "$room"/five "$room"/six "$room"/seven "$room"/twelve "$room"/fifteen "$room"/unnamed "$room"/squares "$room"/half "$room"/longest "$room/-x" "$room"/a*; do
     same "$file"
 done
 check "no text is longer" [ "$($run target/bin/sheet <"$room/longest" | wc -c)" -gt 1200 ]
@@ -86,6 +89,11 @@ ends 0 "$usage
 --help prints this text, --version the version; -- ends the options.
 The status is 0 for a sheet, 1 for a refused job, 2 for any other failure." '' helped
 for words in -x --versio --helpful --= 'a b' '- -' '-- a b'; do ends 2 '' "$usage" front $words; done
+ends 1 'refused 15 record 0' '' front "$room/fifteen"
+ends 1 'refused 4 record 1' '' front "$room/half"
+ends 0 '101 1 14 1
+102 0 50 1
+total 64 2' '' front "$room/squares"
 ends 1 'refused 1 record 0' '' in_room -- -x
 ends 1 'refused 1 record 0' '' in_room ./-x
 ends 2 '' "$says open --help: No such file or directory" front -- --help

@@ -10,6 +10,7 @@
 #include <string.h>
 
 #include "boards.h"
+#include "ranked.h"
 #include "trial.h"
 
 /* ---- from bytes to a question ---- */
@@ -41,7 +42,18 @@ static void take_counts(struct bytes *b, struct question *q) {
     if (apart) q->port_bytes = 4 * (n + take(b, most - n + 1));
 }
 
-/* An accepted job, unless the scale puts a height too far out. */
+/* None, or each of any size, or as large as they can be beside the leaders of some layout. */
+static void take_squares(struct bytes *b, struct question *q, int64_t scale) {
+    uint32_t kind = take(b, 8);
+    struct plan plan = plan_of(q);
+    for (size_t i = 0; i < plan.n && kind >= 3; i++) {
+        int64_t half = scale * take(b, 7);
+        put_half(q->job, i, half < MOST_HALF ? half : MOST_HALF);
+    }
+    if (kind >= 5) give_squares(q->job, &plan, kind < 7 ? FITTED : GRAZED);
+}
+
+/* An accepted job, unless the scale puts a height too far out, or the squares leave no layout. */
 static void take_job(struct bytes *b, struct question *q) {
     static const int64_t scales[] = {1, 1, 1, 1, 2, 250, 1500, 15625};
     take_counts(b, q);
@@ -55,6 +67,7 @@ static void take_job(struct bytes *b, struct question *q) {
         put_record(q->job, i, 101 + (int64_t)i, x, scale * y, 0);
     }
     for (size_t i = 0; i < p; i++) set_port(q, i, scale * port[i]);
+    take_squares(b, q, scale);
     if (takes_work(q->call)) lend_work(q, take(b, 3));
 }
 
@@ -73,8 +86,10 @@ static void take_table(struct bytes *b, struct question *q) {
         table[k] = kind == FIGURES ? take_bits(b) : likely[take(b, 8)];
 }
 
-/* First's layout, or one that some calls of Next lead to. */
+/* First's layout, or one that some calls of Next lead to; any if there is none. */
 static void best_layout(struct question *q, uint32_t steps) {
+    struct plan plan = plan_of(q);
+    any_untouching(&plan, q->list.layout);
 #ifndef NO_SEARCH
     struct question search = *q;
     turn_to(&search, FIRST);
@@ -82,9 +97,7 @@ static void best_layout(struct question *q, uint32_t steps) {
     for (turn_to(&search, NEXT); steps > 0; steps--) call_library(&search);
     q->list = search.list;
 #else
-    struct plan plan = plan_of(q);
     (void)steps;
-    any_untouching(&plan, q->list.layout);
 #endif
 }
 
@@ -160,8 +173,9 @@ static void damage(struct bytes *b, struct question *q) {
                                      -1000000, -1000001, INT32_MAX, INT32_MIN};
     size_t n = records_of(q) + (records_of(q) == 0);
     size_t i = take(b, n), j = take(b, n), field = 4 * take(b, 4), early = field / 8 * 4;
+    static const int64_t halves[] = {0, 1, 2, 4, 9, MOST_HALF, MOST_HALF + 1, 65535};
     uint16_t *list = q->list.layout, kept = list[i];
-    switch (take(b, 12)) {
+    switch (take(b, 13)) {
     case 0: q->job[take(b, JOB_ROOM)] = (uint8_t)take(b, 256); break;
     case 1: damage_sizes(b, q); break;
     case 2: q->count = take(b, take(b, 2) ? n + 1 : LIST_ROOM + 1); break;
@@ -173,6 +187,7 @@ static void damage(struct bytes *b, struct question *q) {
     case 8: copy_field(q, i, j, field); break;
     case 9: set_port(q, i, port_of(q, i - (i > 0)) + 6 + take(b, 4)); break;
     case 10: memcpy(q->job + 16 * i + early, q->job + 16 * j + early, 4); break; /* name or x */
+    case 11: put_half(q->job, i, halves[take(b, 8)]); break;
     default:
         list[i] = list[j];
         list[j] = kept;
@@ -204,7 +219,7 @@ static void question_of(const uint8_t *data, size_t size, struct question *q) {
     for (; times > 4; times--) damage(&b, q);
 }
 
-/* ---- replies that are too many to try: jobs of more than PLAIN_PADS pads ---- */
+/* ---- replies that are too many to try: jobs of more than PLAIN_PORTS ports ---- */
 
 static int64_t measured(const struct question *q, const union list *list) {
     struct question m = *q;
@@ -226,18 +241,32 @@ static bool before(const struct question *q, const union list *a, const union li
 
 /*
  * A layout found at random is not better than First's, nor as good and before it; nor is it as good
- * and passed over by Next, whose question held a best layout.
+ * and passed over by Next, whose question held a best layout. There is none where First found none.
  */
 static bool passed_over(const struct reply *first, const struct question *next,
                         const struct reply *reply) {
     union list found = next->list;
     struct plan plan = plan_of(next);
     any_untouching(&plan, found.layout);
-    int64_t total = measured(next, &found);
-    if (total > first->answer) return false;
-    if (total < first->answer || before(next, &found, &first->list)) return true;
+    int64_t total = measured(next, &found), least = first->answer;
+    if (total < 0 || (least >= 0 && total > least)) return false;
+    if (least < 0 || total < least || before(next, &found, &first->list)) return true;
     bool earlier = reply->answer == -1 || before(next, &found, &reply->list);
     return reply->answer >= -1 && before(next, &next->list, &found) && earlier;
+}
+
+/* An untouching layout, for bend weight 0 and points of the least length; or 15: there is none. */
+static bool is_first(const struct question *first, const struct reply *f) {
+    struct given g = given_of(first);
+    struct plan plan = plan_of(first);
+    if (f->answer == refused(15, 0)) {
+        rank_job(&g);
+        return ranked_count() == 0;
+    }
+    bool length = !g.by_table && first->b == 0;
+    int64_t least = length ? first->a * least_length(&plan) : 0;
+    bool points = length && plain_no_squares(&g);
+    return is_sheet(first, f, f->answer) && (points ? f->answer == least : f->answer >= least);
 }
 
 /* First's sheet; Next of the question's layout, or of a random one if it asks First; and Page. */
@@ -249,9 +278,10 @@ static bool large_sheet(const struct question *q) {
     if (q->call == first.call) any_untouching(&plan, next.list.layout);
     struct reply f = ask(&first, AT_END), r = ask(&next, AT_START);
     int64_t given = measured(&next, &next.list);
-    bool ok = is_sheet(&first, &f, f.answer);
-    if (!takes_table(q->call) && q->b == 0) ok &= f.answer == q->a * least_length(&plan);
-    if (given != f.answer)
+    bool ok = is_first(&first, &f) && (f.answer >= 0 || given < 0);
+    if (given < 0)
+        r = keeps(&next, given);
+    else if (given != f.answer)
         r = keeps(&next, refused(10, 0));
     else if (r.answer == -1)
         r = keeps(&next, -1);
@@ -350,8 +380,8 @@ static void report(long count) {
     for (int call = 0; call < CALLS; call++) {
         const long *of = came[call];
         bool another = of[OTHER_PAIR] > 0 || !takes_layout(call);
-        printf("%-12s %ld accepted, %ld ends, 9 with record 0: %ld, with another: %ld\n",
-               call_names[call], of[0], of[ENDS], of[9], of[OTHER_PAIR]);
+        printf("%-12s %ld accepted, %ld ends, 9 with record 0: %ld, with another: %ld, 15: %ld\n",
+               call_names[call], of[0], of[ENDS], of[9], of[OTHER_PAIR], of[15]);
         check(count < ENOUGH || another, NULL, "9 never named another earlier record than 0");
         for (const int *number = refusals_of[call]; *number != 0; number++)
             check(count < ENOUGH || of[*number] > 0, NULL, "a refusal that never came");

@@ -41,7 +41,7 @@ refuses() {
 cat >"$room/user.c" <<'C'
 #include <cheremysl.h>
 
-#if CHEREMYSL_VERSION_NUMBER < 2000000
+#if CHEREMYSL_VERSION_NUMBER < 2001000
 #error "too old"
 #endif
 #if CHEREMYSL_SLOTS_WORK(CHEREMYSL_MAX_RECORDS, CHEREMYSL_MAX_SLOTS) != CHEREMYSL_MAX_SLOTS_WORK
@@ -63,6 +63,7 @@ int main(void) {
     const char *text = CHEREMYSL_VERSION_TEXT;
     int64_t answer = cheremysl_first(job, CHEREMYSL_RECORD_BYTES, 1, 0, layout, CHEREMYSL_MAX_RECORDS);
     if (cheremysl_is_refusal(answer)) text = cheremysl_refusal_text(answer);
+    if (cheremysl_refusal_number(answer) == CHEREMYSL_NO_LAYOUT) return CHEREMYSL_MAX_HALF_SIDE;
     if (answer > CHEREMYSL_MAX_TOTAL) return cheremysl_refusal_number(answer);
     answer = cheremysl_next(job, sizeof job, CHEREMYSL_MAX_WEIGHT, 0, layout, CHEREMYSL_MAX_RECORDS);
     if (cheremysl_is_end(answer)) return cheremysl_refusal_record(answer);

@@ -150,6 +150,16 @@ moved() {
 }
 moved '101 11 20 0' '102 10 10 10' 'sound: length 41, bends 1' '0 1' '1 0' 'refused 9 record 1 (pad 102) and record 0 (pad 101)'
 moved '101 10 20 0' '102 11 10 10' 'sound: length 41, bends 2' '1 0' '0 1' 'refused 9 record 1 (pad 102) and record 0 (pad 101)'
+# The README's pads of copper: the sheet for points runs across two of them, the best one across none, and with larger pads there is none.
+prints 1 'refused 9 record 9 (pad 310) and record 5 (pad 306)' audit "$share/copper.job" $(cat "$share/copper.layout")
+check "the README's arm across a pad" grep -qxF "    $(cat "$room/audited")" README.md
+prints 0 'sound: length 17458, bends 22' $run "$room/audit" "$share/sequencer.job" $(cat "$share/copper.layout")
+enlarged() { sed "s/half=20/half=$1/" "$share/copper.txt" | "$share/mkjob" >"$room/enlarged.job" && $run "$room/sheets" "$room/enlarged.job" | sed q; }
+for half in 20 21; do prints 0 'total 17494' enlarged $half; done
+prints 0 'refused 15 record 0' enlarged 22
+squared() { sed "s/  #/ half=$1 #/" "$share/matrix.txt" | "$share/mkjob" >"$room/squared-$1.job" && $run "$room/sheets" "$room/squared-$1.job" | sed q; }
+prints 0 'total 51676' squared 9
+prints 0 'refused 15 record 0' squared 10
 printf '101 10 0 10\n102 20 30 17\n' | "$share/mkjob" >"$room/close.job"
 prints 1 "refused 12 record 1 (pad 102)" audit "$room/close.job" 0 1
 
@@ -185,6 +195,10 @@ prints 1 "refused 1 record 0: $size" $run "$room/slots" "$share/sensor.pads" "$s
 prints 0 'refused 4 record 1: A number of this record, or the height of this port, is outside its range.' slots "$share/J5.job" "$share/row.ports"
 printf '%s\n' 1 9 | "$share/mkjob" --ports >"$room/two.ports"
 prints 0 'refused 14 record 0: There are fewer ports than pads.' slots "$share/sensor.pads" "$room/two.ports"
+printf '7 10 5 half=2000\n8 20 5\n' | "$share/mkjob" --pads >"$room/inside.pads"
+no_sheet='On every sheet of this board a leader meets another leader or the square of another pad.'
+prints 0 "refused 15 record 0: $no_sheet" slots "$room/inside.pads" "$share/row.ports"
+prints 1 "refused 15 record 0: $no_sheet" antenna "$room/enlarged.job" $area
 for words in '' one 'one two three'; do prints 0 'usage: slots PADS PORTS: a file of pads, and one of port heights' slots $words; done
 
 # A file that is not there is named.
@@ -229,6 +243,16 @@ prints 0 '101 1 10 0
 103 0 60 1
 total 90 1' sheet "$share/J5.job"
 prints 1 'refused 1 record 0' sheet /dev/null
+last_line() { sheet "$1" | tail -n 1; }
+# with_squares FILE TEXT: the last line of its sheet, which the README has
+with_squares() {
+    prints 0 "$2" last_line "$1"
+    check "the README's squares" grep -qx "    $2" README.md
+}
+with_squares "$share/copper.job" 'total 17494 23'
+with_squares "$room/squared-9.job" 'total 51676 61'
+with_squares "$room/squared-10.job" 'refused 15 record 0'
+prints 1 'refused 15 record 0' sheet "$room/enlarged.job"
 prints 0 "cheremysl-sheet $version" sheet --version
 prints 2 "cheremysl-sheet: cannot open $room/none: No such file or directory" sheet "$room/none"
 

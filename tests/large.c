@@ -1,18 +1,19 @@
 /*
  * large [COUNT [SEED]]: First, Next and Page on jobs of 8 to 64 pads, over weights and over tables,
- * and First and Next on up to 128 slots.
+ * and First and Next on up to 128 slots; half of the jobs have squares.
  *
  * Up to 12 pads, or 8 slots, the whole run is compared with a list of all layouts without a
  * touching pair, made from left to right: the leftmost pad has every other arm to its right, so
  * none of these may end from its own height to its port; nor may those further right do so for the
- * next pad; and so on. That this gives them all is tried against the plain account on up to seven
- * ports, and so is that the best layouts by their place (ranked.h) are these.
+ * next pad; and so on; and none takes a port from which its leader meets a square. That this gives
+ * them all is tried against the plain account on up to seven ports, and so is that the best layouts
+ * by their place (ranked.h) are these.
  *
- * Beyond, First gives the layout at place 0, and Next from some place that at the next, or the end.
- * On jobs of the first form also: each sheet is measured, the run rises and keeps its total, no
- * sheet found at random has a smaller one, and with bend weight 0 the total is that of pads and
- * ports joined in order of height, than which no assignment is shorter. A page has what as many
- * calls of Next give.
+ * Beyond, First gives the layout at place 0, or 15 if there is none, and Next from some place that
+ * at the next, or the end. On jobs of the first form also: each sheet is measured, the run rises
+ * and keeps its total, no sheet found at random has a smaller one, and with bend weight 0 the total
+ * is that of pads and ports joined in order of height, than which no assignment is shorter; among
+ * squares it may be more. A page has what as many calls of Next give.
  *
  * Over the table of weighted lengths and bends, and on as many slots as pads, the run is that over
  * the weights; over one figure everywhere it is that over weights 0, 0; and it stays the same where
@@ -36,6 +37,7 @@
 #define EITHER_END 25 /* of a long list, so many sheets from the first and from the last */
 
 static long runs_ended, steps_taken, pairs_ended, places_tried, places_free;
+static long squared, none, longer; /* jobs with squares; without a layout; longer than points */
 
 static enum call any_call(void) {
     static const enum call calls[] = {FIRST, FIRST, TABLE_FIRST, SLOTS_FIRST};
@@ -81,6 +83,7 @@ static void list_from(const struct question *q, struct listing *l, size_t place,
     int64_t y = get_y(q->job, pad);
     size_t count = choices_at(&l->plan, shut, y, l->plan.n - place - 1, choice);
     for (size_t k = 0; k < count; k++) {
+        if (meets_square(&l->plan, pad, choice[k])) continue;
         l->layout[pad] = choice[k];
         memcpy(then_shut, shut, l->plan.p);
         shut_ports(&l->plan, then_shut, y, choice[k]);
@@ -110,6 +113,10 @@ static void whole_list(void) {
     size_t n = call == SLOTS_FIRST ? 4 + below(3) : 8 + below(5);
     sound_job_of(&q, call, n, LISTED_SLOTS - below(LISTED_SLOTS - 6));
     list_all(&q, &l);
+    if (l.found == 0) {
+        expect(&q, keeps(&q, refused(15, 0)));
+        return;
+    }
     for (size_t k = 0; k < l.found; k++) {
         bool paged = call == FIRST && (below(4) == 0 || k + 1 == l.found);
         struct reply expected = gives(&q, l.least, l.sheet[k]);
@@ -128,7 +135,8 @@ static bool ranks_alike(const struct question *q, const struct sheets *all) {
     uint16_t layout[PLAIN_PORTS];
     struct given g = given_of(q);
     rank_job(&g);
-    bool same = ranked_count() == all->found && ranked_total() == all->total;
+    bool same = ranked_count() == all->found;
+    same &= all->found == 0 || ranked_total() == all->total;
     for (size_t k = 0; same && k < all->found; k++) {
         ranked_sheet(k, layout);
         same = memcmp(layout, all->sheet[k].port, records_of(q) * sizeof *layout) == 0;
@@ -145,7 +153,7 @@ static void list_agrees(size_t n) {
     list_all(&q, &l);
     struct given g = given_of(&q);
     plain_sheets(&g, &all);
-    bool same = l.found == all.found && l.least == all.total;
+    bool same = l.found == all.found && (l.found == 0 || l.least == all.total);
     for (size_t k = 0; same && k < l.found; k++)
         same = memcmp(l.sheet[k], all.sheet[k].port, n * sizeof(uint16_t)) == 0;
     check(same, &q, "the list from left to right is another");
@@ -169,6 +177,16 @@ static bool step_from(struct question *q, uint64_t place) {
     return expect(q, gives(q, ranked_total(), layout));
 }
 
+/* Of a best layout by weights without bends, for points the least; among squares not less. */
+static void check_length(const struct question *q, int64_t total) {
+    struct given g = given_of(q);
+    struct plan plan = plan_of(q);
+    int64_t least = q->a * least_length(&plan);
+    if (g.by_table || q->b != 0) return;
+    check(total == least || (total > least && !plain_no_squares(&g)), q, "not the least length");
+    longer += total > least;
+}
+
 /* First; then Next from the first places, the last ones, and any. */
 static void some_places(struct question *q, size_t some) {
     uint16_t layout[64];
@@ -176,10 +194,15 @@ static void some_places(struct question *q, size_t some) {
     struct plan plan = plan_of(q);
     rank_job(&g);
     uint64_t count = ranked_count();
+    squared += !plain_no_squares(&g);
+    none += count == 0;
+    if (count == 0) {
+        expect(q, keeps(q, refused(15, 0)));
+        return;
+    }
     ranked_sheet(0, layout);
     if (!expect(q, gives(q, ranked_total(), layout))) return;
-    if (!g.by_table && q->b == 0)
-        check(ranked_total() == q->a * least_length(&plan), q, "not the least length");
+    check_length(q, ranked_total());
     for (size_t k = 0; k < some && k < count; k++) {
         bool any = step_from(q, any_place(count - (count == RANKED_MOST)));
         if (!any || !step_from(q, k) || (count < RANKED_MOST && !step_from(q, count - 1 - k)))
@@ -190,12 +213,21 @@ static void some_places(struct question *q, size_t some) {
 
 static void no_better(const struct question *q, int64_t total);
 
+/* Squares that leave a layout: on the largest boards others seldom do. */
+static void fit_squares(struct question *q) {
+    struct plan plan = plan_of(q);
+    give_squares(q->job, &plan, POINTS);
+    give_squares(q->job, &plan, FITTED);
+}
+
 static void ranked_job(enum call call, size_t n, size_t p, size_t some) {
     static struct question q;
     sound_job_of(&q, call, n, p);
+    if (n == 64 && below(2)) fit_squares(&q);
     if (call == SLOTS_FIRST && below(4) == 0) q.a = q.b = 0;
     some_places(&q, some);
-    for (size_t k = 0; k < some; k++) no_better(&q, ranked_total());
+    int64_t total = ranked_total();
+    for (size_t k = 0; k < some; k++) no_better(&q, total);
 }
 
 /* ---- jobs of up to 64 pads ---- */
@@ -207,12 +239,24 @@ static void measured(const struct question *q, int64_t total) {
     expect(&m, keeps(&m, total));
 }
 
+/* A layout without a touching pair, at random; where trials find none, by its place among all. */
+static bool find_untouching(const struct question *q, uint16_t *layout) {
+    struct given all = given_of(q);
+    struct plan plan = plan_of(q);
+    if (any_untouching(&plan, layout)) return true;
+    all.by_table = false;
+    all.length_weight = all.bend_weight = 0;
+    rank_job(&all);
+    uint64_t count = ranked_count();
+    if (count > 0) ranked_sheet(any_place(count - (count == RANKED_MOST)), layout);
+    return count > 0;
+}
+
 /* A layout found at random: it is not better; Next and Page say so if it is worse. */
 static void no_better(const struct question *q, int64_t total) {
     struct question other = *q;
-    struct plan plan = plan_of(q);
     turn_to(&other, NEXT);
-    any_untouching(&plan, other.list.layout);
+    if (!find_untouching(q, other.list.layout)) return;
     lend_page(&other, any_room(records_of(q)));
     int64_t found = total_of(&other, other.list.layout);
     check(found >= total, &other, "a smaller total than First's");
@@ -229,9 +273,7 @@ static bool follow(struct question *q, long steps, long *sheets) {
     struct reply r = ask(q, AT_END);
     int64_t total = r.answer;
     if (!check(total >= 0, q, "First refused")) return false;
-    struct plan plan = plan_of(q);
-    int64_t shortest = q->a * least_length(&plan);
-    if (!takes_table(q->call) && q->b == 0) check(total == shortest, q, "not the least length");
+    check_length(q, total);
     for (*sheets = 1;; ++*sheets) {
         if (!expect(q, r)) return false; /* the same wherever the lists stand */
         check(memcmp(q->list.layout + records_of(q), r.list.layout + records_of(q),
@@ -256,6 +298,10 @@ static void large_job(size_t n) {
     static struct question q;
     long sheets;
     sound_job_of(&q, below(3) ? FIRST : TABLE_FIRST, n, n);
+    if (!find_untouching(&q, q.list.layout)) {
+        expect(&q, keeps(&q, refused(15, 0)));
+        return;
+    }
     follow(&q, STEPS, &sheets);
     turn_to(&q, MEASURE);
     int64_t total = ask(&q, AT_END).answer;
@@ -319,15 +365,13 @@ static void weighed_runs(size_t n, int slots_steps) {
 static void equal_runs(size_t n, enum figures kind) {
     static struct question q;
     sound_job_of(&q, TABLE_FIRST, n, n);
-    struct plan plan = plan_of(&q);
     lend_table(&q, q.table, kind);
     int64_t total = (int64_t)n * q.table[0];
     struct question one = q;
     one.call = FIRST;
     one.a = one.b = 0;
     same_runs(one, q, STEPS, 1, total);
-    any_untouching(&plan, q.list.layout);
-    measured(&q, total);
+    if (find_untouching(&q, q.list.layout)) measured(&q, total);
     if (n == 64 && kind == HIGHEST)
         check(total == CHEREMYSL_MAX_TABLE_TOTAL, &q, "not the largest total");
 }
@@ -356,9 +400,8 @@ static void planted_run(size_t n) {
     uint16_t layout[64];
     int64_t total = 0;
     sound_job_of(&q, TABLE_FIRST, n, n);
-    struct plan plan = plan_of(&q);
     for (size_t k = 0; k < n * n; k++) q.table[k] += q.table[k] == 0;
-    any_untouching(&plan, layout);
+    if (!find_untouching(&q, layout)) return;
     plant(q.table, n, layout);
     for (size_t i = 0; i < n; i++) total += q.table[n * i + layout[i]] /= 2;
     struct reply expected = gives(&q, total, layout);
@@ -371,11 +414,12 @@ static void planted_run(size_t n) {
 
 static size_t any_size(long k) { return k % 4 == 0 ? 64 : 8 + below(57); }
 
-/* Few pads on as many slots as there can be; one in fifty with as many pads. */
+/* Also few pads on as many slots as there can be; as many pads; and as many without free slots. */
 static void any_ranked_job(long k) {
     enum call call = any_call();
     size_t n = 1 + below(call == SLOTS_FIRST ? 20 : 30);
     ranked_job(call, n, n + below(20), 2);
+    if (k % 5 == 0) ranked_job(below(2) ? FIRST : TABLE_FIRST, 64, 64, 2);
     if (k % 5 == 0) ranked_job(SLOTS_FIRST, 1 + below(4), MOST_PORTS - below(2), 1);
     if (k % 50 == 0) ranked_job(SLOTS_FIRST, 64, MOST_PORTS, 1);
 }
@@ -401,5 +445,8 @@ int main(int argc, char **argv) {
     printf("%ld jobs, %ld steps, %ld runs to the end, and %ld with another run beside\n",
            26 * count + 13, steps_taken, runs_ended, pairs_ended);
     printf("%ld places, on %ld jobs with free slots\n", places_tried, places_free);
+    printf("%ld jobs of these with squares, %ld without a layout; bend weight 0: %ld longer than "
+           "points\n", squared, none, longer);
+    check(count < 100 || (none > 0 && none < squared && longer > 0), NULL, "no such squares");
     return done();
 }

@@ -85,11 +85,40 @@ job='\002\001\000\000\003\002\001\000\376\377\377\377\007\000\000\000'
 prints 0 "$back" of $job --list
 prints 0 "$back" of $job --list -
 prints 0 "$back" of $job --list - -
-prints 0 "$back, reserved field 513" of '\002\001\001\002\003\002\001\000\376\377\377\377\007\000\000\000' --list
+prints 0 "$(echo "$back" | sed 's/  # rec/  half=513&/')" of '\002\001\001\002\003\002\001\000\376\377\377\377\007\000\000\000' --list
 prints 1 'mkjob: standard input has 15 bytes, not whole records of 16' of '123456789012345' --list
 prints 1 'mkjob: README.md has '"$(($(wc -c <README.md)))"' bytes, not whole records of 16' $mkjob --list README.md
 again() { $mkjob $1 --list "$2" | $mkjob $1 - "$room/again" && cmp "$room/again" "$2"; }
 check "listed and made again" again --job examples/matrix.job
+check "listed and made again, with half-sides" again --job examples/copper.job
+
+# ---- half-sides: a word with a mark at the end of a pad's line
+
+square='02 01 14 00 03 02 01 00 fe ff ff ff 07 00 00 00'
+prints 0 "$square" bytes_of '258 66051 -2 7 half=20'
+prints 0 "$square
+$odd" bytes_of '258 66051 -2 7\thalf=0020# 21\n258 66051 -2 7\n'
+prints 0 "$odd" bytes_of '258 66051 -2 7 half=0'
+prints 0 '01 00 ff ff 02 00 00 00 03 00 00 00 00 00 00 00' bytes_of '1 2 3 half=65535' --pads
+prints 0 '# name        x        y
+   258    66051       -2  half=20  # record 0, last field 7' of '\002\001\024\000\003\002\001\000\376\377\377\377\007\000\000\000' --list --pads
+for number in -1 65536; do
+    prints 1 "mkjob: line 1: half-side $number does not fit its field (0 to 65535)" of "1 2 3 4 half=$number"
+done
+for word in '' 2.5 +2 x half=2; do
+    prints 1 "mkjob: line 1: half-side '$word' is not a whole number" of "1 2 3 4 half=$word"
+done
+prints 1 "mkjob: line 1: y '2147483648x' is not a whole number" of '1 2 2147483648x 4 half=x'
+prints 1 "mkjob: line 1: port 'Half=2' is not a whole number" of '1 2 3 Half=2'
+prints 1 "mkjob: line 1: port 'half' is not a whole number" of '1 2 3 half'
+prints 1 "mkjob: line 1: y 'half=2' is not a whole number" of '1 2 half=2 4'
+prints 1 "mkjob: line 1: 'name x y port' is 4 words, not 3" of '1 2 3 half=4'
+prints 1 "mkjob: line 1: 'name x y port' is 4 words, not 0" of 'half=4'
+prints 1 "mkjob: line 1: 'name x y port' is 4 words, not 7" of '1 2 3 4 half = 5'
+prints 1 "mkjob: line 1: 'name x y port' is 4 words, not 5" of '1 2 3 4 half=5 half=6'
+prints 1 "mkjob: line 1: 'name x y' is 3 words, not 4" of '1 2 3 4 half=5' --pads
+prints 1 "mkjob: line 1: 'height' is 1 word, not 2" of '1 half=5' --ports
+prints 1 "mkjob: line 1: height 'half=5' is not a whole number" of 'half=5' --ports
 
 # ---- pads without ports, and ports alone
 

@@ -1,7 +1,7 @@
 /*
  * pages [COUNT [SEED]]: Page beside as many calls of Next, and beside the list of every best
- * layout. Every room on small jobs, any room on jobs of up to 64 pads, whole runs joined from
- * pages, damaged questions, and a page that is far too large.
+ * layout. Every room on small jobs, any room on jobs of up to 64 pads, many of both with squares,
+ * whole runs joined from pages, damaged questions, and a page that is far too large.
  */
 #include <stdio.h>
 #include <stdlib.h>
@@ -16,7 +16,7 @@
 #define MOST_SHEETS 2048 /* as many as 12 pads can have */
 #define LARGE 131075     /* entries of the page that is too large; 3 if only 16 bits counted */
 
-static long sheets_joined;
+static long sheets_joined, squared, none; /* jobs with squares; those without a layout */
 
 /* ---- runs ---- */
 
@@ -76,6 +76,15 @@ static void any_job(struct question *q, size_t n, enum board kind) {
     any_weights(&q->a, &q->b);
     if (below(4) == 0) q->a = q->b = 0;
     any_list(q);
+}
+
+/* The same, perhaps with squares. */
+static void any_squared_job(struct question *q, size_t n, enum board kind) {
+    any_job(q, n, kind);
+    struct plan plan = plan_of(q);
+    any_squares(q->job, &plan);
+    struct given g = given_of(q);
+    squared += !plain_no_squares(&g);
 }
 
 /* Weights 1, 0, and 2 to the pairs best layouts. */
@@ -186,25 +195,43 @@ static void every_size(struct question *q, const struct run *run) {
 
 /* ---- jobs ---- */
 
+/* No layout: Page refuses whatever it is given, with 9 or before, as Next does, never with 15. */
+static void no_run(struct question *q) {
+    struct plan plan = plan_of(q);
+    none++;
+    for (int k = 0; k < 4; k++) {
+        lend_page(q, any_room(records_of(q)));
+        struct reply r = stepped(q);
+        int number = cheremysl_refusal_number(r.answer);
+        check(number == 8 || number == 9, q, "8 or 9 should come");
+        expect(q, r);
+        any_untouching(&plan, q->list.layout);
+    }
+}
+
 static void small_job(size_t n, enum board kind) {
     static struct question q;
     static struct run run;
-    any_job(&q, n, kind);
+    any_squared_job(&q, n, kind);
     find_run(q, &run);
     run_is_listed(&q, &run);
     every_room(&q, &run);
     every_size(&q, &run);
+    if (run.found == 0) no_run(&q);
 }
 
 /* Some steps from First's sheet, a page of any room, then the next from the last layout on it. */
 static void large_job(size_t n, enum board kind) {
     static struct question q;
-    any_job(&q, n, kind);
+    any_squared_job(&q, n, kind);
+    struct given g = given_of(&q);
     q.call = FIRST;
-    check(call_library(&q) >= 0, &q, "First refused");
+    int64_t answer = call_library(&q);
+    check(answer >= 0 || (answer == refused(15, 0) && !plain_no_squares(&g)), &q, "First refused");
     q.call = NEXT;
     for (uint32_t steps = below(10); steps > 0; steps--) call_library(&q);
     q.call = PAGE;
+    if (answer < 0) no_run(&q);
     for (int k = 0; k < 3; k++) {
         lend_page(&q, any_room(n));
         struct reply r = stepped(&q);
@@ -283,5 +310,7 @@ int main(int argc, char **argv) {
     report_refusals("room for none:", PAGE, came[0]);
     report_refusals("room for some:", PAGE, came[1]);
     printf("%ld sheets joined from pages\n", sheets_joined);
+    printf("%ld jobs with squares, %ld of them without a layout\n", squared, none);
+    check(count < 100 || (none > 0 && none < squared), NULL, "no such squares");
     return done();
 }

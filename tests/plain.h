@@ -1,7 +1,8 @@
 /*
  * plain.h: the calls in plain C, written from the paper's text alone. They share nothing with the
- * library: touching is sharing a point of hand or arm, and First, Next and Page try every
- * assignment of ports to pads. The tests hold the library to this account.
+ * library: touching is sharing a point of hand or arm with the other's hand, arm or square, and
+ * First, Next and Page try every assignment of ports to pads. The tests hold the library to this
+ * account.
  */
 #ifndef PLAIN_H
 #define PLAIN_H
@@ -53,7 +54,7 @@ int64_t plain_draw(const struct given *g, float *points);
 /* The first record at fault for one refusal number, whatever the others say; -1 if none is. */
 int plain_fault(const struct given *g, int number);
 
-/* The first record before record i whose leader touches that of record i; -1 if none does. */
+/* The first record before record i that touches it; -1 if none does. */
 int plain_earlier(const struct given *g, size_t i);
 
 /* Pads and ports of a job; a pad's x, how far it is above a port, what its leader there costs. */
@@ -67,12 +68,24 @@ int64_t plain_cost(const struct given *g, size_t i, size_t q);
 int64_t plain_total(const struct given *g, const uint16_t *layout);
 
 /* Pads of records i and j, led to the ports p and q: do the leaders share a point? */
+bool plain_cross(const struct given *g, size_t i, size_t p, size_t j, size_t q);
+
+/* Does the leader of record i to port p share a point with the square of record j? */
+bool plain_meet(const struct given *g, size_t i, size_t p, size_t j);
+
+/* Do the two records touch: by their leaders, or one's leader and the other's square? */
 bool plain_touch(const struct given *g, size_t i, size_t p, size_t j, size_t q);
+
+/* Are all half-sides 0? */
+bool plain_no_squares(const struct given *g);
 
 /* Does layout a come before layout b in the paper's order? n pads. */
 bool plain_before(const uint8_t *job, size_t n, const uint16_t *a, const uint16_t *b);
 
-/* All best layouts in the paper's order, and how many. For jobs of up to PLAIN_PORTS ports. */
+/*
+ * All best layouts in the paper's order, and how many: 0 where every layout has a touching pair.
+ * For jobs of up to PLAIN_PORTS ports.
+ */
 struct sheet {
     uint16_t port[PLAIN_PORTS];
 };

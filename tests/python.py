@@ -37,19 +37,19 @@ def reply(call, *words):
     except binding.Refusal as refusal:
         seen.add(refusal.number)
         return refusal.number, refusal.record, refusal.earlier
-    except (OverflowError, TypeError) as fault:
+    except (OverflowError, TypeError, ValueError) as fault:
         return type(fault)
 
 class Board:
     """A job as 01 reads it, or with a strip of slots one of the second form."""
     def __init__(self, job, strip=None):
-        self.bad, self.n, self.apart = plain.refusal(job, strip), len(job) // 16, []
+        self.bad, self.n, self.apart = plain.refusal(job, strip), len(job) // 16, None
         if self.bad:
             return
         self.records, self.ports = list(struct.iter_unpack('<HHIii', job)), plain.heights(job, strip)
         self.right = sorted(range(self.n), key=lambda i: -self.records[i][2])
         self.pairs = list(itertools.product(range(self.n), range(len(self.ports))))
-        self.on = {(i, q): plain.points(*self.records[i][2:4], self.ports[q]) for i, q in self.pairs}
+        self.on = plain.things(self.records, self.ports)
 
     def weighted(self, lengths, bends):
         """The table of weighted lengths and bends."""
@@ -62,14 +62,18 @@ class Board:
     def touching(self, f):
         for i in range(self.n):
             for j in range(i):
-                if self.on[i, f[i]] & self.on[j, f[j]]:
+                if plain.touch(self.on[i, f[i]], self.on[j, f[j]]):
                     return i, j
+
+    def sheets(self):
+        """The layouts on which nothing touches."""
+        if self.apart is None:
+            self.apart = [f for f in itertools.permutations(range(len(self.ports)), self.n) if not self.touching(f)]
+        return self.apart
 
     def best(self, table):
         """The least total, and the layouts that have it, in order."""
-        if not self.apart:
-            self.apart = [f for f in itertools.permutations(range(len(self.ports)), self.n) if not self.touching(f)]
-        apart = [(self.total(table, f), [f[i] for i in self.right], list(f)) for f in self.apart]
+        apart = [(self.total(table, f), [f[i] for i in self.right], list(f)) for f in self.sheets()]
         least = min(apart)[0]
         return least, [f for t, _, f in sorted(apart) if t == least]
 
@@ -85,6 +89,8 @@ class Board:
             return 24, 0, None
         if self.bad:
             return (*self.bad, None)
+        if layout is None and not self.sheets():
+            return 15, 0, None
         for i in range(self.n) if layout else ():
             if layout[i] >= len(self.ports) or layout[i] in layout[:i]:
                 return 8, i, None
@@ -244,6 +250,9 @@ def try_numbers(library):
     for bad in 16, 'x' * 16, [0] * 16, None:
         check('job', reply(library.measure, bad, [0]), TypeError)
     check('job', library.first(bytearray(job)), (5, [0]))
+    check('largest half-side', library.first(binding.job_of([(101, 5, 3, 3)], 2000)), (5, [0]))
+    check('a larger one', reply(library.first, binding.job_of([(101, 5, 3, 3)], 2001)), (4, 0, None))
+    check('a larger one', reply(library.draw, binding.job_of([(101, 5, 3, 3)], 2001), 0, 0), (4, 0, None))
     check('layout', library.measure(job, iter([0])), 5)
     check('largest job', reply(library.first, job * 65), (1, 0, None))
     most = binding.job_of((1 + i, 100 + i, 8 * i, 8 * i) for i in range(64))
@@ -275,14 +284,19 @@ def try_texts(texts):
 
 def try_jobs():
     """The jobs that lie beside the binding, made again by it."""
-    for name in 'J1', 'J5', 'matrix':
+    for name, half in ('J1', 0), ('J5', 0), ('matrix', 0), ('copper', 20):
         with open(examples + name + '.job', 'rb') as file:
             job = file.read()
         records = [(a, x, y, q) for a, _, x, y, q in struct.iter_unpack('<HHIii', job)]
-        check('job', (binding.job_of(records), binding.records_in(job)), (job, len(records)))
+        check('job', (binding.job_of(records, half), binding.records_in(job)), (job, len(records)))
+        check('job', binding.job_of(iter(records), iter([half] * len(records))), job)
+        check('half-sides', reply(binding.job_of, records, [half] * (len(records) + 1)), ValueError)
     with open(examples + 'sensor.pads', 'rb') as pads, open(examples + 'row.ports', 'rb') as ports:
         pads, ports = pads.read(), ports.read()
-    check('pads', binding.pads_of((a, x, y) for a, _, x, y, _ in struct.iter_unpack('<HHIii', pads)), pads)
+    named = [(a, x, y) for a, _, x, y, _ in struct.iter_unpack('<HHIii', pads)]
+    check('pads', binding.pads_of(iter(named)), pads)
+    check('half-sides', [half for _, half, *_ in struct.iter_unpack('<HHIii', binding.pads_of(named, range(9)))], list(range(9)))
+    check('job', binding.job_of([(1, 2, 3, 4), (5, 6, 7, 8)], [9, 65535]), struct.pack('<HHIiiHHIii', 1, 9, 2, 3, 4, 5, 65535, 6, 7, 8))
     check('ports', binding.ports_of(range(10, 640, 20)), ports)
     check('work', len(binding.work_of(pads, ports)), 2 * 10 * 34 * 34)
 

@@ -14,7 +14,7 @@ static size_t any_port(const struct question *q) {
     return below((uint32_t)ports_of(q) + (ports_of(q) == 0));
 }
 
-/* ---- questions that are accepted, or touch ---- */
+/* ---- questions that are accepted, or touch, or have no layout ---- */
 
 static void any_layout(const struct question *q, uint16_t *layout) {
     uint16_t port[MOST_PORTS];
@@ -32,11 +32,11 @@ static void any_layout(const struct question *q, uint16_t *layout) {
     memcpy(layout, port, n * sizeof *layout);
 }
 
-/* A best layout: the first, or one some steps on. */
+/* A best layout: the first, or one some steps on; any if there is none. */
 static void best_layout(const struct question *q, uint16_t *layout) {
     struct given g = given_of(q);
     g.layout = layout;
-    plain_first(&g, layout);
+    if (plain_first(&g, layout) < 0) any_layout(q, layout);
     for (uint32_t steps = below(4); steps > 0; steps--) plain_next(&g, layout);
 }
 
@@ -44,16 +44,19 @@ size_t any_room(size_t n) {
     return n * below(below(4) ? 4 : 21) + (below(2) ? below((uint32_t)n) : 0);
 }
 
-/* Makes an accepted job, and lends work: n pads and, if they stand apart, p ports. */
+/* Makes a job, and lends work: n pads, perhaps with squares, and, if they stand apart, p ports. */
 static void any_pads(struct question *q, size_t n, size_t p) {
+    enum board kind = below(4) ? below(BOARDS) : GAP;
     q->job_bytes = 16 * n;
-    if (!takes_slots(q->call)) {
-        make_board(q->job, n, below(BOARDS));
-        return;
+    if (takes_slots(q->call)) {
+        q->port_bytes = 4 * p;
+        make_slots(q->job, n, q->ports, p, kind);
+        lend_work(q, below(2) ? 0 : below(4));
+    } else {
+        make_board(q->job, n, kind);
     }
-    q->port_bytes = 4 * p;
-    make_slots(q->job, n, q->ports, p, below(BOARDS));
-    lend_work(q, below(2) ? 0 : below(4));
+    struct plan plan = plan_of(q);
+    any_squares(q->job, &plan);
 }
 
 /* A search on slots takes time that grows with n times p cubed: large ones are not for here. */
@@ -136,10 +139,20 @@ static void damage_size(struct question *q) {
         q->job_bytes = below(2) ? sizes[below(7)] : below(JOB_ROOM + 1);
 }
 
+/* Of a square that is too large, or only another; some with the right one in their last bits. */
+static int64_t other_half(const struct question *q, size_t i) {
+    switch (below(4)) {
+    case 0: return MOST_HALF + below(2);
+    case 1: return get_half(q->job, i) + (below(2) ? 1 : 1u << (8 + below(8)));
+    case 2: return below(12);
+    default: return below(2) ? 1u << below(16) : below(65536);
+    }
+}
+
 static void damage_field(struct question *q) {
     size_t i = any_record(q);
     switch (below(9)) {
-    case 0: put_reserved(q->job, i, below(2) ? 1u << below(16) : below(65536)); break;
+    case 0: put_half(q->job, i, other_half(q, i)); break;
     case 1: put_x(q->job, i, below(2) ? 0 : far_out()); break;
     case 2: put_y(q->job, i, far_out()); break;
     case 3: put_port(q->job, i, far_out()); break;

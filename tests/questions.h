@@ -5,14 +5,14 @@
 #include "trial.h"
 
 /*
- * A random question of one call that is accepted, or whose layout touches or is not best. Its table
- * stands until the next question.
+ * A random question of one call that is accepted, or whose layout touches or is not best, or whose
+ * squares leave no layout. Its table stands until the next question.
  */
 void sound_question(struct question *q, enum call call);
 
 /*
- * First on an accepted job of n pads, by weights, by a table, which stands until the next job, or
- * on n to `most` slots; one of these, on p slots.
+ * First on an accepted job of n pads, or one whose squares leave no layout, by weights, by a table,
+ * which stands until the next job, or on n to `most` slots; one of these, on p slots.
  */
 void sound_job(struct question *q, size_t n, size_t most);
 void sound_job_of(struct question *q, enum call call, size_t n, size_t p);

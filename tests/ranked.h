@@ -1,8 +1,9 @@
 /*
- * ranked.h: the best layouts of an accepted job of any size, of either form: how many, and each by
- * its place in the paper's order. Between two arms the pad furthest right takes a port; then the
- * pads below its arm and those above it go on, each for themselves. The first pad has no arms
- * beside it. What was found of the pads between two arms is kept, so that it is found once.
+ * ranked.h: the best layouts of an accepted job of any size, of either form: how many, 0 where the
+ * squares leave none, and each by its place in the paper's order. Between two arms the pad furthest
+ * right takes a port from which its leader meets no square; then the pads below its arm and those
+ * above it go on, each for themselves. The first pad has no arms beside it. What was found of the
+ * pads between two arms is kept, so that it is found once.
  */
 #ifndef RANKED_H
 #define RANKED_H

@@ -2,7 +2,8 @@
  * Every refusal of every call, at every record and in every way; every pair of refusals that one
  * input can deserve, wherever both stand; and all of them at once, mended one by one. Each time
  * nothing is written, and Page refuses alike with room for some and with room for none. Name 0 at
- * every record of up to 64, alone, twice and beside every other fault of a field. Tables of other
+ * every record of up to 64, alone, twice and beside every other fault of a field. Squares that are
+ * too large, at every record, and squares that leave no layout, for 1 to 64 pads. Tables of other
  * lengths than the right one, for 1 to 64 pads, and of lengths that no memory has. Work lists of
  * just enough numbers and of one too few, for up to 64 pads and 128 ports.
  */
@@ -62,15 +63,33 @@ static size_t touched_by(size_t i, int way) { return way == 0 ? i - 1 : 0; }
 
 /* The last two ways are of pads whose ports stand apart; a port may have no record. */
 static bool bad_field(struct question *q, size_t i, int way) {
-    if (way == 0) put_reserved(q->job, i, 1);
+    if (way == 0) put_half(q->job, i, 2001);
     if (way == 1) put_x(q->job, i, 0);
     if (way == 2) put_x(q->job, i, 1000001);
     if (way == 3) put_y(q->job, i, -1000001);
     if (way == 4) put_y(q->job, i, 1000001);
     if (way == 5) set_port(q, i, i == 0 ? -1000001 : 1000001);
     if (way == 6) put_name(q->job, i, 0);
-    if (way >= 7) put_port(q->job, i, way == 7 ? 1 : -16777216);
-    return way < (takes_slots(q->call) ? 9 : 7) && (i < records_of(q) || way == 5);
+    if (way == 7) put_half(q->job, i, 65535);
+    if (way == 8) put_half(q->job, i, 2048);
+    if (way >= 9) put_port(q->job, i, way == 9 ? 1 : -16777216);
+    return way < (takes_slots(q->call) ? 11 : 9) && (i < records_of(q) || way == 5);
+}
+
+/*
+ * Squares that leave no layout: one on whose side the last pad lies, or amid; one that reaches
+ * straight leaders, for which there is no other way; those in the way of every arm; all of them. On
+ * slots a port is free, which is of no use.
+ */
+static bool bad_squares(struct question *q, int way) {
+    if (way == 0) put_half(q->job, 4, 45);
+    if (way == 1) put_half(q->job, 4, 2000);
+    if (way == 2) put_half(q->job, 1, 10);
+    if (way == 3) put_half(q->job, 3, 1999);
+    if (way == 4) put_half(q->job, 5, 60);
+    if (way == 5)
+        for (size_t i = 0; i < records_of(q) && i < N; i++) put_half(q->job, i, 11);
+    return way < 6;
 }
 
 /* Of the job; then, if there is one, of the list of ports. */
@@ -132,6 +151,7 @@ static bool spoil(struct question *q, int number, size_t i, int way) {
     case 12: set_port(q, i, port_of(q, i - 1) + (way ? 1 : 7)); return way < 2;
     case 13: q->figures = tables[way % LENGTHS]; return way < LENGTHS;
     case 14: q->port_bytes = 4 * (size_t)(N - 1 - way); return way < N - 1;
+    case 15: return bad_squares(q, way);
     case 24: short_work(q, way % LENGTHS); return way < LENGTHS;
     default: return false;
     }
@@ -304,6 +324,45 @@ static void names_of_0(enum call call) {
     }
 }
 
+/* ---- squares ---- */
+
+/* As the name of 0: beside every other fault of a record, at every record. */
+static void too_large(enum call call, size_t n, size_t i) {
+    struct question q = straight(call, n, n);
+    put_half(q.job, i, 2001 + below(63535));
+    for (size_t j = 0; j < n; j++) {
+        beside_fields(&q, i, j);
+        beside_rules(&q, i, j);
+    }
+}
+
+/* Straight leaders 10 apart: half-sides of 9 pass, one of 10 reaches a neighbour's leader. */
+static void just_too_large(enum call call, size_t n, size_t i) {
+    struct question q = straight(call, n, n);
+    for (size_t k = 0; k < n; k++) put_half(q.job, k, 9);
+    check(ask(&q, AT_END).answer >= -1, &q, "these squares pass");
+    put_half(q.job, i, 10);
+    int record = i > 0 ? (int)i : 1;
+    if (n == 1 || call == DRAW)
+        check(ask(&q, AT_END).answer >= -1, &q, "this square passes");
+    else if (gives_first(call))
+        is_refused(q, 15, 0);
+    else
+        expect(&q, keeps(&q, refused_pair(record, record - 1)));
+}
+
+/* At every record of up to five, and at some of 64; where slots are searched, of 24. */
+static void squares(enum call call) {
+    for (size_t n = 1; n <= 5; n++)
+        for (size_t i = 0; i < n; i++) {
+            too_large(call, n, i);
+            just_too_large(call, n, i);
+        }
+    size_t most = takes_work(call) ? 24 : 64;
+    for (size_t i = 0; i < most; i += 1 + i / 4) just_too_large(call, most, i);
+    just_too_large(call, most, most - 1);
+}
+
 /* ---- tables of another length ---- */
 
 /* All is right but the length, which must be n times n. */
@@ -399,6 +458,7 @@ int main(void) {
         mended_one_by_one(call);
         if (takes_slots(call)) pads_and_then_ports(call);
         names_of_0(call);
+        squares(call);
         if (takes_work(call)) works(call);
         if (!takes_table(call)) continue;
         for (size_t n = 1; n <= 64; n++) table_lengths(call, n);

@@ -11,8 +11,9 @@ number() {
     printf "$(printf '\\%03o\\%03o\\%03o\\%03o' $((n % 256)) $((n / 256 % 256)) $((n / 65536 % 256)) $((n / 16777216)))"
 }
 
-# records NAME X Y PORT NAME X Y PORT ..
+# records NAME X Y PORT NAME X Y PORT ..; a name and a half-side, 2 bytes each, are one number: square NAME HALF
 records() { for field; do number "$field"; done; }
+square() { echo $(($1 + 65536 * $2)); }
 slowly() { for field; do number "$field"; sleep 0.02; done; }
 zeros() { head -c "$1" /dev/zero; }
 endless() { cat /dev/zero 2>/dev/null; }
@@ -43,6 +44,16 @@ prints 'refused 4 record 1/' records 101 10 0 10 102 0 30 10
 prints 'refused 4 record 1/' records 101 10 10 0 0 20 20 10 103 30 30 20
 prints 'refused 4 record 0/' records 0 10 10 0 0 20 20 10 0 30 30 20
 prints 'refused 4 record 2/' records 101 10 10 0 101 20 20 0 0 30 30 20
+prints 'refused 4 record 1/' records 101 10 10 0 $(square 102 2001) 20 20 10 103 30 30 20
+prints 'refused 4 record 0/' records $(square 101 65535) 10 10 0
+prints '101 0 10 0/total 10 0/' records $(square 101 2000) 10 10 10
+prints '101 0 16 1/102 1 40 1/total 56 2/' records $(square 101 3) 10 6 0 102 20 30 10
+prints '101 1 14 1/102 0 50 1/total 64 2/' records $(square 101 4) 10 6 0 102 20 30 10
+prints 'refused 15 record 0/' records $(square 101 6) 10 6 0 102 20 30 10
+prints '101 0 15 1/102 1 40 1/total 55 2/' records $(square 101 4) 10 5 0 102 20 30 10
+prints 'refused 15 record 0/' records $(square 101 5) 10 5 0 102 20 30 10
+prints 'refused 15 record 0/' records $(square 101 2000) 1000 0 0 102 20 30 10
+prints 'refused 7 record 1/' records $(square 101 2000) 10 6 0 102 10 30 10
 prints 'refused 5 record 1/' records 101 10 0 10 102 20 30 10
 prints 'refused 12 record 1/' records 101 10 0 10 102 20 30 17
 prints '101 0 20 1/102 1 32 1/total 52 2/' records 101 10 0 10 102 20 30 18

@@ -230,6 +230,140 @@ static const struct {
     {"too high", J1, 1, {3, 0, 1000001}, 3, SLOTS_MEASURE, 1, 0, {0}, REFUSED(4, 2), NONE},
 };
 
+/* J4, but its first pad is nearer to the upper port; the same, its records the other way round. */
+static const struct record near_upper[] = {{10, 16, 10}, {20, 60, 20}};
+static const struct record turned[] = {{20, 60, 10}, {10, 16, 20}};
+/* The second pad's hand passes two units right of the first pad, if it goes to the lower port. */
+static const struct record passing[] = {{10, 15, 10}, {12, 40, 20}};
+/* The first pad is so near to the label edge that its square reaches past it. */
+static const struct record at_edge[] = {{3, 15, 10}, {20, 60, 20}};
+/* A pad in the square of the other; two straight leaders 8 apart. */
+static const struct record inside_pads[] = {{10, 10, 10}, {12, 12, 20}};
+static const struct record straight_pads[] = {{10, 10, 10}, {14, 18, 18}};
+/* A hundred times as large; at the largest height, at the smallest, at the largest x. */
+static const struct record far_upper[] = {{1000, 1600, 1000}, {2000, 6000, 2000}};
+static const struct record highest[] = {{10, 998000, 990000}, {20, 1000000, 1000000}};
+static const struct record lowest[] = {{10, -998000, -1000000}, {20, -1000000, -990000}};
+static const struct record rightmost[] = {{999000, 0, -5000}, {1000000, 20000, 5000}};
+/* Pads at one height, the right one's arm above or below the left one. */
+static const struct record level_pads[] = {{10, 15, 8}, {20, 15, 20}};
+
+/* With squares: half-sides, and ports in the records or apart; a table of four figures. */
+static const struct {
+    const char *mark;
+    const struct record *pads;
+    int half[3];
+    size_t n;
+    int ports[3];
+    size_t p;
+    enum call call;
+    uint32_t length_weight, bend_weight, figures[4];
+    int given[3];
+    int64_t answer;
+    int written[3];
+} square_sheets[] = {
+    /* A square 19 wide to each side is one unit from the other leader; then no layout is left. */
+    {"J2", J2, {19, 19}, 2, {10, 20}, 2, FIRST, 1, 0, {0}, NONE, 50, {0, 1}},
+    {"J2", J2, {20, 0}, 2, {10, 20}, 2, FIRST, 1, 0, {0}, NONE, REFUSED(15, 0), NONE},
+    {"J2", J2, {0, 20}, 2, {10, 20}, 2, FIRST, 1, 0, {0}, NONE, REFUSED(15, 0), NONE},
+    {"J2", J2, {20, 0}, 2, {10, 20}, 2, MEASURE, 1, 0, {0}, {0, 1}, TOUCHING(1, 0), NONE},
+    {"J2", J2, {0, 20}, 2, {10, 20}, 2, NEXT, 1, 0, {0}, {0, 1}, TOUCHING(1, 0), NONE},
+    {"J2", J2, {0, 20}, 2, {10, 20}, 2, PAGE, 1, 0, {0}, {0, 1}, TOUCHING(1, 0), NONE},
+    {"J2", J2, {19, 19}, 2, {10, 20}, 2, PAGE, 1, 0, {0}, {0, 1}, 0, NONE},
+    /* The shorter layout is barred, then both: squares cost length. */
+    {"near", near_upper, {3, 0}, 2, {10, 20}, 2, FIRST, 1, 0, {0}, NONE, 76, {0, 1}},
+    {"near", near_upper, {4, 0}, 2, {10, 20}, 2, FIRST, 1, 0, {0}, NONE, 84, {1, 0}},
+    {"near", near_upper, {5, 0}, 2, {10, 20}, 2, FIRST, 1, 0, {0}, NONE, 84, {1, 0}},
+    {"near", near_upper, {6, 0}, 2, {10, 20}, 2, FIRST, 1, 0, {0}, NONE, REFUSED(15, 0), NONE},
+    {"near", near_upper, {4, 0}, 2, {10, 20}, 2, NEXT, 1, 0, {0}, {1, 0}, END, NONE},
+    {"near", near_upper, {4, 0}, 2, {10, 20}, 2, NEXT, 1, 0, {0}, {0, 1}, TOUCHING(1, 0), NONE},
+    {"near", near_upper, {3, 0}, 2, {10, 20}, 2, NEXT, 1, 0, {0}, {1, 0}, REFUSED(10, 0), NONE},
+    {"near", near_upper, {4, 0}, 2, {10, 20}, 2, MEASURE, 1, 0, {0}, {1, 0}, 84, NONE},
+    {"near", near_upper, {6, 0}, 2, {10, 20}, 2, MEASURE, 1, 0, {0}, {1, 0}, TOUCHING(1, 0), NONE},
+    {"turned", turned, {0, 4}, 2, {10, 20}, 2, FIRST, 1, 0, {0}, NONE, 84, {0, 1}},
+    {"turned", turned, {0, 4}, 2, {10, 20}, 2, MEASURE, 1, 0, {0}, {1, 0}, TOUCHING(1, 0), NONE},
+    {"turned", turned, {0, 3}, 2, {10, 20}, 2, MEASURE, 1, 0, {0}, {1, 0}, 76, NONE},
+    /* The same over a table, by which the barred layout would cost nothing. */
+    {"near", near_upper, {3, 0}, 2, {10, 20}, 2, TABLE_FIRST, 0, 0, {0, 9, 9, 0}, NONE, 0, {0, 1}},
+    {"near", near_upper, {4, 0}, 2, {10, 20}, 2, TABLE_FIRST, 0, 0, {0, 9, 9, 0}, NONE, 18, {1, 0}},
+    {"near", near_upper, {4, 0}, 2, {10, 20}, 2, TABLE_NEXT, 0, 0, {0, 9, 9, 0}, {1, 0}, END, NONE},
+    {"near", near_upper, {4, 0}, 2, {10, 20}, 2, TABLE_MEASURE, 0, 0, {0, 9, 9, 0}, {0, 1},
+     TOUCHING(1, 0), NONE},
+    {"near", near_upper, {6, 0}, 2, {10, 20}, 2, TABLE_FIRST, 0, 0, {0, 9, 9, 0}, NONE,
+     REFUSED(15, 0), NONE},
+    /* A third port is out of the square's reach up to 13. */
+    {"near", near_upper, {4, 0}, 2, {10, 20, 30}, 3, SLOTS_FIRST, 1, 0, {0}, NONE, 64, {1, 2}},
+    {"near", near_upper, {13, 0}, 2, {10, 20, 30}, 3, SLOTS_FIRST, 1, 0, {0}, NONE, 64, {1, 2}},
+    {"near", near_upper, {14, 0}, 2, {10, 20, 30}, 3, SLOTS_FIRST, 1, 0, {0}, NONE, REFUSED(15, 0),
+     NONE},
+    {"near", near_upper, {13, 0}, 2, {10, 20, 30}, 3, SLOTS_NEXT, 0, 0, {0}, {0, 2}, 0, {1, 2}},
+    {"near", near_upper, {13, 0}, 2, {10, 20, 30}, 3, SLOTS_NEXT, 0, 0, {0}, {1, 2}, END, NONE},
+    {"near", near_upper, {13, 0}, 2, {10, 20, 30}, 3, SLOTS_MEASURE, 1, 0, {0}, {1, 0},
+     TOUCHING(1, 0), NONE},
+    /* Half-sides of more than a byte. */
+    {"far", far_upper, {399, 0}, 2, {1000, 2000}, 2, FIRST, 1, 0, {0}, NONE, 7600, {0, 1}},
+    {"far", far_upper, {400, 0}, 2, {1000, 2000}, 2, FIRST, 1, 0, {0}, NONE, 8400, {1, 0}},
+    {"far", far_upper, {600, 0}, 2, {1000, 2000}, 2, FIRST, 1, 0, {0}, NONE, REFUSED(15, 0), NONE},
+    {"far", far_upper, {400, 0}, 2, {1000, 2000}, 2, TABLE_FIRST, 0, 0, {0, 9, 9, 0}, NONE, 18,
+     {1, 0}},
+    {"far", far_upper, {1399, 0}, 2, {1000, 2000, 3000}, 3, SLOTS_FIRST, 1, 0, {0}, NONE, 6400,
+     {1, 2}},
+    {"far", far_upper, {1400, 0}, 2, {1000, 2000, 3000}, 3, SLOTS_FIRST, 1, 0, {0}, NONE,
+     REFUSED(15, 0), NONE},
+    {"far", far_upper, {400, 0}, 2, {1000, 2000}, 2, MEASURE, 1, 0, {0}, {0, 1}, TOUCHING(1, 0),
+     NONE},
+    /* At and past the limits. */
+    {"highest", highest, {1999, 0}, 2, {990000, 1000000}, 2, FIRST, 1, 0, {0}, NONE, 8030, {0, 1}},
+    {"highest", highest, {2000, 0}, 2, {990000, 1000000}, 2, FIRST, 1, 0, {0}, NONE, REFUSED(15, 0),
+     NONE},
+    {"highest", highest, {0, 2000}, 2, {990000, 1000000}, 2, FIRST, 1, 0, {0}, NONE, REFUSED(15, 0),
+     NONE},
+    {"lowest", lowest, {1999, 0}, 2, {-1000000, -990000}, 2, FIRST, 1, 0, {0}, NONE, 8030, {1, 0}},
+    {"lowest", lowest, {2000, 0}, 2, {-1000000, -990000}, 2, FIRST, 1, 0, {0}, NONE, REFUSED(15, 0),
+     NONE},
+    {"rightmost", rightmost, {999, 0}, 2, {-5000, 5000}, 2, FIRST, 0, 0, {0}, NONE, 0, {1, 0}},
+    {"rightmost", rightmost, {1000, 0}, 2, {-5000, 5000}, 2, FIRST, 0, 0, {0}, NONE, 0, {0, 1}},
+    {"rightmost", rightmost, {0, 2000}, 2, {-5000, 5000}, 2, FIRST, 0, 0, {0}, NONE, 0, {1, 0}},
+    /* A hand along a square's side; one unit off it. */
+    {"passing", passing, {1, 0}, 2, {10, 20}, 2, FIRST, 0, 0, {0}, NONE, 0, {1, 0}},
+    {"passing", passing, {2, 0}, 2, {10, 20}, 2, FIRST, 0, 0, {0}, NONE, 0, {0, 1}},
+    {"passing", passing, {1, 0}, 2, {10, 20}, 2, MEASURE, 1, 0, {0}, {1, 0}, 57, NONE},
+    {"passing", passing, {2, 0}, 2, {10, 20}, 2, MEASURE, 1, 0, {0}, {1, 0}, TOUCHING(1, 0), NONE},
+    {"passing", passing, {2, 0}, 2, {10, 20}, 2, NEXT, 0, 0, {0}, {0, 1}, END, NONE},
+    /* Past the label edge, and over both ports. */
+    {"at the edge", at_edge, {4, 0}, 2, {10, 20}, 2, FIRST, 1, 0, {0}, NONE, 68, {0, 1}},
+    {"at the edge", at_edge, {5, 0}, 2, {10, 20}, 2, FIRST, 1, 0, {0}, NONE, REFUSED(15, 0), NONE},
+    {"at the edge", at_edge, {2000, 0}, 2, {10, 20}, 2, FIRST, 1, 0, {0}, NONE, REFUSED(15, 0),
+     NONE},
+    /* In a square, on its corner, one unit off it; and its own square is no pad's affair. */
+    {"inside", inside_pads, {5, 0}, 2, {10, 20}, 2, FIRST, 1, 0, {0}, NONE, REFUSED(15, 0), NONE},
+    {"inside", inside_pads, {2, 0}, 2, {10, 20}, 2, FIRST, 1, 0, {0}, NONE, REFUSED(15, 0), NONE},
+    {"inside", inside_pads, {1, 0}, 2, {10, 20}, 2, FIRST, 1, 0, {0}, NONE, 30, {0, 1}},
+    {"inside", inside_pads, {0, 2}, 2, {10, 20}, 2, FIRST, 1, 0, {0}, NONE, REFUSED(15, 0), NONE},
+    {"inside", inside_pads, {5, 0}, 2, {10, 20, 30}, 3, SLOTS_FIRST, 1, 0, {0}, NONE,
+     REFUSED(15, 0), NONE},
+    {"alone", J1, {2000}, 1, {3}, 1, FIRST, 1, 0, {0}, NONE, 5, {0}},
+    {"alone", J1, {2001}, 1, {3}, 1, FIRST, 1, 0, {0}, NONE, REFUSED(4, 0), NONE},
+    /* Squares may overlap. */
+    {"overlap", straight_pads, {7, 7}, 2, {10, 18}, 2, FIRST, 1, 0, {0}, NONE, 24, {0, 1}},
+    {"overlap", straight_pads, {8, 7}, 2, {10, 18}, 2, FIRST, 1, 0, {0}, NONE, REFUSED(15, 0),
+     NONE},
+    {"overlap", straight_pads, {7, 8}, 2, {10, 18}, 2, MEASURE, 1, 0, {0}, {0, 1}, TOUCHING(1, 0),
+     NONE},
+    /* The right pad's arm is 5 above the left pad, or 7 below it. */
+    {"level", level_pads, {4, 0}, 2, {8, 20}, 2, FIRST, 1, 0, {0}, NONE, 42, {1, 0}},
+    {"level", level_pads, {4, 0}, 2, {8, 20}, 2, NEXT, 1, 0, {0}, {1, 0}, 42, {0, 1}},
+    {"level", level_pads, {5, 0}, 2, {8, 20}, 2, NEXT, 1, 0, {0}, {1, 0}, END, NONE},
+    {"level", level_pads, {6, 9}, 2, {8, 20}, 2, FIRST, 1, 0, {0}, NONE, 42, {1, 0}},
+    {"level", level_pads, {6, 10}, 2, {8, 20}, 2, FIRST, 1, 0, {0}, NONE, REFUSED(15, 0), NONE},
+    {"level", level_pads, {7, 0}, 2, {8, 20}, 2, FIRST, 1, 0, {0}, NONE, REFUSED(15, 0), NONE},
+    /* Leaders touch at a larger pair; the square does at a smaller one, and that is named. */
+    {"J5", J5, {9, 0, 0}, 3, {0, 10, 20}, 3, MEASURE, 1, 0, {0}, {1, 0, 2}, TOUCHING(2, 1), NONE},
+    {"J5", J5, {10, 0, 0}, 3, {0, 10, 20}, 3, MEASURE, 1, 0, {0}, {1, 0, 2}, TOUCHING(1, 0), NONE},
+    {"J5", J5, {10, 0, 0}, 3, {0, 10, 20}, 3, NEXT, 1, 0, {0}, {1, 0, 2}, TOUCHING(1, 0), NONE},
+    {"J5", J5, {10, 0, 0}, 3, {0, 10, 20}, 3, PAGE, 1, 0, {0}, {1, 0, 2}, TOUCHING(1, 0), NONE},
+};
+
 static void put_layout(uint16_t *list, const int *layout, size_t n) {
     if (layout[0] < 0) return;
     for (size_t i = 0; i < n; i++) list[i] = (uint16_t)layout[i];
@@ -278,6 +412,25 @@ static void worked_slots(void) {
         q.b = slots_sheets[k].bend_weight;
         worked(q, slots_sheets[k].mark, slots_sheets[k].given, slots_sheets[k].answer,
                slots_sheets[k].written);
+    }
+}
+
+static void worked_squares(void) {
+    for (size_t k = 0; k < sizeof square_sheets / sizeof *square_sheets; k++) {
+        enum call call = square_sheets[k].call;
+        if (call >= CALLS) continue;
+        struct question q = about(call, square_sheets[k].n, square_sheets[k].pads);
+        for (size_t i = 0; i < square_sheets[k].n; i++)
+            put_half(q.job, i, square_sheets[k].half[i]);
+        q.port_bytes = 4 * square_sheets[k].p;
+        for (size_t i = 0; i < square_sheets[k].p; i++) set_port(&q, i, square_sheets[k].ports[i]);
+        lend_work(&q, 0);
+        q.a = square_sheets[k].length_weight;
+        q.b = square_sheets[k].bend_weight;
+        if (takes_table(call))
+            memcpy(q.table, square_sheets[k].figures, sizeof square_sheets[k].figures);
+        worked(q, square_sheets[k].mark, square_sheets[k].given, square_sheets[k].answer,
+               square_sheets[k].written);
     }
 }
 
@@ -339,6 +492,15 @@ static void drawn_sheets(void) {
     expect(&straight, keeps(&straight, REFUSED(3, 0)));
     struct question close = draw_of(2, J2_7, 0, 0);
     expect(&close, keeps(&close, REFUSED(12, 1)));
+}
+
+/* Squares make no difference, not even those that leave no layout, unless they are too large. */
+static void drawn_squares(void) {
+    struct question q = draw_of(3, J5, 2, 0);
+    for (size_t i = 0; i < 3; i++) put_half(q.job, i, 2000);
+    drawn(&q, 3, (const uint32_t[]){0x40F00000, 0xC0F00000, 0x40F00000, 0, 0, 0});
+    put_half(q.job, 1, 2001);
+    expect(&q, keeps(&q, REFUSED(4, 1)));
 }
 
 /* Four times the drawn number is the whole number, and a zero is positive. */
@@ -457,16 +619,36 @@ static struct question on_strip(enum call call, size_t n, size_t p, int apart) {
     return q;
 }
 
-/* Straight leaders of eight pads to eight of 128 ports, from some port on. */
+/*
+ * A square that reaches the ports beside its own: no pad right of it may have these. So those above
+ * it go one port up, if there is one; else the first of them goes below all others.
+ */
+static void grazed_from(struct question q, uint16_t port) {
+    bool room = port < 120;
+    put_half(q.job, 3, 8);
+    for (uint16_t i = 0; i < 8; i++) q.list.layout[i] = port + i + (i > 3 && room);
+    if (!room) q.list.layout[4] = port - 1;
+    struct reply r = keeps(&q, q.call == SLOTS_NEXT ? END : 5 * 8 * 9 + (room ? 4 * 8 : 5 * 8));
+    if (q.call == SLOTS_FIRST) q.list.layout[0] = KEPT;
+    expect(&q, r);
+    q.list.layout[0] = port;
+    if (!room) q.list.layout[4] = port + 4;
+    for (uint16_t i = 4; i < 8 && room; i++) q.list.layout[i] = port + i;
+    if (takes_layout(q.call)) expect(&q, keeps(&q, refused_pair(4, 3)));
+}
+
+/* Straight leaders of eight pads to eight of 128 ports, from some port on; squares that just fit. */
 static void straight_from(enum call call, uint16_t port) {
     struct question q = on_strip(call, 8, 128, 8);
     struct reply r = keeps(&q, takes_best(call) ? END : 5 * 8 * 9);
     for (uint16_t i = 0; i < 8; i++) {
         put_y(q.job, i, port_of(&q, port + i));
+        put_half(q.job, i, 7);
         if (takes_layout(call)) q.list.layout[i] = port + i;
         r.list.layout[i] = port + i;
     }
     expect(&q, r);
+    grazed_from(q, port);
 }
 
 /* 128 ports, of which any may be at fault, and 129; as many ports as pads, and one fewer. */
@@ -603,8 +785,11 @@ static void fields(enum call call) {
         outside(call, put_x, i, 1000001);
         outside(call, put_x, i, 2147483648);
         outside(call, put_x, i, 4294967295);
-        outside(call, put_reserved, i, 1);
-        outside(call, put_reserved, i, 256);
+        outside(call, put_half, i, 2001);
+        outside(call, put_half, i, 2048);
+        outside(call, put_half, i, 65535);
+        inside(call, put_half, i, 1);
+        inside(call, put_half, i, 9);
         for (size_t k = 0; k < sizeof far_out / sizeof *far_out; k++) {
             outside(call, put_y, i, far_out[k]);
             outside(call, put_port, i, far_out[k]);
@@ -630,6 +815,23 @@ static void names(void) {
         put_name(q.job, 0, name);
         check((ask(&q, AT_END).answer == refused(4, 0)) == (name == 0), &q, "this name");
     }
+}
+
+/* Every half-side, by every call: up to 2,000 they pass. */
+static void half_sides(enum call call) {
+    struct question sound = good(call, 1), q = sound;
+    int64_t passed = call_library(&q);
+    check(passed >= -1, &sound, "a pad alone passes");
+    bool ok = true;
+    for (uint32_t half = 0; half < 65536; half++) {
+        q.list = sound.list;
+        put_half(q.job, 0, half);
+        bool same = call_library(&q) == (half <= 2000 ? passed : refused(4, 0));
+        if (half > 2000) same &= memcmp(&q.list, &sound.list, sizeof q.list) == 0;
+        ok &= same;
+        if (!same && half % 256 == 0) check(false, &q, "this half-side");
+    }
+    check(ok, NULL, "a half-side passes or not");
 }
 
 /* Names, and x, that are equal in all bits but one are not the same. */
@@ -776,9 +978,11 @@ int main(void) {
     worked_sheets();
     worked_tables();
     worked_slots();
+    worked_squares();
     worked_short_list();
     bends_can_cost();
     drawn_sheets();
+    drawn_squares();
     drawn_range();
     names();
     for (enum call call = 0; call < CALLS; call++) {
@@ -790,6 +994,7 @@ int main(void) {
         tables(call);
         room(call);
         fields(call);
+        half_sides(call);
         last_fields(call);
         one_bit_apart(call);
         job_rules(call);

@@ -1,6 +1,6 @@
 /*
- * Measures by paint how much stack each call takes, and holds each to its stated figure. The stack
- * has 64 KiB, with unreadable memory below it.
+ * Measures by paint how much stack each call takes, on boards of points and of squares, and holds
+ * each to its stated figure. The stack has 64 KiB, with unreadable memory below it.
  *
  * A figure counts from the caller's stack pointer before the call: the return address, and on down
  * to the lowest byte written. The library is entered from no C function, so the C compiler has no
@@ -39,18 +39,18 @@ static const struct {
     function enter;
     size_t stated;
 } calls[CALLS] = {
-    [MEASURE] = {(function)cheremysl_measure, 536},
+    [MEASURE] = {(function)cheremysl_measure, 584},
     [DRAW] = {(function)cheremysl_draw, 136},
-    [TABLE_MEASURE] = {(function)cheremysl_table_measure, 520},
-    [SLOTS_MEASURE] = {(function)cheremysl_slots_measure, 568},
+    [TABLE_MEASURE] = {(function)cheremysl_table_measure, 568},
+    [SLOTS_MEASURE] = {(function)cheremysl_slots_measure, 616},
 #ifndef NO_SEARCH
-    [FIRST] = {(function)cheremysl_first, 38480},
-    [NEXT] = {(function)cheremysl_next, 38656},
-    [PAGE] = {(function)cheremysl_page, 38672},
-    [TABLE_FIRST] = {(function)cheremysl_table_first, 22032},
-    [TABLE_NEXT] = {(function)cheremysl_table_next, 22208},
-    [SLOTS_FIRST] = {(function)cheremysl_slots_first, 3328},
-    [SLOTS_NEXT] = {(function)cheremysl_slots_next, 3472},
+    [FIRST] = {(function)cheremysl_first, 42712},
+    [NEXT] = {(function)cheremysl_next, 42888},
+    [PAGE] = {(function)cheremysl_page, 42904},
+    [TABLE_FIRST] = {(function)cheremysl_table_first, 26264},
+    [TABLE_NEXT] = {(function)cheremysl_table_next, 26440},
+    [SLOTS_FIRST] = {(function)cheremysl_slots_first, 11688},
+    [SLOTS_NEXT] = {(function)cheremysl_slots_next, 11832},
 #endif
 };
 
@@ -141,31 +141,33 @@ static void ask_on_small_stack(void) {
     came[call][outcome_of(answer)]++;
 }
 
-/* A search on slots takes long: the most of them on one board, and few on the others. */
-static size_t pads_of(enum call call, enum board board) {
-    return !takes_work(call) || board == CLOSE ? PADS : 16;
+/* A search on slots takes long: the most of them on one board of points, and few on the others. */
+static size_t pads_of(enum call call, enum board board, enum squares squares) {
+    return !takes_work(call) || (board == CLOSE && squares == POINTS) ? PADS : 16;
 }
 
-static void make_job(enum board board) {
+static void make_job(enum board board, enum squares squares) {
     static uint32_t table[TABLE_ROOM];
-    size_t n = pads_of(question.call, board);
+    size_t n = pads_of(question.call, board, squares);
     question.job_bytes = 16 * n;
     if (takes_slots(question.call)) {
         question.port_bytes = n < PADS ? 4 * (n + 4) : CHEREMYSL_MAX_PORT_BYTES;
         make_slots(question.job, n, question.ports, ports_of(&question), board);
         lend_work(&question, 0);
-        return;
+    } else {
+        make_board(question.job, n, board);
     }
-    make_board(question.job, n, board);
-    lend_table(&question, table, below(FIGURES));
+    struct plan plan = plan_of(&question);
+    give_squares(question.job, &plan, squares);
+    if (!takes_slots(question.call)) lend_table(&question, table, below(FIGURES));
 }
 
-/* 64 pads and a layout that does not touch; Draw gets a leader that is straight. */
-static void make_question(enum call call, enum board board) {
+/* 64 pads and a layout whose leaders do not touch; Draw gets a leader that is straight. */
+static void make_question(enum call call, enum board board, enum squares squares) {
     memset(&question, 0, sizeof question);
     question.call = call;
     question.count = call == DRAW ? CHEREMYSL_DRAW_FLOATS : PADS;
-    make_job(board);
+    make_job(board, squares);
     any_weights(&question.a, &question.b);
     struct plan plan = plan_of(&question);
     any_untouching(&plan, question.list.layout);
@@ -176,10 +178,10 @@ static void make_question(enum call call, enum board board) {
     put_y(question.job, PADS - 1, get_port(question.job, 0));
 }
 
-/* A best layout for the calls that want one; Draw's leader gets a bend. */
+/* A best layout for the calls that take one; Draw's leader gets a bend. */
 static void make_accepted(void) {
     enum call call = question.call;
-    if (takes_best(call)) {
+    if (takes_layout(call) && FIRST < CALLS) {
         turn_to(&question, FIRST);
         call_library(&question);
         question.call = call;
@@ -187,12 +189,16 @@ static void make_accepted(void) {
     if (call == DRAW) put_y(question.job, PADS - 1, get_port(question.job, 1));
 }
 
-/* Accepted or refused with 10; accepted, with Next some steps on or up to the end; damaged. */
-static void on_board(enum call call, enum board board) {
+/*
+ * Accepted or refused with 10, among squares perhaps with 9; accepted, with Next some steps on or
+ * up to the end; damaged.
+ */
+static void on_board(enum call call, enum board board, enum squares squares) {
     static struct question sound;
-    make_question(call, board);
+    make_question(call, board, squares);
     ask_on_small_stack();
-    check(answer >= -1 || answer == refused(10, 0), &question, "another refusal");
+    bool touches = squares != POINTS && cheremysl_refusal_number(answer) == 9;
+    check(answer >= -1 || answer == refused(10, 0) || touches, &question, "another refusal");
     make_accepted();
     for (int steps = can_end(call) ? 4 : 1; steps > 0; steps--) {
         ask_on_small_stack();
@@ -208,6 +214,12 @@ static void on_board(enum call call, enum board board) {
     }
 }
 
+/* Squares that may leave no layout. */
+static void among_squares(enum call call, enum board board) {
+    make_question(call, board, GRAZED);
+    ask_on_small_stack();
+}
+
 static void hold_to_figure(enum call call) {
     size_t used = deepest[call], stated = calls[call].stated;
     char what[80];
@@ -221,7 +233,11 @@ static void hold_to_figure(enum call call) {
 int main(void) {
     prepare();
     for (enum call call = 0; call < CALLS; call++) {
-        for (enum board board = 0; board < BOARDS; board++) on_board(call, board);
+        for (enum board board = 0; board < BOARDS; board++) {
+            on_board(call, board, POINTS);
+            if (FIRST < CALLS) on_board(call, board, FITTED);
+            among_squares(call, board);
+        }
         report_refusals(call_names[call], call, came[call]);
         check(!can_end(call) || came[call][ENDS] > 0, NULL, "the end never came");
     }

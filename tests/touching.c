@@ -1,10 +1,12 @@
 /*
  * touching [COUNT [SEED]]: which pair refusal 9 names, in Measure, Next and Page, over weights and
  * over tables, and at times on slots some of which stay free: the smallest record that touches an
- * earlier one, with the smallest that it touches.
- * Boards whose touching pairs are known; every pair of 64 records; every board of up to three pads,
- * and every layout of some larger ones, with leaders tried point by point; random boards against
- * the plain account.
+ * earlier one, with the smallest that it touches, by its leader or by a square.
+ * Boards whose touching pairs are known; every pair of 64 records, by leaders, and by the square of
+ * either, which reaches the other's leader or ends one unit from it; every board of up to three
+ * pads, and every layout of some larger ones, with leaders and squares tried point by point; a
+ * small square with every pad and port around it, and what First makes of that; random boards
+ * against the plain account.
  */
 #include <stdio.h>
 #include <stdlib.h>
@@ -31,28 +33,41 @@ static bool on_leader(const uint8_t *job, size_t i, size_t q, int64_t x, int64_t
     return on_hand || on_arm;
 }
 
-/* Every point that can be on the leader of record i. */
-static bool share_a_point(const uint8_t *job, size_t i, size_t p, size_t j, size_t q) {
+static bool in_square(const uint8_t *job, size_t i, int64_t x, int64_t y) {
+    int64_t half = get_half(job, i), right = x - get_x(job, i), above = y - get_y(job, i);
+    return -half <= right && right <= half && -half <= above && above <= half;
+}
+
+/* Is any point of the leader of record i on the leader of record j, or in its square? */
+static bool comes_to(const uint8_t *job, size_t i, size_t p, size_t j, size_t q) {
     int64_t y = get_y(job, i), port = get_port(job, p), top = y > port ? y : port;
     for (int64_t x = 0; x <= get_x(job, i); x++)
         for (int64_t h = y < port ? y : port; h <= top; h++)
-            if (on_leader(job, i, p, x, h) && on_leader(job, j, q, x, h)) return true;
+            if (on_leader(job, i, p, x, h) &&
+                (on_leader(job, j, q, x, h) || in_square(job, j, x, h)))
+                return true;
     return false;
+}
+
+static bool touch_by_points(const uint8_t *job, size_t i, size_t p, size_t j, size_t q) {
+    return comes_to(job, i, p, j, q) || comes_to(job, j, q, i, p);
 }
 
 static bool touch(const struct question *q, size_t i, size_t j) {
     const uint16_t *layout = q->list.layout;
-    return share_a_point(q->job, i, layout[i], j, layout[j]);
+    return touch_by_points(q->job, i, layout[i], j, layout[j]);
 }
 
 /* The plain account's touching is the same. */
 static void plain_points(void) {
     uint8_t job[16 * 3];
     struct given g = {.job = job, .job_bytes = sizeof job};
-    for (int k = 0; k < 300; k++) {
+    struct plan plan = plan_of_job(job, 3);
+    for (int k = 0; k < 600; k++) {
         size_t p = below(3), q = (p + 1 + below(2)) % 3;
         make_board(job, 3, below(2) ? CLOSE : LEVEL);
-        check(plain_touch(&g, 0, p, 1, q) == share_a_point(job, 0, p, 1, q), NULL, "touching");
+        if (below(2)) give_squares(job, &plan, below(2) ? GRAZED : SMALL);
+        check(plain_touch(&g, 0, p, 1, q) == touch_by_points(job, 0, p, 1, q), NULL, "touching");
     }
 }
 
@@ -221,18 +236,64 @@ static void every_pair(void) {
         }
 }
 
+/*
+ * The square of one pad, far to the right, and the leader of another beside it: its hand, which
+ * begins level with the square, perhaps at its corner, is so far from it. No others touch.
+ */
+static void graze(struct question *q, size_t square, size_t leader, int64_t x, int64_t off) {
+    int64_t half = 1 + below(9), level = (int64_t)below(2 * (uint32_t)half + 1) - half;
+    if (below(3) == 0) level = leader > square ? half : -half; /* and away: a corner is shared */
+    put_x(q->job, square, x);
+    put_half(q->job, square, half);
+    put_x(q->job, leader, x + half + off);
+    put_y(q->job, leader, 10 * (int64_t)square + level);
+}
+
+static bool has_total(struct question *q, enum call call);
+
+/* Either record's square reaches the other's leader; or ends one unit from it. */
+static void grazed(size_t square, size_t leader) {
+    static struct question q;
+    size_t later = square > leader ? square : leader;
+    struct pair pair = {(int)later, (int)(square + leader - later)};
+    straight(&q, below(2));
+    graze(&q, square, leader, 100, 0);
+    q.call = MEASURE;
+    if (below(3) == 0)
+        names(&q, pair);
+    else
+        expect(&q, keeps(&q, refused_pair(pair.record, pair.earlier)));
+    straight(&q, below(2));
+    graze(&q, square, leader, 100, 1);
+    has_total(&q, MEASURE);
+}
+
+static void every_square(void) {
+    for (size_t k = 0; k < PADS * PADS; k++)
+        if (k / PADS != k % PADS) grazed(k / PADS, k % PADS);
+}
+
+/* By their leaders, or by the square of one of them. */
+static void meet(struct question *q, size_t a, size_t b, int64_t x) {
+    uint32_t way = below(4);
+    if (way > 1)
+        cross(q, a, b, x);
+    else
+        graze(q, way ? a : b, way ? b : a, x, 0);
+}
+
 /* Two pairs, one inside the other or one above the other: the one that is first complete. */
 static void two_pairs(void) {
     static struct question q;
     size_t d = 3 + below(PADS - 3), c = 2 + below((uint32_t)d - 2), b = 1 + below((uint32_t)c - 1);
     size_t a = below((uint32_t)b);
     straight(&q, below(2));
-    cross(&q, a, d, 200);
-    cross(&q, b, c, 100);
+    meet(&q, a, d, 200);
+    meet(&q, b, c, 100);
     names(&q, (struct pair){(int)c, (int)b});
     straight(&q, below(2));
-    cross(&q, a, b, 100);
-    cross(&q, c, d, 200);
+    meet(&q, a, b, 100);
+    meet(&q, c, d, 200);
     names(&q, (struct pair){(int)b, (int)a});
 }
 
@@ -302,29 +363,137 @@ static void every_board(size_t n) {
     }
 }
 
+/* Perhaps further apart, with squares. */
 static void some_board(size_t n) {
     static struct question q;
     put_pads(&q, n, below((uint32_t)orders_of(n)), below((uint32_t)heights_of(n)));
+    for (size_t i = 0, apart = 1 + below(6); i < n && apart > 1; i++) {
+        put_x(q.job, i, (int64_t)apart * get_x(q.job, i));
+        put_half(q.job, i, below(2) ? 0 : below(5));
+    }
     every_layout(&q);
+}
+
+/* ---- a small square, and a pad and a port around it ---- */
+
+/* First, weights 0, 0, by points: the earlier of the two layouts, of those that do not touch. */
+static int64_t first_by_points(struct question *q) {
+    uint16_t *layout = q->list.layout, found[2] = {UINT16_MAX, UINT16_MAX};
+    for (uint16_t k = 0; k < 2; k++) {
+        layout[0] = k;
+        layout[1] = 1 - k;
+        if (!touch(q, 1, 0) && (found[0] > 1 || plain_before(q->job, 2, layout, found)))
+            memcpy(found, layout, sizeof found);
+    }
+    memcpy(layout, found, sizeof found);
+    return found[0] > 1 ? refused(15, 0) : 0;
+}
+
+static long around_tried, around_met, around_none;
+
+/* First's answer and list, by points; now and then every call that gives the first layout. */
+static bool first_is(struct question q) {
+    static uint32_t table[TABLE_ROOM];
+    struct question found = q, first = q;
+    int64_t answer = first_by_points(&found);
+    around_none += answer < 0;
+    q.call = first.call = FIRST;
+    q.a = q.b = first.a = first.b = 0;
+    struct reply r = answer < 0 ? keeps(&q, answer) : gives(&q, answer, found.list.layout);
+    bool ok = call_library(&first) == answer;
+    ok &= memcmp(&first.list, &r.list, sizeof r.list) == 0;
+    if (!check(ok, &q, "First by points") || around_tried % 16 != 0) return ok;
+    struct question tabled = by_table(&q, table), apart = by_slots(&q);
+    return expect(&q, r) && expect(&tabled, r) && expect(&apart, r);
+}
+
+/* A pad with a square; another at (x, y); the ports, of which that one's is at a height. */
+struct around {
+    int64_t centre, half, x, y, height;
+};
+
+/* The square's pad is of either record, at height 0, and its port is above the other's or below. */
+static void put_around(struct question *q, struct around at, size_t square, bool above) {
+    size_t other = 1 - square;
+    int64_t port[2] = {at.height - (above ? 0 : 8), at.height + (above ? 8 : 0)};
+    begin_question(q, 2);
+    put_record(q->job, square, 101, at.centre, 0, 0);
+    put_record(q->job, other, 102, at.x, at.y, 0);
+    put_half(q->job, square, at.half);
+    for (size_t k = 0; k < 2; k++) put_port(q->job, k, port[k]);
+    q->list.layout[square] = above;
+    q->list.layout[other] = !above;
+}
+
+/* Measure's answer, by points, and First's; now and then every other call too. */
+static bool is_judged(struct question *q) {
+    struct pair pair = first_pair(q);
+    struct given g = given_of(q);
+    int64_t total = plain_total(&g, q->list.layout);
+    q->call = MEASURE;
+    bool ok = check(call_library(q) == (pair.record ? refused_pair(1, 0) : total), q, "by points");
+    around_tried++;
+    around_met += pair.record;
+    if (FIRST < CALLS) ok &= first_is(*q);
+    return ok && (around_tried % 16 != 0 || judged(q));
+}
+
+/* Pads and arms from two units beyond one side of the square to two beyond the other. */
+static bool every_around(struct around at) {
+    static struct question q;
+    int64_t far = at.half + 2, left = at.centre - far < 1 ? 1 : at.centre - far;
+    for (at.x = left; at.x <= at.centre + far; at.x++)
+        for (at.y = -far; at.y <= far && at.x != at.centre; at.y++)
+            for (at.height = -far; at.height <= far; at.height++)
+                for (size_t way = 0; way < 4; way++) {
+                    put_around(&q, at, way % 2, way / 2);
+                    if (!is_judged(&q)) return false;
+                }
+    return true;
+}
+
+/* Half-sides from 0 on, the square beyond the label edge, at it, and off it. */
+static void around_squares(int64_t most) {
+    for (int64_t half = 0; half <= most; half++)
+        for (int64_t centre = 1; centre <= half + 2; centre++)
+            if (!every_around((struct around){centre, half, 0, 0, 0})) return;
+    printf("%ld pads around a square, %ld touch; %ld without a layout\n", around_tried, around_met,
+           around_none);
+    check(FIRST >= CALLS || around_none > 0, NULL, "a square was never in every leader's way");
 }
 
 /* ---- random boards ---- */
 
 static long came[PADS][PADS]; /* by record and earlier record */
 
-/* A layout without a touching pair, in which some entries are then swapped. */
+/* Of a pair that touches: by the square of the later record alone, by that of the earlier alone. */
+static long by_later, by_earlier;
+
+static void count_pair(const struct question *q, struct pair pair) {
+    struct given g = given_of(q);
+    size_t i = (size_t)pair.record, j = (size_t)pair.earlier, p = g.layout[i], r = g.layout[j];
+    bool leaders = plain_cross(&g, i, p, j, r), later = plain_meet(&g, j, r, i);
+    bool earlier = plain_meet(&g, i, p, j);
+    came[pair.record][pair.earlier]++;
+    by_later += later && !earlier && !leaders;
+    by_earlier += earlier && !later && !leaders;
+}
+
+/* A layout whose leaders do not touch, in which some entries are then perhaps swapped. */
 static void random_board(size_t n) {
     static struct question q;
     begin_question(&q, n);
     make_board(q.job, n, below(BOARDS));
     struct plan plan = plan_of(&q);
     any_untouching(&plan, q.list.layout);
-    for (uint32_t swaps = 1 + below(2); swaps > 0; swaps--)
+    any_squares(q.job, &plan);
+    struct given g = given_of(&q);
+    for (uint32_t swaps = plain_no_squares(&g) + below(2); swaps > 0; swaps--)
         swap_entries(&q, below((uint32_t)n), below((uint32_t)n));
     int64_t answer = plain_reply(&q).answer;
     if (!cheremysl_is_refusal(answer)) return;
     struct pair pair = {cheremysl_refusal_record(answer), cheremysl_refusal_earlier(answer)};
-    came[pair.record][pair.earlier]++;
+    count_pair(&q, pair);
     names(&q, pair);
 }
 
@@ -338,6 +507,9 @@ static void report(bool enough) {
         }
     printf("at random %ld with record 0 and %ld with another: %ld different pairs\n", with_0,
            with_another, pairs);
+    printf("%ld by the square of the later record alone, %ld by that of the earlier\n", by_later,
+           by_earlier);
+    check(!enough || (by_later > 0 && by_earlier > 0), NULL, "a square that never came");
 }
 
 int main(int argc, char **argv) {
@@ -347,7 +519,9 @@ int main(int argc, char **argv) {
     plain_points();
     for (size_t k = 0; k < sizeof boards / sizeof *boards; k++) known_board(boards + k);
     every_pair();
+    every_square();
     for (long k = 0; k < 10 * count; k++) two_pairs();
+    around_squares(count < ENOUGH ? 1 : count < 100 ? 2 : 3);
     for (size_t n = 1; n <= 3; n++) every_board(n);
     for (long k = 0; k < count; k++) some_board(4 + below(2));
     for (long k = 0; k < 200 * count; k++) random_board(SMALL);

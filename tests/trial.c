@@ -487,10 +487,11 @@ static bool kept(struct guarded *memory, enum side side, const void *list, size_
 }
 
 static bool spares_work(int64_t answer) {
-    return cheremysl_is_refusal(answer) && cheremysl_refusal_number(answer) != 10;
+    int number = cheremysl_refusal_number(answer);
+    return number != 0 && number != 10 && number != 15;
 }
 
-/* False if a refusal but 10 changed the work list, or anything was written beside it. */
+/* False if a refusal but 10 or 15 changed the work list, or anything was written beside it. */
 static bool kept_work(const struct question *q, enum side side, int64_t answer) {
     size_t bytes = work_bytes_of(q);
     bool spares = spares_work(answer);

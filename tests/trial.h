@@ -142,7 +142,8 @@ void put_arguments(struct question *q, uint64_t *arguments);
 /*
  * The library's reply. It fails if anything but the list that it may write was changed, or if the
  * answer is none that the call can give. A work list holds something else each time: what an
- * earlier call left, zeros, ones, any numbers. Refusals but 10 must leave all of it as it was.
+ * earlier call left, zeros, ones, any numbers. Refusals but 10 and 15 must leave all of it as it
+ * was.
  */
 struct reply ask(const struct question *q, enum side side);
 

@@ -1,12 +1,13 @@
--- The paper's board is a board of strips: untouching layouts, totals, best layouts and their order are those of its lists.
+-- The paper's board is a board of strips, in which a pad may not use the ports that squares bar: untouching layouts, totals, best layouts and their order are those of its lists.
 use mathlib.Core.Path.{_≡_, refl, sym, ap, _∙_, subst}
 use mathlib.Core.Logic.{_⊎_, inl, inr, _↔_}
+use mathlib.Core.Bool.{true, true≢false}
 use mathlib.Core.List.{List, List·Memᴰ}
 use Prim.Native.Nat.{ℕ, zero, suc, _+_, _≤_, _<_, zero-le}
 use native.Mathlib.Omega.{arith}
 use native.Mathlib.Decide.{decLt, ℕ-discrete}
 use lib.ListN.{length, getD, List·getD-eq-default}
-use Rattle.strips.specs.Least.{some}
+use Rattle.strips.specs.Least.{none, some}
 use Rattle.strips.specs.Grid.{Grid, Sol, Misses}
 use Rattle.strips.specs.Grid as strips
 use Rattle.strips.specs.Order.{SameOn, EarlierOn, EarliestOn, earlier-not-same, earlier-asym}
@@ -22,7 +23,8 @@ use Rattle.paper.specs.Leaders.{Between}
 use Rattle.paper.specs.Layouts.{Board, Untouching, sum, total}
 use Rattle.paper.specs.Problem.{Best, Before, FirstBest, NextBest, LastBest, labeling}
 use Rattle.paper.specs.laws.Totals.{sum-same}
-use Rattle.paper.specs.laws.Boards.{untouched-iff, untouching-of}
+use Rattle.paper.specs.laws.Boards.{leaders-apart-iff, untouching-of}
+use Rattle.paper.specs.laws.Squares.{Open, open-iff}
 use Rattle.board.specs.Lists.{ListsOf, CostsOn}
 use Rattle.board.specs.Sides.{low-high, narrow, clear-iff}
 
@@ -103,8 +105,14 @@ module _ {b : Board} {order lo hi : List ℕ} {T : Source} {cost : ℕ → ℕ �
     arranged = arranged W;
   }
 
-  figure-at : (j q : ℕ) → j < b .pads → q < b .ports → figuresOn T (length order) j q ≡ some (cost j q)
-  figure-at j q h k = rw (same-n W) (C .at j q h k)
+  figure-at : (j q : ℕ) → j < b .pads → q < b .ports → Open b j q → figuresOn T (length order) j q ≡ some (cost j q)
+  figure-at j q h k o = rw (same-n W) (C .at j q h k o)
+
+  -- Where there is a figure the leader is open: to be open says of no square that it is met.
+  given-open : (j q : ℕ) → j < b .pads → q < b .ports → given (figuresOn T (length order) j q) ≡ true → Open b j q
+  given-open j q h k e i l ne s m =
+      let none : figuresOn T (length order) j q ≡ none = rw (same-n W) (C .shut j q h k (λ o. o i l ne s m)) in
+      absurd (true≢false (sym e ∙ ap given none))
 
   -- ---- touching
 
@@ -131,7 +139,7 @@ module _ {b : Board} {order lo hi : List ℕ} {T : Source} {cost : ℕ → ℕ �
 
   -- What the search calls a layout is untouching,
   sol-untouching : (f : ℕ → ℕ) → Sol G order 0 (T .ports) f → Untouching b f
-  sol-untouching f s = untouching-of b f port (untouched-iff b f (W .proper .differ) .1 apart)
+  sol-untouching f s = untouching-of b f port (open-iff b f .1 (leaders-apart-iff b f (W .proper .differ) .1 apart, λ i h. given-open i (f i) h (port i h) (s .inside i (member i h) .allowed)))
     where
       port : (j : ℕ) → j < b .pads → f j < b .ports
       port j h = omega (arith, s .inside j (member j h) .high, C .ports)
@@ -152,9 +160,9 @@ module _ {b : Board} {order lo hi : List ℕ} {T : Source} {cost : ℕ → ℕ �
         let i = at p (omega arith) in
         let j = at q k in
         clear-at (f (getD order p 0)) (getD order q 0) (f (getD order q 0)) j (port (getD order p 0) i) (port (getD order q 0) j) .1
-        (untouched-iff b f (W .proper .differ) .0 (u .apart) (getD order p 0) (getD order q 0) i j (W .listed .falls p q h k)));
+        (leaders-apart-iff b f (W .proper .differ) .0 (open-iff b f .0 (u .apart) .0) (getD order p 0) (getD order q 0) i j (W .listed .falls p q h k)));
     inside = λ j m. let l = below j m in
-        record { low = zero-le; high = omega (arith, port j l, C .ports); allowed = ap given (figure-at j (f j) l (port j l)) };
+        record { low = zero-le; high = omega (arith, port j l, C .ports); allowed = ap given (figure-at j (f j) l (port j l) (open-iff b f .0 (u .apart) .1 j l)) };
   }
     where
       port : (j : ℕ) → j < b .pads → f j < b .ports
@@ -167,7 +175,7 @@ module _ {b : Board} {order lo hi : List ℕ} {T : Source} {cost : ℕ → ℕ �
   sum-total f u =
       sum-order (G .cost) f (b .pads) order (distinct (arranged W)) below member
       ∙ sum-to (λ j. G .cost j (f j)) (b .pads)
-      ∙ sum-same (b .pads) (λ j. G .cost j (f j)) (λ j. cost j (f j)) (λ j h. ap value (figure-at j (f j) h (u .layout .inside j h)))
+      ∙ sum-same (b .pads) (λ j. G .cost j (f j)) (λ j. cost j (f j)) (λ j h. ap value (figure-at j (f j) h (u .layout .inside j h) (open-iff b f .0 (u .apart) .1 j h)))
 
   -- ---- best layouts and their order
 

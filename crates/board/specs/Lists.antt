@@ -9,7 +9,8 @@ use lib.Signed.{_≤ℤ_, _<ℤ_}
 use Rattle.numbers.specs.Filled.{Filled}
 use Rattle.order.specs.Falling.{OrderOf}
 use Rattle.paper.specs.Layouts.{Board, Proper}
-use Rattle.strips.specs.Least.{some}
+use Rattle.paper.specs.laws.Squares.{Open}
+use Rattle.strips.specs.Least.{none, some}
 use Rattle.choices.specs.Source.{Source, figuresOn}
 
 -- Of n ports P holds of the first c, and of no other.
@@ -53,7 +54,8 @@ pub record ListsOf (b : Board) (order lo hi : List ℕ) : Type 0 where
   pub listed : OrderOf (b .pads) (b .x) order
   pub sides : SidesOf b lo hi
 
--- Where the search reads, it reads what each pad costs with each port of the board.
+-- Where the search reads, it reads what each pad costs with each port of the board to which its leader is open, and none for the others.
 pub record CostsOn (b : Board) (cost : ℕ → ℕ → ℕ) (T : Source) : Type 0 where
   pub ports : T .ports ≡ b .ports
-  pub at : (j q : ℕ) → j < b .pads → q < b .ports → figuresOn T (b .pads) j q ≡ some (cost j q)
+  pub at : (j q : ℕ) → j < b .pads → q < b .ports → Open b j q → figuresOn T (b .pads) j q ≡ some (cost j q)
+  pub shut : (j q : ℕ) → j < b .pads → q < b .ports → ¬ Open b j q → figuresOn T (b .pads) j q ≡ none

@@ -1,5 +1,7 @@
-// The lists of a job's board: its pads from right to left, and their sides among the ports. Every number of the job is read
-// from its bytes.
+// The lists of a job's board: its pads from right to left, and their sides among the ports; in `bars` the ports that squares
+// bar. Every number of the job is read from its bytes.
+pub mod bars;
+
 use paper::Form;
 ghost use mathlib.Core.Path.{_≡_};
 ghost use Prim.Native.Nat.{_≤_};

@@ -11,10 +11,10 @@ use Rattle.paper.specs.declared.Paged.{Paged}
 use Rattle.paper.specs.declared.Work.the-variants.{Unlent}
 use Rattle.paper.specs.Job.{records, count}
 use Rattle.paper.specs.Layouts.{boardOf, weighted, byWeights, byTable, TableOf}
-use Rattle.paper.specs.Refusals.{Passed, firstTrials, measureTrials}
+use Rattle.paper.specs.Refusals.{Passed, soundTrials, measureTrials}
 use Rattle.paper.specs.Promises.{FirstAnswers, NextAnswers, PageAnswers}
 use Rattle.paper.specs.laws.Accepted.{AcceptedJob, Fair}
-use Rattle.paper.specs.laws.Alike.{first-follows, measure-follows, first-on, next-on, page-on}
+use Rattle.paper.specs.laws.Alike.{sound-follows, measure-follows, first-on, next-on, page-on}
 
 -- An accepted job's table has at most 4,096 figures.
 abbrev square : List ℕ → ℕ
@@ -31,8 +31,8 @@ module _ (job : List ℕ) (lw bw : ℕ) (fair : Fair (boardOf (records job)) (by
   pub front-long : square job ≤ length (figures ++ rest)
   front-long = omega (arith, length-append figures rest, T .long)
 
-  pub first-lent : (room : ℕ) → Passed (firstTrials (records job) (byWeights lw bw) Unlent room) → Passed (firstTrials (records job) (byTable (take (square job) (figures ++ rest))) Unlent room)
-  first-lent room p = rw front (first-follows (records job) (byWeights lw bw) (byTable figures) fair (T .long) (λ i q h k. sym (T .at i q h k)) Unlent room .0 p)
+  pub first-lent : (room : ℕ) → Passed (soundTrials (records job) (byWeights lw bw) Unlent room) → Passed (soundTrials (records job) (byTable (take (square job) (figures ++ rest))) Unlent room)
+  first-lent room p = rw front (sound-follows (records job) (byWeights lw bw) (byTable figures) fair (T .long) (λ i q h k. sym (T .at i q h k)) Unlent room .0 p)
 
   pub measure-lent : (list : List ℕ) → Passed (measureTrials (records job) (byWeights lw bw) Unlent list) → Passed (measureTrials (records job) (byTable (take (square job) (figures ++ rest))) Unlent list)
   measure-lent list p = rw front (measure-follows (records job) (byWeights lw bw) (byTable figures) fair (T .long) (λ i q h k. sym (T .at i q h k)) Unlent list .0 p)

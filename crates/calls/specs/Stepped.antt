@@ -1,11 +1,12 @@
--- What Next answers of a layout that passed the checks: 10 where it is not best.
+-- What First answers of a job that passed the checks, and Next of a layout: 15 where no layout is untouching, 10 where it is not best.
 use Rattle.paper.specs.declared.Answer.{Answer}
 use Rattle.paper.specs.declared.Answer.the-variants.{Total as Sum, End as Last, Refused}
 use Rattle.paper.specs.Refusals.{refusal}
 use Rattle.layouts.specs.declared.Step.{Step}
-use Rattle.layouts.specs.declared.Step.the-variants.{Total, End, NotBest}
+use Rattle.layouts.specs.declared.Step.the-variants.{Total, End, NotBest, NoLayout}
 
 abbrev pub answerOf : Step → Answer
 answerOf (Total t) = Sum t
 answerOf End = Last
 answerOf NotBest = Refused (refusal 10 0 0)
+answerOf NoLayout = Refused (refusal 15 0 0)

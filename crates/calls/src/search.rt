@@ -8,15 +8,15 @@ ghost use mathlib.Core.Path.{_≡_};
 ghost use lib.ListN.{length};
 ghost use Rattle.paper.specs.Job.{records};
 ghost use Rattle.paper.specs.Layouts.{byTable};
-ghost use Rattle.paper.specs.Refusals.{Passed, refusal, firstTrials, measureTrials};
+ghost use Rattle.paper.specs.Refusals.{Passed, refusal, soundTrials, measureTrials};
 ghost use Rattle.paper.specs.Promises.{FirstAnswers, NextAnswers, PageAnswers};
 ghost use Rattle.calls.specs.Stepped.{answerOf};
 
 pub fn first(job: &[u8], figures: &[u32], list: &mut [u16]) -> Answer
-    requires { ⌜ Passed (firstTrials (records (now job)) (byTable (now figures)) Work.Unlent (length (now list))) ⌝ }
+    requires { ⌜ Passed (soundTrials (records (now job)) (byTable (now figures)) Work.Unlent (length (now list))) ⌝ }
     ensures { λ r. ⌜ FirstAnswers (records (now (job .entry))) (byTable (now (figures .entry))) Work.Unlent (now (list .entry)) r (now (list .exit)) ⌝ }
 {
-    Answer::Total(layouts::first_on(job, figures, list))
+    answer_of(layouts::first_on(job, figures, list))
 }
 
 // 10: the given layout has no touching pair but isn't best.
@@ -30,7 +30,18 @@ fn not_best() -> Refusal
     }
 }
 
-// What Next answers of a layout that passed the checks.
+// 15: no layout is untouching.
+fn no_layout() -> Refusal
+    ensures { λ r. ⌜ r ≡ refusal 15 0 0 ⌝ }
+{
+    Refusal {
+        reason: 15,
+        at: 0,
+        earlier: 0,
+    }
+}
+
+// What First answers of a job that passed the checks, and Next of a layout.
 pub fn answer_of(s: Step) -> Answer
     ensures { λ r. ⌜ r ≡ answerOf s ⌝ }
 {
@@ -38,6 +49,7 @@ pub fn answer_of(s: Step) -> Answer
         Step::Total(t) => Answer::Total(t),
         Step::End => Answer::End,
         Step::NotBest => Answer::Refused(not_best()),
+        Step::NoLayout => Answer::Refused(no_layout()),
     }
 }
 

@@ -32,7 +32,7 @@ pub fn first(
         list.len(),
     );
     match v {
-        Verdict::Sound => Answer::Total(layouts::slotted::first_on(
+        Verdict::Sound => search::answer_of(layouts::slotted::first_on(
             pads,
             ports,
             lw,

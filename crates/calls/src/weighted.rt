@@ -7,11 +7,11 @@ use paper::Work;
 ghost use lib.ListN.{length};
 ghost use Rattle.paper.specs.Job.{records};
 ghost use Rattle.paper.specs.Layouts.{byWeights};
-ghost use Rattle.paper.specs.Refusals.{Passed, firstTrials, measureTrials};
+ghost use Rattle.paper.specs.Refusals.{Passed, soundTrials, measureTrials};
 ghost use Rattle.paper.specs.Promises.{FirstAnswers, NextAnswers, PageAnswers};
 
 pub fn first(job: &[u8], lw: u32, bw: u32, list: &mut [u16]) -> Answer
-    requires { ⌜ Passed (firstTrials (records (now job)) (byWeights lw bw) Work.Unlent (length (now list))) ⌝ }
+    requires { ⌜ Passed (soundTrials (records (now job)) (byWeights lw bw) Work.Unlent (length (now list))) ⌝ }
     ensures { λ r. ⌜ FirstAnswers (records (now (job .entry))) (byWeights lw bw) Work.Unlent (now (list .entry)) r (now (list .exit)) ⌝ }
 {
     let n = job.len() / 16;

@@ -11,10 +11,10 @@ use Rattle.paper.specs.declared.Refusal.{Refusal}
 use Rattle.paper.specs.declared.Work.{Work}
 use Rattle.paper.specs.Job.{Job}
 use Rattle.paper.specs.Layouts.{Badness}
-use Rattle.paper.specs.Refusals.{Trial, Smallest, Passed, RefusedBy, firstTrials, measureTrials, drawTrials}
+use Rattle.paper.specs.Refusals.{Trial, Smallest, Passed, RefusedBy, soundTrials, measureTrials, drawTrials}
 use Rattle.paper.specs.laws.Tests.{Test, atEach, atPairs, withEarlier, drawTests}
 use Rattle.paper.specs.laws.Trials.{passed-append, refused-left, refused-right}
-use Rattle.paper.specs.laws.Decided.{reasonOf, TestOf, TestsOf, firstTestsOf, measureTestsOf, first-tests, measure-tests, draw-tests}
+use Rattle.paper.specs.laws.Decided.{reasonOf, TestOf, TestsOf, soundTestsOf, measureTestsOf, sound-tests, measure-tests, draw-tests}
 use Rattle.find.specs.declared.Found.{Found}
 use Rattle.find.specs.declared.Found.the-variants.{At, Nowhere}
 use Rattle.find.specs.Search.{firstWhere, firstPairWhere, andAt, pairAt, at-is, none-at}
@@ -110,8 +110,8 @@ tests-judge (s ∷ ss) [] a = absurd a
 tests-judge (s ∷ ss) (t ∷ ts) (a, k) = judged-on (outcome (reasonOf s) (foundBy s)) ss (t ∷ []) ts (test-judged s t a) (λ p. tests-judge ss ts (k (p .0)))
 
 -- THEOREM, for every input of First, of Measure and of Draw.
-pub first-judged : (job : Job) (bad : Badness) (work : Work) (room : ℕ) → Judged (verdictAfter Sound (firstTestsOf job bad work room)) (firstTrials job bad work room)
-first-judged job bad work room = tests-judge (firstTestsOf job bad work room) (firstTrials job bad work room) (first-tests job bad work room)
+pub sound-judged : (job : Job) (bad : Badness) (work : Work) (room : ℕ) → Judged (verdictAfter Sound (soundTestsOf job bad work room)) (soundTrials job bad work room)
+sound-judged job bad work room = tests-judge (soundTestsOf job bad work room) (soundTrials job bad work room) (sound-tests job bad work room)
 
 pub measure-judged : (job : Job) (bad : Badness) (work : Work) (list : List ℕ)
     → Judged (verdictAfter Sound (measureTestsOf job bad work list)) (measureTrials job bad work list)

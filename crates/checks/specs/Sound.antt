@@ -13,7 +13,7 @@ use Rattle.paper.specs.declared.Work.{Work}
 use Rattle.paper.specs.Job.{count, portCount}
 use Rattle.paper.specs.Layouts.{held}
 use Rattle.paper.specs.laws.Tests.{badSize, badEntry, Test, atEach, atPairs, atWhole}
-use Rattle.paper.specs.laws.Tests.{sizeTests, enoughTests, workTests, roomTests, jobTests, firstTests}
+use Rattle.paper.specs.laws.Tests.{sizeTests, enoughTests, workTests, roomTests, jobTests, soundTests}
 use Rattle.find.specs.declared.Found.{Found}
 use Rattle.find.specs.declared.Found.the-variants.{At, Nowhere}
 use Rattle.find.specs.Search.{firstWhere, none-at, or-false-left, or-false-right}
@@ -68,8 +68,8 @@ entries-below n p list e k h = leb-false p (held list k) (or-false-left _ _ (non
 
 -- None of First's given: so few bytes, and room for the layout.
 pub first-sized : (form : Form) (pads ports : List ℕ) (given : Test) (work : Work) (room : ℕ) → Formed form pads ports
-    → verdictAfter Sound (firstTests form pads ports given work room) ≡ Sound → Few form pads ports × (count pads ≤ room)
-unfolding firstTests
+    → verdictAfter Sound (soundTests form pads ports given work room) ≡ Sound → Few form pads ports × (count pads ≤ room)
+unfolding soundTests
 first-sized form pads ports given work room formed e =
     let sized = verdictAfter Sound (sizeTests form pads ports) in
     let rest = roomTests form pads ports work room ++ jobTests form pads ports in

@@ -14,8 +14,8 @@ ghost use lib.ListN.{length};
 ghost use Rattle.paper.specs.Job.{count, portCount};
 ghost use Rattle.paper.specs.Layouts.{boardFrom, held};
 ghost use Rattle.paper.specs.Refusals.{workNeeded};
-ghost use Rattle.paper.specs.laws.Tests.{badWeight, badTable, badEntry, meetAt, atEach, atPairs, atWhole};
-ghost use Rattle.paper.specs.laws.Tests.{sizeTests, enoughTests, workTests, roomTests, fieldTests, placeTests, jobTests, layoutTests, firstTests, measureTests, drawTests};
+ghost use Rattle.paper.specs.laws.Tests.{badWeight, badTable, badEntry, recordsTouch, atEach, atPairs, atWhole};
+ghost use Rattle.paper.specs.laws.Tests.{sizeTests, enoughTests, workTests, roomTests, fieldTests, placeTests, jobTests, layoutTests, soundTests, measureTests, drawTests};
 ghost use Rattle.find.specs.Dispatch.{testOf, numberOf, Led};
 ghost use Rattle.checks.specs.Verdicts.{outcome, andThen, verdictAfter, givenTest, Formed, Short, Few};
 
@@ -77,7 +77,7 @@ fn try_entries(v: Verdict, form: Form, job: &[u8], ports: &[u8], list: &[u16]) -
 // 9: the leaders of the records, two at a time.
 fn try_touching(v: Verdict, form: Form, job: &[u8], ports: &[u8], list: &[u16]) -> Verdict
     requires { ⌜ (v ≡ Verdict.Sound → Short (now job) (now ports) × Led (now list) (count (now job)) (portCount form (now ports))) ⌝ }
-    ensures { λ r. ⌜ r ≡ andThen v (atPairs 9 (count (now (job .entry))) (meetAt (boardFrom form (now (job .entry)) (now (ports .entry))) (held (now (list .entry))))) ⌝ }
+    ensures { λ r. ⌜ r ≡ andThen v (atPairs 9 (count (now (job .entry))) (recordsTouch (boardFrom form (now (job .entry)) (now (ports .entry))) (held (now (list .entry))))) ⌝ }
 {
     match v {
         Verdict::Sound => verdict(
@@ -205,7 +205,7 @@ pub fn of_table(job: &[u8], figures: usize) -> Given
     }
 }
 
-// First, with such a work list and room for so many entries: 1, 2 or 13, 3, 14, 24 and the job's.
+// First, with such a work list and room for so many entries: 1, 2 or 13, 3, 14, 24 and the job's. Its 15 is found by the search.
 pub fn of_first(
     form: Form,
     job: &[u8],
@@ -215,7 +215,7 @@ pub fn of_first(
     room: usize,
 ) -> Verdict
     requires { ⌜ Formed form (now job) (now ports) ⌝ }
-    ensures { λ r. ⌜ r ≡ verdictAfter Verdict.Sound (firstTests form (now (job .entry)) (now (ports .entry)) (givenTest given) work room) ⌝ }
+    ensures { λ r. ⌜ r ≡ verdictAfter Verdict.Sound (soundTests form (now (job .entry)) (now (ports .entry)) (givenTest given) work room) ⌝ }
 {
     let v1 = of_sizes(form, job, ports);
     let v2 = try_whole(v1, given.reason, given.fault);

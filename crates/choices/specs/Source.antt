@@ -19,14 +19,15 @@ pub record Source : Type 0 where
   pub heads : List ℕ
   pub totals : List ℕ
   pub costs : List ℕ
+  pub bars : List ℕ
   pub ports : ℕ
 
-abbrev pub source : List ℕ → List ℕ → List ℕ → ℕ → Source
-source hs ts cs p = record { heads = hs; totals = ts; costs = cs; ports = p }
+abbrev pub source : List ℕ → List ℕ → List ℕ → List ℕ → ℕ → Source
+source hs ts cs bs p = record { heads = hs; totals = ts; costs = cs; bars = bs; ports = p }
 
--- The figures of n pads: those of the work list, or those of the table.
+-- The figures of n pads: those of the work list, or those of the table, none where it has a bar.
 abbrev pub figuresOn : Source → ℕ → ℕ → ℕ → Least
-figuresOn T n j q = cond (eqb (length (T .heads)) 0) (figuresIn (T .totals) n (T .ports) j q) (figures (T .costs) n j q)
+figuresOn T n j q = cond (eqb (length (T .heads)) 0) (figuresIn (T .totals) n (T .ports) j q) (figures (T .costs) (T .bars) n j q)
 
 -- The board.
 abbrev pub gridOn : List ℕ → Source → List ℕ → List ℕ → Grid
@@ -35,7 +36,7 @@ gridOn order T lo hi = grid (sidesOf lo hi) (figuresOn T (length order))
 -- What is read there is right.
 pub record Full (order : List ℕ) (T : Source) (lo hi : List ℕ) : Type 0 where
   pub ports : T .ports ≡ length order
-  pub table : totals.Table order (T .costs) lo hi (T .heads) (T .totals)
+  pub table : totals.Table order (T .costs) (T .bars) lo hi (T .heads) (T .totals)
 
 pub record Right (order : List ℕ) (T : Source) (lo hi : List ℕ) : Type 0 where
   pub full : 0 < length (T .heads) → Full order T lo hi
@@ -46,9 +47,9 @@ module _ (order : List ℕ) (T : Source) (lo hi : List ℕ) where
   pub slots-grid : length (T .heads) ≡ 0 → gridOn order T lo hi ≡ slotGrid order lo hi (T .ports) (T .totals)
   slots-grid e =
       λ i. grid (sidesOf lo hi) (λ j q. cond (eq-eqb (length (T .heads)) 0 e i) (figuresIn (T .totals) (length order) (T .ports) j q)
-      (figures (T .costs) (length order) j q))
+      (figures (T .costs) (T .bars) (length order) j q))
 
-  pub full-grid : (length (T .heads) ≡ 0 → ⊥) → gridOn order T lo hi ≡ gridOf order (T .costs) lo hi
+  pub full-grid : (length (T .heads) ≡ 0 → ⊥) → gridOn order T lo hi ≡ gridOf order (T .costs) (T .bars) lo hi
   full-grid n =
       λ i. grid (sidesOf lo hi) (λ j q. cond (ne-eqb (length (T .heads)) 0 n i) (figuresIn (T .totals) (length order) (T .ports) j q)
-      (figures (T .costs) (length order) j q))
+      (figures (T .costs) (T .bars) (length order) j q))

@@ -1,7 +1,8 @@
 // The smallest locally best port for a pad, from any port on, over plain numbers: `order` has the record numbers, rightmost
 // pad first; `lo` and `hi` say how many of the p ports lie below a pad, and how many at its height or below. For as many
-// ports as pads `cost` has n × n figures, by pad and port, and `heads` and `totals` are the table of these; where `heads`
-// is empty, `totals` is the work list of the crate `slots`, which has figures and totals, and `cost` plays no part.
+// ports as pads `cost` has n × n figures, by pad and port, `bars` as many bytes, not 0 where a pad may not use a port, and
+// `heads` and `totals` are the table of these; where `heads` is empty, `totals` is the work list of the crate `slots`, which
+// has figures and totals, and `cost` and `bars` play no part.
 // `known` is a walk's memory: of place k it has at k and 64 + k the strip, its first port and the port after its last,
 // and at 128 + k and 192 + k 1 + the smallest and 1 + the largest locally best port of that strip, or 0: not known.
 ghost use mathlib.Core.Path.{_≡_};
@@ -68,6 +69,7 @@ fn next_port(
     totals: &[u64],
     order: &[u8],
     cost: &[u32],
+    bars: &[u8],
     lo: &[u8],
     hi: &[u8],
     p: usize,
@@ -76,16 +78,16 @@ fn next_port(
     b: usize,
     from: usize,
 ) -> usize
-    requires { ⌜ Pads (now order) (now lo) (now hi) p × Right (now order) (source (now heads) (now totals) (now cost) p) (now lo) (now hi) ⌝ }
-    requires { ⌜ Ready (gridOn (now order) (source (now heads) (now totals) (now cost) p) (now lo) (now hi)) (now order) p m a b ⌝ }
+    requires { ⌜ Pads (now order) (now lo) (now hi) p × Right (now order) (source (now heads) (now totals) (now cost) (now bars) p) (now lo) (now hi) ⌝ }
+    requires { ⌜ Ready (gridOn (now order) (source (now heads) (now totals) (now cost) (now bars) p) (now lo) (now hi)) (now order) p m a b ⌝ }
     requires { ⌜ (a ≤ from) × (from ≤ b) ⌝ }
-    ensures { λ q. ⌜ NextPort (Leads (gridOn (now (order .entry)) (source (now (heads .entry)) (now (totals .entry)) (now (cost .entry)) p) (now (lo .entry))
-        (now (hi .entry))) (now (order .entry)) m a b) from b q ⌝ }
+    ensures { λ q. ⌜ NextPort (Leads (gridOn (now (order .entry)) (source (now (heads .entry)) (now (totals .entry)) (now (cost .entry)) (now (bars .entry)) p)
+        (now (lo .entry)) (now (hi .entry))) (now (order .entry)) m a b) from b q ⌝ }
 {
     if heads.len() == 0 {
         slots::next_port(totals, order, lo, hi, p, m, a, b, from)
     } else {
-        totals::next_port(heads, totals, order, cost, lo, hi, m, a, b, from)
+        totals::next_port(heads, totals, order, cost, bars, lo, hi, m, a, b, from)
     }
 }
 
@@ -95,6 +97,7 @@ fn choose(
     totals: &[u64],
     order: &[u8],
     cost: &[u32],
+    bars: &[u8],
     lo: &[u8],
     hi: &[u8],
     p: usize,
@@ -102,11 +105,11 @@ fn choose(
     m: usize,
     from: usize,
 ) -> usize
-    requires { ⌜ Right (now order) (source (now heads) (now totals) (now cost) p) (now lo) (now hi) ⌝ }
+    requires { ⌜ Right (now order) (source (now heads) (now totals) (now cost) (now bars) p) (now lo) (now hi) ⌝ }
     requires { ⌜ (length (now known) ≡ 256) × (m < 64) × Pads (now order) (now lo) (now hi) p ⌝ }
-    requires { ⌜ Ready (gridOn (now order) (source (now heads) (now totals) (now cost) p) (now lo) (now hi)) (now order) p m (startAt (now known) m)
+    requires { ⌜ Ready (gridOn (now order) (source (now heads) (now totals) (now cost) (now bars) p) (now lo) (now hi)) (now order) p m (startAt (now known) m)
         (stopAt (now known) m) ⌝ }
-    ensures { λ q. ⌜ Chosen (LeadsAt (now (order .entry)) (source (now (heads .entry)) (now (totals .entry)) (now (cost .entry)) p) (now (lo .entry))
+    ensures { λ q. ⌜ Chosen (LeadsAt (now (order .entry)) (source (now (heads .entry)) (now (totals .entry)) (now (cost .entry)) (now (bars .entry)) p) (now (lo .entry))
         (now (hi .entry)) (now (known .entry)) m) from q ⌝ }
 {
     let a = known[m] as usize;
@@ -115,7 +118,7 @@ fn choose(
     if b <= start {
         return 128;
     }
-    let q = next_port(heads, totals, order, cost, lo, hi, p, m, a, b, start);
+    let q = next_port(heads, totals, order, cost, bars, lo, hi, p, m, a, b, start);
     if q < b { q } else { 128 }
 }
 
@@ -125,6 +128,7 @@ pub fn lowest(
     totals: &[u64],
     order: &[u8],
     cost: &[u32],
+    bars: &[u8],
     lo: &[u8],
     hi: &[u8],
     p: usize,
@@ -133,20 +137,20 @@ pub fn lowest(
     known: &mut [u8],
     m: usize,
 ) -> usize
-    requires { ⌜ Working (now order) (source (now heads) (now totals) (now cost) p) (now lo) (now hi) (now w) ⌝ }
-    requires { ⌜ (m < length (now order)) × Begun (now order) (source (now heads) (now totals) (now cost) p) (now lo) (now hi) (now w) m ⌝ }
-    requires { ⌜ Placed (now order) (now w) m (now at) × Known (now order) (source (now heads) (now totals) (now cost) p) (now lo) (now hi) (now known) ⌝ }
-    ensures { λ q. ⌜ Chosen (LocallyBest (now (order .entry)) (source (now (heads .entry)) (now (totals .entry)) (now (cost .entry)) p) (now (lo .entry))
-        (now (hi .entry)) (now (w .entry)) m) 0 q ⌝ }
-    ensures { λ _. ⌜ Learnt (now (order .entry)) (source (now (heads .entry)) (now (totals .entry)) (now (cost .entry)) p) (now (lo .entry)) (now (hi .entry))
-        (now (w .entry)) m (now (known .entry)) (now (known .exit)) ⌝ }
+    requires { ⌜ Working (now order) (source (now heads) (now totals) (now cost) (now bars) p) (now lo) (now hi) (now w) ⌝ }
+    requires { ⌜ (m < length (now order)) × Begun (now order) (source (now heads) (now totals) (now cost) (now bars) p) (now lo) (now hi) (now w) m ⌝ }
+    requires { ⌜ Placed (now order) (now w) m (now at) × Known (now order) (source (now heads) (now totals) (now cost) (now bars) p) (now lo) (now hi) (now known) ⌝ }
+    ensures { λ q. ⌜ Chosen (LocallyBest (now (order .entry)) (source (now (heads .entry)) (now (totals .entry)) (now (cost .entry)) (now (bars .entry)) p)
+        (now (lo .entry)) (now (hi .entry)) (now (w .entry)) m) 0 q ⌝ }
+    ensures { λ _. ⌜ Learnt (now (order .entry)) (source (now (heads .entry)) (now (totals .entry)) (now (cost .entry)) (now (bars .entry)) p) (now (lo .entry))
+        (now (hi .entry)) (now (w .entry)) m (now (known .entry)) (now (known .exit)) ⌝ }
 {
     settle(order, lo, hi, p, w, at, known, m);
     let f = known[128 + m] as usize;
     if 0 < f {
         return f - 1;
     }
-    let q = choose(heads, totals, order, cost, lo, hi, p, known, m, 0);
+    let q = choose(heads, totals, order, cost, bars, lo, hi, p, known, m, 0);
     known[128 + m] = (q + 1) as u8;
     q
 }
@@ -158,6 +162,7 @@ pub fn above(
     totals: &[u64],
     order: &[u8],
     cost: &[u32],
+    bars: &[u8],
     lo: &[u8],
     hi: &[u8],
     p: usize,
@@ -167,20 +172,20 @@ pub fn above(
     m: usize,
     from: usize,
 ) -> usize
-    requires { ⌜ Working (now order) (source (now heads) (now totals) (now cost) p) (now lo) (now hi) (now w) ⌝ }
-    requires { ⌜ (m < length (now order)) × Begun (now order) (source (now heads) (now totals) (now cost) p) (now lo) (now hi) (now w) m ⌝ }
-    requires { ⌜ Placed (now order) (now w) m (now at) × Known (now order) (source (now heads) (now totals) (now cost) p) (now lo) (now hi) (now known) ⌝ }
+    requires { ⌜ Working (now order) (source (now heads) (now totals) (now cost) (now bars) p) (now lo) (now hi) (now w) ⌝ }
+    requires { ⌜ (m < length (now order)) × Begun (now order) (source (now heads) (now totals) (now cost) (now bars) p) (now lo) (now hi) (now w) m ⌝ }
+    requires { ⌜ Placed (now order) (now w) m (now at) × Known (now order) (source (now heads) (now totals) (now cost) (now bars) p) (now lo) (now hi) (now known) ⌝ }
     requires { ⌜ Current p (now order) (now lo) (now hi) (now w) (now known) m × (0 < from) × (from ≤ 128) ⌝ }
-    ensures { λ q. ⌜ Chosen (LocallyBest (now (order .entry)) (source (now (heads .entry)) (now (totals .entry)) (now (cost .entry)) p) (now (lo .entry))
-        (now (hi .entry)) (now (w .entry)) m) from q ⌝ }
-    ensures { λ _. ⌜ Learnt (now (order .entry)) (source (now (heads .entry)) (now (totals .entry)) (now (cost .entry)) p) (now (lo .entry)) (now (hi .entry))
-        (now (w .entry)) m (now (known .entry)) (now (known .exit)) ⌝ }
+    ensures { λ q. ⌜ Chosen (LocallyBest (now (order .entry)) (source (now (heads .entry)) (now (totals .entry)) (now (cost .entry)) (now (bars .entry)) p)
+        (now (lo .entry)) (now (hi .entry)) (now (w .entry)) m) from q ⌝ }
+    ensures { λ _. ⌜ Learnt (now (order .entry)) (source (now (heads .entry)) (now (totals .entry)) (now (cost .entry)) (now (bars .entry)) p) (now (lo .entry))
+        (now (hi .entry)) (now (w .entry)) m (now (known .entry)) (now (known .exit)) ⌝ }
 {
     if known[192 + m] as usize == from {
         return 128;
     }
     settle(order, lo, hi, p, w, at, known, m);
-    let q = choose(heads, totals, order, cost, lo, hi, p, known, m, from);
+    let q = choose(heads, totals, order, cost, bars, lo, hi, p, known, m, from);
     if 128 <= q {
         known[192 + m] = from as u8;
     }

@@ -5,10 +5,11 @@ ghost use mathlib.Core.Path.{_≡_};
 ghost use Prim.Native.Nat.{_≤_, _<_};
 ghost use lib.Dec.{ltb};
 ghost use lib.ListN.{length};
+ghost use lib.Signed.{mag};
 ghost use Rattle.paper.specs.Job.{count, lastOf, portCount};
 ghost use Rattle.paper.specs.Layouts.{boardFrom, held};
 ghost use Rattle.paper.specs.Refusals.{workNeeded};
-ghost use Rattle.paper.specs.laws.Tests.{badSize, badWeight, badTable, outside, badLast, badField, badHeight, notAbove, tooClose, sameName, sameX, between, leadersMeet, meetAt, badNumber};
+ghost use Rattle.paper.specs.laws.Tests.{badSize, badWeight, badTable, outside, badLast, badField, badHeight, notAbove, tooClose, sameName, sameX, between, leadersMeet, meets, covers, recordsTouch, badNumber};
 
 // 1: the byte count, of records of so many bytes.
 pub fn bad_size(one: usize, most: usize, bytes: &[u8]) -> bool
@@ -69,7 +70,7 @@ pub fn bad_field(form: Form, job: &[u8], i: u16) -> bool
 {
     let x = job::x(job, i);
     (job::name(job, i) == 0)
-        | (job::reserved(job, i) != 0)
+        | (2000 < job::half_side(job, i))
         | (x < 1)
         | (1000000 < x)
         | out_of_range(job::y(job, i))
@@ -148,21 +149,54 @@ fn leaders_touch(x: u32, y: i64, port: i64, x2: u32, y2: i64, port2: i64) -> boo
     }
 }
 
+// A pad at (x, y) led to the height port, and a square around (x2, y2): the arm alone can meet it where the hand is right of it.
+fn meets(x: u32, y: i64, port: i64, x2: u32, y2: i64, half: u16) -> bool
+    requires { ⌜ (mag y < 2147483648) × (mag port < 2147483648) × (mag y2 < 2147483648) ⌝ }
+    ensures { λ r. ⌜ r ≡ meets (record { x = x; y = y; port = port }) (record { x = x2; y = y2; half = half }) ⌝ }
+{
+    if x as u64 + (half as u64) < x2 as u64 {
+        return false;
+    }
+    let top = job::raised(y2, half);
+    let bottom = job::lowered(y2, half);
+    if x2 as u64 + (half as u64) < x as u64 {
+        (port <= top) & (bottom <= port)
+    } else {
+        ((port <= top) | (y <= top)) & ((bottom <= port) | (bottom <= y))
+    }
+}
+
+// The same where the square is more than a point.
+fn covers(x: u32, y: i64, port: i64, x2: u32, y2: i64, half: u16) -> bool
+    requires { ⌜ (mag y < 2147483648) × (mag port < 2147483648) × (mag y2 < 2147483648) ⌝ }
+    ensures { λ r. ⌜ r ≡ covers (record { x = x; y = y; port = port }) (record { x = x2; y = y2; half = half }) ⌝ }
+{
+    if half == 0 {
+        false
+    } else {
+        meets(x, y, port, x2, y2, half)
+    }
+}
+
+// Records i and j: their leaders, and the leader of each with the square of the other.
 pub fn touches(form: Form, job: &[u8], ports: &[u8], list: &[u16], i: u16, j: u16) -> bool
     requires { ⌜ (i < count (now job)) × (i < length (now list)) × (held (now list) i < portCount form (now ports)) ⌝ }
     requires { ⌜ (j < count (now job)) × (j < length (now list)) × (held (now list) j < portCount form (now ports)) ⌝ }
-    ensures { λ r. ⌜ r ≡ meetAt (boardFrom form (now (job .entry)) (now (ports .entry))) (held (now (list .entry))) i j ⌝ }
+    ensures { λ r. ⌜ r ≡ recordsTouch (boardFrom form (now (job .entry)) (now (ports .entry))) (held (now (list .entry))) i j ⌝ }
 {
-    let q = list[i as usize];
-    let q2 = list[j as usize];
-    leaders_touch(
-        job::x(job, i),
-        job::y(job, i),
-        job::port(form, ports, q),
-        job::x(job, j),
-        job::y(job, j),
-        job::port(form, ports, q2),
-    )
+    let x = job::x(job, i);
+    let y = job::y(job, i);
+    let port = job::port(form, ports, list[i as usize]);
+    let x2 = job::x(job, j);
+    let y2 = job::y(job, j);
+    let port2 = job::port(form, ports, list[j as usize]);
+    if leaders_touch(x, y, port, x2, y2, port2) {
+        return true;
+    }
+    if covers(x, y, port, x2, y2, job::half_side(job, j)) {
+        return true;
+    }
+    covers(x2, y2, port2, x, y, job::half_side(job, i))
 }
 
 // 11: Draw's record number and port number.

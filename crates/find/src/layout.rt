@@ -6,7 +6,7 @@ ghost use Prim.Native.Nat.{_≤_};
 ghost use lib.ListN.{length};
 ghost use Rattle.paper.specs.Job.{count, portCount};
 ghost use Rattle.paper.specs.Layouts.{boardFrom, held};
-ghost use Rattle.paper.specs.laws.Tests.{badEntry, meetAt};
+ghost use Rattle.paper.specs.laws.Tests.{badEntry, recordsTouch};
 ghost use Rattle.find.specs.Search.{firstWhere, firstPairWhere};
 ghost use Rattle.find.specs.Dispatch.{Led};
 
@@ -34,7 +34,7 @@ pub fn first_bad_entry(list: &[u16], n: u16, p: u16) -> Found
 // The smallest record that touches an earlier one, and with it the smallest such earlier record.
 pub fn first_touching(form: Form, job: &[u8], ports: &[u8], list: &[u16], n: u16) -> Found
     requires { ⌜ (n ≡ count (now job)) × Led (now list) n (portCount form (now ports)) ⌝ }
-    ensures { λ r. ⌜ r ≡ firstPairWhere (meetAt (boardFrom form (now (job .entry)) (now (ports .entry))) (held (now (list .entry)))) n ⌝ }
+    ensures { λ r. ⌜ r ≡ firstPairWhere (recordsTouch (boardFrom form (now (job .entry)) (now (ports .entry))) (held (now (list .entry)))) n ⌝ }
 {
     let mut found = Found::Nowhere;
     let mut i: u16 = 0;

@@ -3,9 +3,9 @@ use paper::Form;
 ghost use mathlib.Core.Path.{_≡_};
 ghost use Prim.Native.Nat.{_+_, _*_, _<_, _≤_};
 ghost use lib.ListN.{length};
-ghost use lib.IntN.{natAbs};
+ghost use lib.IntN.{pos, natAbs, _+ℤ_, _-ℤ_};
 ghost use lib.Signed.{mag};
-ghost use Rattle.paper.specs.Job.{u16At, u32At, twos, count, nameOf, reservedOf, xOf, yOf, lastOf, strideOf, offsetOf, portCount, portOf};
+ghost use Rattle.paper.specs.Job.{u16At, u32At, twos, count, nameOf, halfOf, xOf, yOf, lastOf, strideOf, offsetOf, portCount, portOf};
 ghost use Rattle.paper.specs.Leaders.{distance};
 
 fn wide(x: u8) -> u16
@@ -53,6 +53,21 @@ pub fn distance(y: i64, q: i64) -> u64
     size(y - q)
 }
 
+// The heights that are n above and n below y: a square's top and bottom.
+pub fn raised(y: i64, n: u16) -> i64
+    requires { ⌜ mag y < 2147483648 ⌝ }
+    ensures { λ r. ⌜ (r ≡ y +ℤ pos n) × (mag r < 4294967296) ⌝ }
+{
+    y + n as i64
+}
+
+pub fn lowered(y: i64, n: u16) -> i64
+    requires { ⌜ mag y < 2147483648 ⌝ }
+    ensures { λ r. ⌜ (r ≡ y -ℤ pos n) × (mag r < 4294967296) ⌝ }
+{
+    y - n as i64
+}
+
 // How many records the job has.
 pub fn records(job: &[u8]) -> u16
     requires { ⌜ length (now job) ≤ 65536 ⌝ }
@@ -69,9 +84,9 @@ pub fn name(job: &[u8], i: u16) -> u16
     half(job, 16 * (i as usize))
 }
 
-pub fn reserved(job: &[u8], i: u16) -> u16
+pub fn half_side(job: &[u8], i: u16) -> u16
     requires { ⌜ i < count (now job) ⌝ }
-    ensures { λ r. ⌜ r ≡ reservedOf (now (job .entry)) i ⌝ }
+    ensures { λ r. ⌜ r ≡ halfOf (now (job .entry)) i ⌝ }
 {
     half(job, 16 * (i as usize) + 2)
 }
@@ -109,14 +124,30 @@ pub fn ports(form: Form, list: &[u8]) -> u16
     }
 }
 
-// Where port q stands in it.
+// How many bytes apart ports stand, and where the first one does.
+fn stride(form: Form) -> usize
+    ensures { λ r. ⌜ (r ≡ strideOf form) × (r ≤ 16) ⌝ }
+{
+    match form {
+        Form::Records => 16,
+        Form::Slots => 4,
+    }
+}
+
+fn offset(form: Form) -> usize
+    ensures { λ r. ⌜ (r ≡ offsetOf form) × (r ≤ 12) ⌝ }
+{
+    match form {
+        Form::Records => 12,
+        Form::Slots => 0,
+    }
+}
+
+// Where port q stands.
 fn place_of(form: Form, q: u16) -> usize
     ensures { λ r. ⌜ r ≡ strideOf form * q + offsetOf form ⌝ }
 {
-    match form {
-        Form::Records => 16 * (q as usize) + 12,
-        Form::Slots => 4 * (q as usize),
-    }
+    stride(form) * (q as usize) + offset(form)
 }
 
 // The height of port q.

@@ -20,17 +20,21 @@ use Rattle.walks.specs.declared.Start.the-variants.{First, Given}
 use Rattle.walks.specs.declared.Walked.{Walked}
 use Rattle.walks.specs.Walks.{SteppedOn, Turned, Walks}
 use Rattle.layouts.specs.declared.Step.the-variants.{Total, End}
-use Rattle.layouts.specs.Replies.{rulesOf, StartOn, FirstOn, NextOn, stepOf, PageOn}
+use Rattle.layouts.specs.Replies.{rulesOf, StartOn, FirstOn, firstOf, NextOn, stepOf, PageOn}
 
 module _ (p : Problem) (some : 0 < p .board .pads) (w page v after : List ℕ) (r : Walked) where
   -- First: with room for none
-  pub first-walked : length page ≡ 0 → Walks (rulesOf p) (p .board .pads) First w page v after r → FirstOn p w v (r .total)
+  pub first-walked : length page ≡ 0 → Walks (rulesOf p) (p .board .pads) First w page v after r → FirstOn p w v (firstOf (r .best) (r .total))
   unfolding SteppedOn
-  first-walked room W = go (r .count) (rw (W .begins .0) at (W .turns))
+  first-walked room W = by (r .best) refl
     where
-      go : (k : ℕ) → Turned (rulesOf p) (p .board .pads) (W .from) page v after k → FirstOn p w v (r .total)
-      go zero T = let e = W .begins .1 in rw (T .steps .0) (e .0, W .least (W .from) (e .0 .best), e .1)
-      go (suc k) T = absurd (omega (arith, T .fit, suc-mul k (p .board .pads)))
+      go : r .best ≡ true → (k : ℕ) → Turned (rulesOf p) (p .board .pads) (W .from) page v after k → FirstOn p w v (Total (r .total))
+      go b zero T = let e = rw b at (W .begins) in rw (T .steps .0) (e .0, W .least (W .from) (e .0 .best), e .1)
+      go b (suc k) T = absurd (omega (arith, T .fit, suc-mul k (p .board .pads)))
+
+      by : (t : Bool) → r .best ≡ t → FirstOn p w v (firstOf (r .best) (r .total))
+      by true e = rw e (go e (r .count) (rw e at (W .turns)))
+      by false e = let none = rw e at (W .begins) in rw e (none .0, (rw e at (W .turns)) .0 ∙ none .1)
 
   -- Next: with room for one
   pub next-walked : length page ≡ p .board .pads → Walks (rulesOf p) (p .board .pads) Given w page v after r → NextOn p w v (stepOf r)

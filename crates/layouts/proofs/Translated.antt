@@ -1,12 +1,13 @@
 -- From the search's words to the paper's: what the rules of its lists say, the rules of the board say.
 use mathlib.Core.Path.{_≡_, refl, sym, ap, _∙_, subst}
+use mathlib.Core.Logic.{_≢_}
 use mathlib.Core.List.{List}
 use Prim.Native.Nat.{ℕ, _+_, _*_, _^_, _≤_, _<_}
 use native.Mathlib.Omega.{arith}
-use lib.ListN.{length}
+use lib.ListN.{length, getD}
 use borrow.Author.Tests.{eq-eqb, ne-eqb}
 use Rattle.numbers.specs.Kept.{KeptFrom}
-use Rattle.strips.specs.Least.{some}
+use Rattle.strips.specs.Least.{none, some}
 use Rattle.totals.specs.Cell.{leastOf}
 use Rattle.totals.specs.Cell as totals
 use Rattle.pads.specs.Pads.{Pads}
@@ -16,12 +17,13 @@ use Rattle.choices.specs.Source.{Source, source, Right}
 use Rattle.choices.specs.Choices.{Working}
 use Rattle.steps.specs.Steps.{IsLeast}
 use Rattle.steps.specs.Totals.{best-total, slots-least, full-least}
-use Rattle.weights.specs.Rows.{FiguresFrom}
+use Rattle.weights.specs.Rows.{lentFigure, FiguresFrom}
 use Rattle.paper.specs.Layouts.{Board, held, figure}
 use Rattle.paper.specs.Problem.{labeling}
 use Rattle.paper.specs.Promises.{Kept}
-use Rattle.paper.specs.laws.Existence.{untouching-exists}
+use Rattle.paper.specs.laws.Squares.{Open}
 use Rattle.board.specs.Lists.{ListsOf, CostsOn}
+use Rattle.board.specs.Bars.{BarsOf}
 use Rattle.board.specs.Bridge.{pads, proper, untouching-sol, sum-total, optimal-is-best, best-is-optimal, first-best, next-best, last-best}
 use Rattle.walks.specs.declared.Start.{Start}
 use Rattle.walks.specs.declared.Start.the-variants.{First, Given}
@@ -44,9 +46,9 @@ module _ (b : Board) {order lo hi : List ℕ} {T : Source} {cost : ℕ → ℕ �
       room First s = omega (arith, same-n)
       room Given s = omega (arith, same-n, s .0)
 
-  -- .. an untouching layout is one to the search, and there is one.
+  -- .. an untouching layout is one to the search.
   pub startable-on : (start : Start) (w : List ℕ) → StartOn start b w → Startable start order T lo hi w
-  startable-on First w s = let u = untouching-exists b (W .proper) in (u .0, untouching-sol W C (u .0) (u .1))
+  startable-on First w s = tt
   startable-on Given w s = untouching-sol W C (held w) (s .1)
 
   kept-on : (w v : List ℕ) → KeptFrom (length order) w v → Kept (b .pads) w v
@@ -55,6 +57,7 @@ module _ (b : Board) {order lo hi : List ℕ} {T : Source} {cost : ℕ → ℕ �
   says : Says (listRules order T lo hi) (rulesOf (labeling b cost))
   says = record {
     earliest = λ w v e. (first-best W C (held v) (e .earliest), kept-on w v (e .kept));
+    nothing = λ none f u. none (f, untouching-sol W C f u);
     best = λ w. (optimal-is-best W C (held w), best-is-optimal W C (held w));
     next = λ w v e. (next-best W C (held w) (held v) (e .earliest), kept-on w v (e .kept));
     last = λ w e. last-best W C (held w) (e .none);
@@ -68,29 +71,40 @@ module _ (b : Board) {order lo hi : List ℕ} {T : Source} {cost : ℕ → ℕ �
 
 -- ---- the table on the stack: as many ports as pads
 
-module _ (b : Board) {order lo hi cs hs ts : List ℕ} (W : ListsOf b order lo hi) (even : b .ports ≡ b .pads) (made : totals.Table order cs lo hi hs ts) where
+module _ (b : Board) {order lo hi cs bs hs ts : List ℕ} (W : ListsOf b order lo hi) (even : b .ports ≡ b .pads) (bars : BarsOf b bs) (made : totals.Table order cs bs lo hi hs ts) where
   some-heads : length hs ≡ 0 → ⊥
   some-heads e = omega (arith, made .sizes .heads)
 
   abbrev stacked : Source
-  stacked = source hs ts cs (length order)
+  stacked = source hs ts cs bs (length order)
 
   pub stacked-costs : CostsOn b (figure b cs) stacked
-  stacked-costs = record { ports = W .listed .arranged .long ∙ sym even; at = λ j q h k. rw (ne-eqb (length hs) 0 some-heads, even) refl }
+  stacked-costs = record {
+    ports = W .listed .arranged .long ∙ sym even;
+    at = λ j q h k o. let zero = bars .at j q h k .1 o in rw (ne-eqb (length hs) 0 some-heads, ← even, eq-eqb (getD bs (j * b .ports + q) 0) 0 zero) refl;
+    shut = λ j q h k o. let some : getD bs (j * b .ports + q) 0 ≢ 0 = λ e. o (bars .at j q h k .0 e) in rw (ne-eqb (length hs) 0 some-heads, ← even, ne-eqb (getD bs (j * b .ports + q) 0) 0 some) refl;
+  }
 
   pub stacked-right : Right order stacked lo hi
   stacked-right = record { full = λ h. record { ports = refl; table = made }; slotted = λ e. absurd (some-heads e) }
 
-  pub stacked-least : (t : ℕ) → t ≡ leastOf order cs lo hi → IsLeast order stacked lo hi t
+  pub stacked-least : (t : ℕ) → t ≡ leastOf order cs bs lo hi → IsLeast order stacked lo hi t
   stacked-least t e = full-least order stacked lo hi t some-heads refl e
 
 -- ---- the table in the work list: ports may stay free
 
--- Figures that are written as numbers of 32 bits are the costs, as long as they are kept.
-pub figures-lent : (b : Board) (cost : ℕ → ℕ → ℕ) {w v : List ℕ} → FiguresFrom b cost (figuresAt (b .pads) (b .ports)) w → KeptFrom (figuresAt (b .pads) (b .ports)) w v
-    → ((i q : ℕ) → i < b .pads → q < b .ports → cost i q < 2 ^ 32) → (i q : ℕ) → i < b .pads → q < b .ports → figuresIn v (b .pads) (b .ports) i q ≡ some (cost i q)
-figures-lent b cost F K narrow i q h k =
-    ap figureOf (K .rest (figuresAt (b .pads) (b .ports) + (i * b .ports + q)) (omega arith) ∙ F .at i q h k) ∙ figure-some (cost i q) (narrow i q h k)
+-- Figures that are written as numbers of 32 bits are the costs, and none where they are barred, as long as they are kept.
+module _ (b : Board) (cost : ℕ → ℕ → ℕ) {bs w v : List ℕ} (bars : BarsOf b bs) (F : FiguresFrom b cost bs (figuresAt (b .pads) (b .ports)) w)
+    (K : KeptFrom (figuresAt (b .pads) (b .ports)) w v) (narrow : (i q : ℕ) → i < b .pads → q < b .ports → cost i q < 2 ^ 32) (i q : ℕ) (h : i < b .pads) (k : q < b .ports) where
+  lent-as : figuresIn v (b .pads) (b .ports) i q ≡ figureOf (lentFigure (getD bs (i * b .ports + q) 0) (cost i q))
+  lent-as = ap figureOf (K .rest (figuresAt (b .pads) (b .ports) + (i * b .ports + q)) (omega arith) ∙ F .at i q h k)
+
+  pub figures-lent : Open b i q → figuresIn v (b .pads) (b .ports) i q ≡ some (cost i q)
+  figures-lent o = lent-as ∙ rw (eq-eqb (getD bs (i * b .ports + q) 0) 0 (bars .at i q h k .1 o)) (figure-some (cost i q) (narrow i q h k))
+
+  pub figures-shut : ¬ Open b i q → figuresIn v (b .pads) (b .ports) i q ≡ none
+  unfolding figureOf
+  figures-shut o = lent-as ∙ rw (ne-eqb (getD bs (i * b .ports + q) 0) 0 (λ e. o (bars .at i q h k .0 e))) refl
 
 -- What the table asks for, of p ports and a list of so many numbers as the code has them; ..
 pub fillable : (b : Board) {order lo hi : List ℕ} (p size long : ℕ) → p ≡ b .ports → long ≡ size → ListsOf b order lo hi → Room (b .pads) (b .ports) size
@@ -99,22 +113,27 @@ fillable b p size long same e W R = (rw same (pads W), rw (same, e, W .listed .a
 
 -- .. and what it then comes to.
 pub tabled : (b : Board) (cost : ℕ → ℕ → ℕ) {order lo hi w v : List ℕ} (p base t : ℕ) → p ≡ b .ports → base ≡ figuresAt (b .pads) (b .ports) → ListsOf b order lo hi
-    → FiguresFrom b cost base w → ((i q : ℕ) → i < b .pads → q < b .ports → cost i q < 2 ^ 32)
+    → (bs : List ℕ) → BarsOf b bs → FiguresFrom b cost bs base w → ((i q : ℕ) → i < b .pads → q < b .ports → cost i q < 2 ^ 32)
     → KeptFrom (figuresAt (length order) p) w v → SlotTable order lo hi p v → TellsLeast order lo hi p v t → Tabled b cost order lo hi v t
-tabled b cost p base t same start W F narrow K T A = record {
+tabled b cost p base t same start W bs bars F narrow K T A = record {
   lists = W;
-  figures = figures-lent b cost (rw start at F) (rw (W .listed .arranged .long, same) at K) narrow;
+  figures = figures-lent b cost bars (rw start at F) (rw (W .listed .arranged .long, same) at K) narrow;
+  shut = figures-shut b cost bars (rw start at F) (rw (W .listed .arranged .long, same) at K) narrow;
   table = rw same at T;
   least = rw same at A;
 }
 
 module _ (b : Board) {cost : ℕ → ℕ → ℕ} {order lo hi work : List ℕ} {t : ℕ} (M : Tabled b cost order lo hi work t)
-    (hs cs : List ℕ) {p : ℕ} (none : length hs ≡ 0) (same : p ≡ b .ports) where
+    (hs cs bs : List ℕ) {p : ℕ} (none : length hs ≡ 0) (same : p ≡ b .ports) where
   abbrev lent : Source
-  lent = source hs work cs p
+  lent = source hs work cs bs p
 
   pub lent-costs : CostsOn b cost lent
-  lent-costs = record { ports = same; at = λ j q h k. rw (eq-eqb (length hs) 0 none, same) (M .figures j q h k) }
+  lent-costs = record {
+    ports = same;
+    at = λ j q h k o. rw (eq-eqb (length hs) 0 none, same) (M .figures j q h k o);
+    shut = λ j q h k o. rw (eq-eqb (length hs) 0 none, same) (M .shut j q h k o);
+  }
 
   pub lent-right : Right order lent lo hi
   lent-right = record { full = λ h. absurd (omega (arith, none)); slotted = λ e. rw same (M .table) }

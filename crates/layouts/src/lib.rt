@@ -6,21 +6,34 @@ use paper::Form;
 use walks::Start;
 use walks::Walked;
 ghost use mathlib.Core.Path.{_≡_};
-ghost use Prim.Native.Nat.{_≤_};
+ghost use Prim.Native.Nat.{_*_, _≤_};
 ghost use lib.ListN.{length};
 ghost use Rattle.paper.specs.Job.{records, count};
 ghost use Rattle.paper.specs.Layouts.{boardOf, held, Untouching, byTable};
 ghost use Rattle.paper.specs.Problem.{labelingOf};
 ghost use Rattle.paper.specs.laws.Accepted.{AcceptedJob, Fair};
 ghost use Rattle.board.specs.Lists.{RoomFor};
+ghost use Rattle.board.specs.Bars.{Clear};
 ghost use Rattle.walks.specs.Walks.{Walks};
-ghost use Rattle.layouts.specs.Replies.{rulesOf, StartOn, FirstOn, NextOn, stepOf, PageOn};
+ghost use Rattle.layouts.specs.Replies.{rulesOf, StartOn, FirstOn, firstOf, NextOn, stepOf, PageOn};
 
-// What Next replies of an untouching layout.
+// What First replies: a total, or that no layout is untouching; and what Next replies of an untouching layout.
 pub enum Step {
     Total(u64),
     End,
     NotBest,
+    NoLayout,
+}
+
+// What a walk from the earliest best layout comes to: whether there is one, and the least total.
+fn first_of(found: bool, total: u64) -> Step
+    ensures { λ s. ⌜ s ≡ firstOf found total ⌝ }
+{
+    if found {
+        Step::Total(total)
+    } else {
+        Step::NoLayout
+    }
 }
 
 // What a walk with room for one layout comes to.
@@ -38,7 +51,7 @@ fn step_of(r: Walked) -> Step
     }
 }
 
-// A walk, with lists lent for those of the board and for the table of least totals.
+// A walk, with lists lent for those of the board and for the table of least totals; that of the bars has zeros.
 fn walk_at(
     start: Start,
     job: &[u8],
@@ -48,16 +61,19 @@ fn walk_at(
     hi: &mut [u8],
     heads: &mut [u8],
     totals: &mut [u64],
+    bars: &mut [u8],
     w: &mut [u16],
     page: &mut [u16],
 ) -> Walked
     requires { ⌜ AcceptedJob (records (now job)) × Fair (boardOf (records (now job))) (byTable (now figures)) × StartOn start (boardOf (records (now job))) (now w) ⌝ }
     requires { ⌜ RoomFor (count (now job)) (now order) (now lo) (now hi) × (length (now heads) ≡ 2145) × (length (now totals) ≡ 2145) ⌝ }
+    requires { ⌜ (length (now bars) ≡ count (now job) * count (now job)) × Clear (now bars) ⌝ }
     ensures { λ r. ⌜ Walks (rulesOf (labelingOf (records (now (job .entry))) (byTable (now (figures .entry))))) (count (now (job .entry))) start (now (w .entry))
         (now (page .entry)) (now (w .exit)) (now (page .exit)) r ⌝ }
 {
     board::prepare(Form::Records, job, job, order, lo, hi);
-    let least = table::fill(heads, totals, order, figures, lo, hi);
+    board::bars::bar(Form::Records, job, job, bars);
+    let least = table::fill(heads, totals, order, figures, bars, lo, hi);
     let n = order.len();
     walks::walk(
         start,
@@ -65,6 +81,7 @@ fn walk_at(
         totals,
         order,
         figures,
+        bars,
         lo,
         hi,
         n,
@@ -86,6 +103,7 @@ fn walk(start: Start, job: &[u8], figures: &[u32], w: &mut [u16], page: &mut [u1
     let mut hi = [0u8; 64];
     let mut heads = [0u8; 2145];
     let mut totals = [0u64; 2145];
+    let mut bars = [0u8; 4096];
     walk_at(
         start,
         job,
@@ -95,18 +113,20 @@ fn walk(start: Start, job: &[u8], figures: &[u32], w: &mut [u16], page: &mut [u1
         &mut hi[..n],
         &mut heads,
         &mut totals,
+        &mut bars[..n * n],
         w,
         page,
     )
 }
 
 // First: a walk from the earliest best layout, with room for none on its page.
-pub fn first_on(job: &[u8], figures: &[u32], layout: &mut [u16]) -> u64
+pub fn first_on(job: &[u8], figures: &[u32], layout: &mut [u16]) -> Step
     requires { ⌜ AcceptedJob (records (now job)) × Fair (boardOf (records (now job))) (byTable (now figures)) × (count (now job) ≤ length (now layout)) ⌝ }
-    ensures { λ t. ⌜ FirstOn (labelingOf (records (now (job .entry))) (byTable (now (figures .entry)))) (now (layout .entry)) (now (layout .exit)) t ⌝ }
+    ensures { λ r. ⌜ FirstOn (labelingOf (records (now (job .entry))) (byTable (now (figures .entry)))) (now (layout .entry)) (now (layout .exit)) r ⌝ }
 {
     let mut page = [0u16; 1];
-    walk(Start::First, job, figures, layout, &mut page[..0]).total
+    let r = walk(Start::First, job, figures, layout, &mut page[..0]);
+    first_of(r.best, r.total)
 }
 
 // Next: a walk from an untouching layout, with room for one.

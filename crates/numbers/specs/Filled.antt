@@ -1,11 +1,11 @@
 -- A list that a loop fills, entry by entry; a table as a list. Assumes nothing.
-use mathlib.Core.Path.{_≡_, _∙_}
+use mathlib.Core.Path.{_≡_, refl, _∙_}
 use mathlib.Core.List.{List}
-use Prim.Native.Nat.{ℕ, _+_, _*_, _≤_, _<_}
+use Prim.Native.Nat.{ℕ, zero, suc, _+_, _*_, _≤_, _<_}
 use native.Mathlib.Nat.{mul-le-mul-right, suc-mul}
 use native.Mathlib.Decide.{decLt}
 use native.Mathlib.Omega.{arith}
-use lib.ListN.{length, getD, set, length-set}
+use lib.ListN.{length, getD, set, length-set, take, replicate}
 use lib.Seq.{getD-set-same, getD-set-other}
 
 -- The list has n entries, and each of the first k is as P says.
@@ -32,6 +32,13 @@ filled-done h F = record { long = F .long; at = λ j l. F .at j (omega arith) }
 -- Filled up to k is filled up to m, where these are the same.
 pub filled-to : {n : ℕ} {P : ℕ → ℕ → Type 0} {list : List ℕ} {k m : ℕ} → k ≡ m → Filled n P list k → Filled n P list m
 filled-to e F = rw (← e) F
+
+-- The front of a list of zeros has zeros.
+pub zeros-front : (n m k : ℕ) → getD (take n (replicate {A = ℕ} m 0)) k 0 ≡ 0
+zeros-front zero m k = refl
+zeros-front (suc n) zero k = refl
+zeros-front (suc n) (suc m) zero = refl
+zeros-front (suc n) (suc m) (suc k) = zeros-front n m k
 
 -- The place of column q in row j is in a table of n rows of p entries.
 pub place-in : (n p j q : ℕ) → j < n → q < p → j * p + q < n * p

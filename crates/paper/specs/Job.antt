@@ -45,8 +45,9 @@ count pads = length pads / 16
 unfoldable pub nameOf : List ℕ → ℕ → ℕ
 nameOf pads i = u16At pads (16 * i)
 
-unfoldable pub reservedOf : List ℕ → ℕ → ℕ
-reservedOf pads i = u16At pads (16 * i + 2)
+-- 02: "The reserved field becomes the pad's half-side."
+unfoldable pub halfOf : List ℕ → ℕ → ℕ
+halfOf pads i = u16At pads (16 * i + 2)
 
 unfoldable pub xOf : List ℕ → ℕ → ℕ
 xOf pads i = u32At pads (16 * i + 4)

@@ -1,27 +1,28 @@
--- DEFINITIONS. 01, "Leaders, touching and totals", and of 02, the table: layouts and their totals, over a board of pads and ports.
+-- DEFINITIONS. 01, "Leaders, touching and totals", and of 02, the table and the squares: layouts and their totals, over a board of pads and ports.
 -- A layout f gives the pad of record i the port number f i.
 use mathlib.Core.Path.{_≡_}
-use mathlib.Core.Logic.{_≢_}
+use mathlib.Core.Logic.{_≢_, _⊎_}
 use mathlib.Core.List.{List}
 use Prim.Native.Nat.{ℕ, zero, suc, _+_, _*_, _≤_, _<_}
 use lib.ListN.{length, getD}
 use lib.IntN.{ℤ}
 use lib.Signed.{_<ℤ_}
 use Rattle.paper.specs.declared.Form.{Form}
-use Rattle.paper.specs.Job.{Job, formOf, padsOf, portsOf, count, xOf, yOf, portCount, portOf}
-use Rattle.paper.specs.Leaders.{Leader, Touch, lengthOf, bendsOf}
+use Rattle.paper.specs.Job.{Job, formOf, padsOf, portsOf, count, halfOf, xOf, yOf, portCount, portOf}
+use Rattle.paper.specs.Leaders.{Leader, Touch, Square, Meets, lengthOf, bendsOf}
 
--- A board: so many pads, pad i at (x i, y i), and so many ports, port q at the height port q.
+-- A board: so many pads, pad i around (x i, y i) with the half-side half i, and so many ports, port q at the height port q.
 pub record Board : Type 0 where
   pub pads : ℕ
   pub ports : ℕ
   pub x : ℕ → ℕ
   pub y : ℕ → ℤ
+  pub half : ℕ → ℕ
   pub port : ℕ → ℤ
 
 -- The board that pads and ports of such bytes make; and that of a job. (The port of record i is port number i: records have as many ports as pads.)
 abbrev pub boardFrom : Form → List ℕ → List ℕ → Board
-boardFrom form pads ports = record { pads = count pads; ports = portCount form ports; x = xOf pads; y = yOf pads; port = portOf form ports }
+boardFrom form pads ports = record { pads = count pads; ports = portCount form ports; x = xOf pads; y = yOf pads; half = halfOf pads; port = portOf form ports }
 
 abbrev pub boardOf : Job → Board
 boardOf job = boardFrom (formOf job) (padsOf job) (portsOf job)
@@ -34,9 +35,17 @@ held list i = getD list i 0
 abbrev pub leader : Board → ℕ → ℕ → Leader
 leader b i q = record { x = b .x i; y = b .y i; port = b .port q }
 
--- The leaders of pads i and j touch.
+-- The square of pad i.
+abbrev pub square : Board → ℕ → Square
+square b i = record { x = b .x i; y = b .y i; half = b .half i }
+
+-- The leaders of records i and j touch.
+abbrev pub LeadersTouch : Board → (ℕ → ℕ) → ℕ → ℕ → Type 0
+LeadersTouch b f i j = Touch (leader b i (f i)) (leader b j (f j))
+
+-- Two records touch when their leaders do, or the leader of one meets the square of the other (02). A pad's own square is never in the way of its leader.
 abbrev pub Touching : Board → (ℕ → ℕ) → ℕ → ℕ → Type 0
-Touching b f i j = Touch (leader b i (f i)) (leader b j (f j))
+Touching b f i j = LeadersTouch b f i j ⊎ Meets (leader b i (f i)) (square b j) ⊎ Meets (leader b j (f j)) (square b i)
 
 -- A layout: each pad has a port of its own.
 pub record Layout (b : Board) (f : ℕ → ℕ) : Type 0 where

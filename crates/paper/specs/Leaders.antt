@@ -1,13 +1,13 @@
--- DEFINITIONS. 01, "Leaders, touching and totals": a leader is a set of points of the sheet.
+-- DEFINITIONS. 01, "Leaders, touching and totals": a leader is a set of points of the sheet. So is a pad, which is a square (02).
 -- A point is (x, y): x counts from the label edge to the right, y is a height. No leader has a point left of the edge.
 -- Whole points are enough: the sides lie along the axes and the corners are whole, so that leaders of pads with different x that share any point
--- of the plane share a whole one (`touch-plane`).
+-- of the plane share a whole one (`touch-plane`), and so do a leader and a square (`meets-plane`).
 use mathlib.Core.Path.{_≡_}
 use mathlib.Core.Logic.{_⊎_}
 use mathlib.Core.Bool.{cond}
 use Prim.Native.Nat.{ℕ, _+_, _≤_}
 use lib.Dec.{eqb}
-use lib.IntN.{ℤ, natAbs, _-ℤ_}
+use lib.IntN.{ℤ, pos, natAbs, _-ℤ_}
 use lib.Signed.{_≤ℤ_}
 
 -- A point of the sheet. (`Point` is one of the canvas.)
@@ -40,9 +40,22 @@ On l p = OnHand l p ⊎ OnArm l p
 abbrev pub Touch : Leader → Leader → Type 0
 Touch l m = (p : Spot) × On l p × On m p
 
--- How far apart two heights are.
+-- How far apart two heights are, or two x.
 abbrev pub distance : ℤ → ℤ → ℕ
 distance a b = natAbs (a -ℤ b)
+
+-- A pad: the closed square around (x, y) whose sides are twice its half-side. It may reach over the label edge.
+pub record Square : Type 0 where
+  pub x : ℕ
+  pub y : ℤ
+  pub half : ℕ
+
+abbrev pub In : Square → Spot → Type 0
+In s p = (distance (pos (p .x)) (pos (s .x)) ≤ s .half) × (distance (p .y) (s .y) ≤ s .half)
+
+-- A leader meets a square when they share a point.
+abbrev pub Meets : Leader → Square → Type 0
+Meets l s = (p : Spot) × On l p × In s p
 
 -- Its length is x plus the distance of y and the port's height. It has 0 bends if these are the same, so that
 -- their distance is 0, else 1 (`bends-iff`).

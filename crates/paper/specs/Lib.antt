@@ -5,6 +5,7 @@ pub mod Plane
 pub mod Layouts
 pub mod Problem
 pub mod Refusals
+pub mod Points
 pub mod Canvas
 pub mod Promises
 pub mod Runs

@@ -1,5 +1,5 @@
 -- DEFINITIONS. One problem, of which all calls that seek layouts are instances: a board, which layouts count, and the value of a layout. That of 01, and of
--- 02's tables and slots, is Benkert's one-sided labeling: a layout counts if no two leaders touch, and its value is its total.
+-- 02's tables, slots and squares, is Benkert's one-sided labeling: a layout counts if no two records touch, and its value is its total.
 use mathlib.Core.Path.{_≡_}
 use Prim.Native.Nat.{ℕ, _≤_, _<_}
 use Rattle.paper.specs.Job.{Job}

@@ -125,14 +125,14 @@ PageReplies c given before m after = (a : Paged) × PageOver c given before a af
 abbrev pub MeasureReplies : Calls → List ℕ → ℤ → Type 0
 MeasureReplies c list m = (a : Answer) × MeasureOver c list a × (m ≡ number a)
 
--- A work list holds what it held after every refusal but 10. After 10, an end or a total its content is left open (docs/OPEN-REPLIES.md).
+-- A work list holds what it held after every refusal but 10 and 15. After these, an end or a total its content is left open (docs/OPEN-REPLIES.md).
 abbrev pub WorkAfter : Answer → List ℕ → List ℕ → Type 0
 WorkAfter (Total t) before after = Unit {0}
 WorkAfter End before after = Unit {0}
-WorkAfter (Refused r) before after = (r .reason ≢ 10) → after ≡ before
+WorkAfter (Refused r) before after = (r .reason ≢ 10) → (r .reason ≢ 15) → after ≡ before
 
 abbrev pub WorkPromise : ℤ → List ℕ → List ℕ → Type 0
-WorkPromise m before after = m ≤ℤ negℤ (pos 65536) → (refusalIn m .reason ≢ 10) → after ≡ before
+WorkPromise m before after = m ≤ℤ negℤ (pos 65536) → (refusalIn m .reason ≢ 10) → (refusalIn m .reason ≢ 15) → after ≡ before
 
 -- ---- the calls on a job, by weights and by tables: their answers in the language, and their promises to C
 

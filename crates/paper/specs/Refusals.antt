@@ -1,4 +1,4 @@
--- DEFINITIONS. 01, "Refusal numbers", and of 02, 12, 13, 14, 24 and both records of 9: what is at fault for each number, and each call's trials, in their order.
+-- DEFINITIONS. 01, "Refusal numbers", and of 02, 12, 13, 14, 15, 24 and both records of 9: what is at fault for each number, and each call's trials, in their order.
 use mathlib.Core.Path.{_≡_}
 use mathlib.Core.Logic.{_≢_, _⊎_}
 use mathlib.Core.List.{List, [], _∷_, _++_}
@@ -11,7 +11,7 @@ use Rattle.paper.specs.declared.Form.{Form}
 use Rattle.paper.specs.declared.Form.the-variants.{Records, Slots}
 use Rattle.paper.specs.declared.Work.{Work}
 use Rattle.paper.specs.declared.Work.the-variants.{Unlent, Lent}
-use Rattle.paper.specs.Job.{Job, records, slots, padsOf, twos, count, nameOf, reservedOf, xOf, yOf, lastOf, portCount, portOf}
+use Rattle.paper.specs.Job.{Job, records, slots, padsOf, twos, count, nameOf, halfOf, xOf, yOf, lastOf, portCount, portOf}
 use Rattle.paper.specs.Layouts.{Board, boardOf, held, Touching, Badness, byWeights, byTable}
 use Rattle.paper.specs.Problem.{Problem, Best, labelingOf}
 
@@ -65,7 +65,7 @@ BadSize one most bytes = (length bytes ≡ 0) ⊎ (length bytes % one ≢ 0) ⊎
 abbrev pub BadWeight : ℕ → ℕ → Type 0
 BadWeight lw bw = (1000 < lw) ⊎ (1000 < bw)
 
--- 4: a field is outside its range: a name is if it is 0 (02: "0 isn't a name"), a height if it is below -1,000,000 or above 1,000,000
+-- 4: a field is outside its range: a name is if it is 0 (02: "0 isn't a name"), a half-side if it is above 2,000 (02), a height if it is below -1,000,000 or above 1,000,000
 abbrev pub Outside : ℤ → Type 0
 Outside h = 1000000 < natAbs h
 
@@ -76,7 +76,7 @@ BadLast Slots n = n ≢ 0
 
 abbrev pub BadField : Form → List ℕ → ℕ → Type 0
 BadField form pads i =
-    (nameOf pads i ≡ 0) ⊎ (reservedOf pads i ≢ 0) ⊎ (xOf pads i < 1) ⊎ (1000000 < xOf pads i) ⊎ Outside (yOf pads i) ⊎ BadLast form (lastOf pads i)
+    (nameOf pads i ≡ 0) ⊎ (2000 < halfOf pads i) ⊎ (xOf pads i < 1) ⊎ (1000000 < xOf pads i) ⊎ Outside (yOf pads i) ⊎ BadLast form (lastOf pads i)
 
 -- 5: a port height is not above the one before
 abbrev pub NotAbove : (ℕ → ℤ) → ℕ → Type 0
@@ -148,16 +148,26 @@ placeTrials job =
 abbrev pub jobTrials : Job → List Trial
 jobTrials job = fieldTrials job ++ placeTrials job
 
--- 8 and 9: the layout that the list holds. 9: a leader touches that of an earlier record; both are named (02)
-abbrev pub layoutTrials : Board → List ℕ → List Trial
-layoutTrials b list =
+-- 8 and 9: the layout that the list holds. 9: a record touches an earlier one; both are named (02)
+abbrev pub pairTrials : Board → (ℕ → ℕ → Type 0) → List ℕ → List Trial
+pairTrials b R list =
     ofEach 8 (b .pads) (BadEntry (b .ports) list) ∷
-    ofPairs 9 (b .pads) (Touching b (held list)) ∷
+    ofPairs 9 (b .pads) R ∷
     []
+
+abbrev pub layoutTrials : Board → List ℕ → List Trial
+layoutTrials b list = pairTrials b (Touching b (held list)) list
 
 -- 10: the given layout counts, on a job: it has no touching pair, but isn't best
 abbrev pub bestTrial : Problem → List ℕ → Trial
 bestTrial p list = ofWhole 10 (p .Counts (held list) × ¬ Best p (held list))
+
+-- 15: no layout counts: on a job, none is untouching (02)
+abbrev pub NoLayout : Problem → Type 0
+NoLayout p = (f : ℕ → ℕ) → ¬ p .Counts f
+
+abbrev pub noneTrial : Problem → Trial
+noneTrial p = ofWhole 15 (NoLayout p)
 
 -- 11: Draw's record or port number is n or more
 abbrev pub numberTrial : List ℕ → ℕ → ℕ → Trial
@@ -172,13 +182,17 @@ badnessTrial b (byTable figures) = ofWhole 13 (length figures ≢ b .pads * b .p
 abbrev pub roomTrials : Job → Work → ℕ → List Trial
 roomTrials job work room = ofWhole 3 (room < boardOf job .pads) ∷ enoughTrials job ++ workTrials (boardOf job) work
 
--- First, with such a work list and room for so many entries: 1, 2 or 13, the room's and the job's
-abbrev pub firstTrials : Job → Badness → Work → ℕ → List Trial
-firstTrials job bad work room = sizeTrials job ++ (badnessTrial (boardOf job) bad ∷ roomTrials job work room ++ jobTrials job)
+-- Of all of them, with such a work list and room for so many entries: 1, 2 or 13, the room's and the job's
+abbrev pub soundTrials : Job → Badness → Work → ℕ → List Trial
+soundTrials job bad work room = sizeTrials job ++ (badnessTrial (boardOf job) bad ∷ roomTrials job work room ++ jobTrials job)
 
--- Measure: First's, 8 and 9
+-- First: these and 15
+abbrev pub firstTrials : Job → Badness → Work → ℕ → List Trial
+firstTrials job bad work room = soundTrials job bad work room ++ (noneTrial (labelingOf job bad) ∷ [])
+
+-- Measure: these, 8 and 9
 abbrev pub measureTrials : Job → Badness → Work → List ℕ → List Trial
-measureTrials job bad work list = firstTrials job bad work (length list) ++ layoutTrials (boardOf job) list
+measureTrials job bad work list = soundTrials job bad work (length list) ++ layoutTrials (boardOf job) list
 
 -- Next: Measure's and 10
 abbrev pub nextTrials : Job → Badness → Work → List ℕ → List Trial

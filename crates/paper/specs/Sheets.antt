@@ -1,8 +1,9 @@
 -- DEFINITIONS. 01, "Sheets worked by hand": the jobs as bytes, and the sheets P1 to P12, each with its call, its input and its whole reply.
--- After P10 stands Measure's sheet for "its total is 85"; after P12, four for refusal 12, two for names of 0, four for both records of 9, those of tables, and those of slots. Page has its own list.
+-- After P10 stands Measure's sheet for "its total is 85"; after P12, four for refusal 12, two for names of 0, four for both records of 9, those of tables, those of slots, and
+-- those of squares. Page has its own list.
 use mathlib.Core.Path.{_≡_}
 use mathlib.Core.List.{List, [], _∷_, _++_}
-use Prim.Native.Nat.{ℕ, _/_, _%_}
+use Prim.Native.Nat.{ℕ, _+_, _*_, _/_, _%_}
 use Rattle.paper.specs.declared.Work.{Work}
 use Rattle.paper.specs.declared.Work.the-variants.{Unlent, Lent}
 use Rattle.paper.specs.Job.{Job, records, slots}
@@ -14,12 +15,15 @@ use Rattle.paper.specs.declared.Paged.{Paged}
 use Rattle.paper.specs.declared.Paged.the-variants.{Wrote, Refused as NotPaged}
 use Rattle.paper.specs.Promises.{number, pagedNumber, FirstPromise, NextPromise, PagePromise, MeasurePromise}
 
--- 4 bytes, lowest first; a record of a name (with the reserved field, 0), a pad (x, y) and a port height
+-- 4 bytes, lowest first; a record of a name and a half-side, a pad (x, y) and a port height; and one whose pad is a point
 abbrev pub bytes4 : ℕ → List ℕ
 bytes4 n = n % 256 ∷ n / 256 % 256 ∷ n / 65536 % 256 ∷ n / 16777216 ∷ []
 
+abbrev pub squareAndPort : ℕ → ℕ → ℕ → ℕ → ℕ → List ℕ
+squareAndPort name half x y port = bytes4 (name + 65536 * half) ++ bytes4 x ++ bytes4 y ++ bytes4 port
+
 abbrev pub padAndPort : ℕ → ℕ → ℕ → ℕ → List ℕ
-padAndPort name x y port = bytes4 name ++ bytes4 x ++ bytes4 y ++ bytes4 port
+padAndPort name x y port = squareAndPort name 0 x y port
 
 -- Two records. All bytes of the second one differ, but for its heights: -1, and the lowest that 32 bits hold.
 abbrev pub sample : List ℕ
@@ -53,6 +57,14 @@ levelPad = padAndPort 101 10 20 0 ++ padAndPort 102 20 10 10
 
 abbrev pub crossingPays : List ℕ
 crossingPays = 0 ∷ 1 ∷ 1 ∷ 0 ∷ []
+
+-- Ports 4 above and 6 below the pad of record 0: with a half-side of 4 the arm of record 1 meets its square at the upper port, with 3 at none. And the same records
+-- the other way round, so that the square is the later record's.
+abbrev pub copper : ℕ → List ℕ
+copper half = squareAndPort 101 half 10 16 10 ++ padAndPort 102 20 60 20
+
+abbrev pub copperLater : ℕ → List ℕ
+copperLater half = padAndPort 101 20 60 10 ++ squareAndPort 102 half 10 16 20
 
 -- Of the second form: a pad's record, and port heights.
 abbrev pub pad : ℕ → ℕ → ℕ → List ℕ
@@ -179,6 +191,26 @@ sheets =
     slotSheet First onePad (heights (0 ∷ 10 ∷ 1000001 ∷ [])) 1 0 100 (9 ∷ []) (refused 4 2) (9 ∷ []) ∷  -- the port's number
     slotSheet First onePad (heights (0 ∷ 10 ∷ 10 ∷ [])) 1 0 100 (9 ∷ []) (refused 5 2) (9 ∷ []) ∷
     slotSheet First onePad (heights (0 ∷ 10 ∷ 17 ∷ [])) 1 0 100 (9 ∷ []) (refused 12 2) (9 ∷ []) ∷
+    sheet First (copper 3) 1 0 (9 ∷ 9 ∷ []) (Total 76) (0 ∷ 1 ∷ []) ∷  -- just not met
+    sheet First (copper 4) 1 0 (9 ∷ 9 ∷ []) (Total 84) (1 ∷ 0 ∷ []) ∷  -- an edge is met
+    sheet Next (copper 4) 1 0 (1 ∷ 0 ∷ []) End (1 ∷ 0 ∷ []) ∷
+    sheet Measure (copper 4) 1 0 (0 ∷ 1 ∷ []) (refusedPair 1 0) (0 ∷ 1 ∷ []) ∷  -- the earlier record's square,
+    sheet Measure (copperLater 4) 1 0 (1 ∷ 0 ∷ []) (refusedPair 1 0) (1 ∷ 0 ∷ []) ∷  -- and the later one's
+    sheet First (copperLater 4) 1 0 (9 ∷ 9 ∷ []) (Total 84) (0 ∷ 1 ∷ []) ∷
+    sheet First (copper 6) 1 0 (9 ∷ 9 ∷ []) (refused 15 0) (9 ∷ 9 ∷ []) ∷  -- both arms meet it
+    sheet Next (copper 6) 1 0 (1 ∷ 0 ∷ []) (refusedPair 1 0) (1 ∷ 0 ∷ []) ∷  -- 9, and no 15
+    sheet Measure (copper 6) 1 0 (1 ∷ 1 ∷ []) (refused 8 1) (1 ∷ 1 ∷ []) ∷
+    sheet First (squareAndPort 101 4 10 16 10 ++ padAndPort 102 14 60 20) 1 0 (9 ∷ 9 ∷ []) (refused 15 0) (9 ∷ 9 ∷ []) ∷  -- the hand meets a corner or goes through
+    sheet First (squareAndPort 101 4 10 16 10 ++ padAndPort 102 15 60 20) 1 0 (9 ∷ 9 ∷ []) (Total 79) (1 ∷ 0 ∷ []) ∷  -- and beside it
+    sheet First (squareAndPort 101 10 12 16 10 ++ padAndPort 102 1 60 20) 1 0 (9 ∷ 9 ∷ []) (Total 59) (0 ∷ 1 ∷ []) ∷  -- a pad left of the square
+    sheet First (squareAndPort 101 11 12 16 10 ++ padAndPort 102 1 20 20) 1 0 (9 ∷ 9 ∷ []) (refused 15 0) (9 ∷ 9 ∷ []) ∷  -- a pad in the square
+    sheet First (squareAndPort 101 2000 5 3 3) 1 0 (9 ∷ []) (Total 5) (0 ∷ []) ∷  -- its own square, over its port
+    sheet First (squareAndPort 101 2001 5 3 3) 1 0 (9 ∷ []) (refused 4 0) (9 ∷ []) ∷
+    tableSheet First (copper 4) (0 ∷ 9 ∷ 9 ∷ 0 ∷ []) (9 ∷ 9 ∷ []) (Total 18) (1 ∷ 0 ∷ []) ∷
+    tableSheet First (copper 6) (0 ∷ 0 ∷ 0 ∷ 0 ∷ []) (9 ∷ 9 ∷ []) (refused 15 0) (9 ∷ 9 ∷ []) ∷
+    slotSheet First (squareAndPort 101 4 10 16 0 ++ pad 102 20 60) (heights (10 ∷ 20 ∷ 30 ∷ [])) 1 0 150 (9 ∷ 9 ∷ []) (Total 64) (1 ∷ 2 ∷ []) ∷
+    slotSheet First (squareAndPort 101 14 10 16 0 ++ pad 102 20 60) (heights (10 ∷ 20 ∷ 30 ∷ [])) 1 0 150 (9 ∷ 9 ∷ []) (refused 15 0) (9 ∷ 9 ∷ []) ∷
+    slotSheet Next (squareAndPort 101 4 10 16 0 ++ pad 102 20 60) (heights (10 ∷ 20 ∷ 30 ∷ [])) 1 0 150 (0 ∷ 1 ∷ []) (refusedPair 1 0) (0 ∷ 1 ∷ []) ∷
     []
 
 -- ---- Page
@@ -202,7 +234,7 @@ abbrev pub pageRefused : ℕ → ℕ → Paged
 pageRefused r i = NotPaged (refusal r i 0)
 
 -- In this order: fewer than fit, where the end comes; none after the last; no room for one; as many as fit; two; a refusal; a refusal without room;
--- both records of 9.
+-- both records of 9; a square that is met.
 abbrev pub pages : List PageSheet
 pages =
     pageSheet J3 1 0 (1 ∷ 0 ∷ []) (9 ∷ 9 ∷ 9 ∷ 9 ∷ 9 ∷ []) (Wrote 1) (0 ∷ 1 ∷ 9 ∷ 9 ∷ 9 ∷ []) ∷
@@ -213,4 +245,5 @@ pages =
     pageSheet J3 1 0 (0 ∷ 0 ∷ []) (9 ∷ 9 ∷ 9 ∷ 9 ∷ 9 ∷ []) (pageRefused 8 1) (9 ∷ 9 ∷ 9 ∷ 9 ∷ 9 ∷ []) ∷
     pageSheet J4 1 0 (1 ∷ 0 ∷ []) [] (pageRefused 10 0) [] ∷
     pageSheet J5 1 0 (1 ∷ 0 ∷ 2 ∷ []) (9 ∷ 9 ∷ 9 ∷ []) (NotPaged (refusal 9 2 1)) (9 ∷ 9 ∷ 9 ∷ []) ∷
+    pageSheet (copper 4) 1 0 (0 ∷ 1 ∷ []) (9 ∷ 9 ∷ []) (NotPaged (refusal 9 1 0)) (9 ∷ 9 ∷ []) ∷
     []

@@ -7,6 +7,7 @@ use mathlib.Core.Logic.{_≢_, _⊎_, _↔_}
 use mathlib.Core.Bool.{false}
 use mathlib.Core.List.{List}
 use Prim.Native.Nat.{ℕ, _+_, _*_, _≤_, _<_}
+use lib.Dec.{T}
 use lib.ListN.{length, getD}
 use lib.IntN.{ℤ, pos, negsuc, negℤ, natAbs, _+ℤ_}
 use lib.Signed.{_≤ℤ_}
@@ -19,19 +20,21 @@ use Rattle.paper.specs.declared.Drawn.the-variants.{Straight, Bent}
 use Rattle.paper.specs.declared.Form.the-variants.{Records, Slots}
 use Rattle.paper.specs.declared.Work.{Work}
 use Rattle.paper.specs.declared.Work.the-variants.{Unlent}
-use Rattle.paper.specs.Job.{Job, records, padsOf, count, twos, nameOf, reservedOf, xOf, yOf, portOf, lastOf, portCount}
-use Rattle.paper.specs.Leaders.{Leader, Between, Touch, lengthOf, bendsOf}
-use Rattle.paper.specs.Plane.{Line, TouchIn}
-use Rattle.paper.specs.Layouts.{Board, boardOf, held, leader, Touching, Layout, EachOnce, Untouching, sum, weighted, figure, Badness, byWeights, byTable, costOf, TableOf, total}
+use Rattle.paper.specs.Job.{Job, records, padsOf, count, twos, nameOf, halfOf, xOf, yOf, portOf, lastOf, portCount}
+use Rattle.paper.specs.Leaders.{Leader, Square, Between, Touch, Meets, lengthOf, bendsOf}
+use Rattle.paper.specs.Plane.{Line, TouchIn, MeetsIn}
+use Rattle.paper.specs.Layouts.{Board, boardOf, held, leader, LeadersTouch, Touching, Layout, EachOnce, Untouching, sum, weighted, figure, Badness, byWeights, byTable, costOf, TableOf, total}
 use Rattle.paper.specs.Layouts.{Same, Differ, Proper}
 use Rattle.paper.specs.Problem.{Best, Before, FirstBest, NextBest, LastBest, labeling, labelingOf}
-use Rattle.paper.specs.Refusals.{FirstFault, Passed, ofPairs, firstTrials, measureTrials, nextTrials, drawTrials, callsOf, Alone, FirstPair, Named}
+use Rattle.paper.specs.Refusals.{FirstFault, Passed, refusal, ofPairs, soundTrials, firstTrials, measureTrials, nextTrials, drawTrials, callsOf, Alone, FirstPair, Named}
 use Rattle.paper.specs.Canvas.{FourTimesIs, DrawnStraight, DrawnBent}
 use Rattle.paper.specs.Promises.{refusalNumber, refusalIn, Kept, coordinates, overwritten, FirstPromise, NextPromise, PagePromise, MeasurePromise, DrawPromise, WorkPromise}
-use Rattle.paper.specs.Promises.{OneReply, RefusesBy}
+use Rattle.paper.specs.Promises.{FirstReplies, NextReplies, PageReplies, MeasureReplies, OneReply, RefusesBy}
 use Rattle.paper.specs.Runs.{NextRun, Demand3, PageByNext, PagedOn}
 use Rattle.paper.specs.Sheets.{sample, Each, Allowed, sheets, PageAllowed, pages}
-use Rattle.paper.specs.Straightening.{LeastOfAll, CostsNothing, BendsCanCost, TablesCanCost}
+use Rattle.paper.specs.Straightening.{LeastOfAll, CostsNothing, BendsCanCost, TablesCanCost, SquaresCanCost}
+use Rattle.paper.specs.Points.{Points, pointCallsOf}
+use Rattle.paper.specs.laws.Tests.{meets}
 use Rattle.paper.specs.laws.Regular.{regular}
 use Rattle.paper.specs.laws.Numbers.{numbered}
 use Rattle.paper.specs.laws as by
@@ -78,20 +81,52 @@ pub draw-refuses : (job : List ℕ) (i q : ℕ) (before : List Float) (m : ℤ) 
     → RefusesBy (drawTrials job i q (length before)) m (after ≡ before)
 draw-refuses job i q before m after = by.Numbers.draw-refuses job i q before after m
 
--- The work list that First is lent holds after every refusal what it held (02); Next's after every refusal but 10, which comes where Measure's trials are passed.
+-- The work list that First is lent holds what it held after every refusal but 15 (02), which comes where 1 to 7 are passed; Next's after every refusal but 10, which
+-- comes where Measure's trials are passed.
 pub first-keeps-work : (job : Job) (bad : Badness) (work : Work) (before : List ℕ) (m : ℤ) (after lent left : List ℕ) → FirstPromise job bad work before m after
-    → WorkPromise m lent left → ¬ Passed (firstTrials job bad work (length before)) → left ≡ lent
+    → WorkPromise m lent left → ¬ Passed (soundTrials job bad work (length before)) → left ≡ lent
 first-keeps-work job bad work before m after lent left p w n =
     let refused = first-refuses job bad work before m after p in
-    let low = refused .exactly .1 n in
-    w low (by.Named.first-not-ten job bad work (length before) (refusalIn m) (refused .named low .0))
+    let low = refused .exactly .1 (λ q. n (by.Accepted.first-sound job bad work (length before) q)) in
+    let (ten, none) = by.Named.sound-checked job bad work (length before) (refusalIn m) (by.Named.not-by-none job bad work (length before) (refusalIn m) n (refused .named low .0)) in
+    w low ten none
 
 pub next-keeps-work : (job : Job) (bad : Badness) (work : Work) (before : List ℕ) (m : ℤ) (after lent left : List ℕ) → NextPromise job bad work before m after
     → WorkPromise m lent left → ¬ Passed (measureTrials job bad work before) → left ≡ lent
 next-keeps-work job bad work before m after lent left p w n =
     let refused = next-refuses job bad work before m after p in
     let low = refused .exactly .1 (λ q. n (by.Accepted.next-measured job bad work before q)) in
-    w low (by.Named.measure-not-ten job bad work before (refusalIn m) (by.Named.not-by-ten job bad work before (refusalIn m) n (refused .named low .0)))
+    let (ten, none) = by.Named.measure-checked job bad work before (refusalIn m) (by.Named.not-by-ten job bad work before (refusalIn m) n (refused .named low .0)) in
+    w low ten none
+
+-- ---- 15, where no layout is untouching (02)
+
+-- First refuses by 15, record 0, exactly if its other trials are passed and no layout is untouching.
+pub first-none : (job : Job) (bad : Badness) (work : Work) (before : List ℕ) (m : ℤ) (after : List ℕ) → FirstPromise job bad work before m after
+    → (m ≡ refusalNumber (refusal 15 0 0)) ↔ (Passed (soundTrials job bad work (length before)) × ((f : ℕ → ℕ) → ¬ Untouching (boardOf job) f))
+first-none job bad work before m after = by.Named.first-none job bad work before after m
+
+-- Next gives no 15: where no layout is untouching 8 or 9 comes first. So it is with Page and Measure.
+pub next-none : (job : Job) (bad : Badness) (work : Work) (before : List ℕ) (m : ℤ) (after : List ℕ) → NextPromise job bad work before m after
+    → Passed (soundTrials job bad work (length before)) → ((f : ℕ → ℕ) → ¬ Untouching (boardOf job) f) → (refusalIn m .reason ≡ 8) ⊎ (refusalIn m .reason ≡ 9)
+next-none job bad work before m after p sound none =
+    let refused = next-refuses job bad work before m after p in
+    let low = refused .exactly .1 (λ q. by.Named.not-measured job bad work before sound none (by.Accepted.next-measured job bad work before q)) in
+    by.Named.next-none job bad work before sound none (refusalIn m) (refused .named low .0)
+
+pub page-none : (job : Job) (bad : Badness) (work : Work) (given before : List ℕ) (m : ℤ) (after : List ℕ) → PagePromise job bad work given before m after
+    → Passed (soundTrials job bad work (length given)) → ((f : ℕ → ℕ) → ¬ Untouching (boardOf job) f) → (refusalIn m .reason ≡ 8) ⊎ (refusalIn m .reason ≡ 9)
+page-none job bad work given before m after p sound none =
+    let refused = page-refuses job bad work given before m after p in
+    let low = refused .exactly .1 (λ q. by.Named.not-measured job bad work given sound none (by.Accepted.next-measured job bad work given q)) in
+    by.Named.next-none job bad work given sound none (refusalIn m) (refused .named low .0)
+
+pub measure-none : (job : Job) (bad : Badness) (list : List ℕ) (m : ℤ) → MeasurePromise job bad list m
+    → Passed (soundTrials job bad Unlent (length list)) → ((f : ℕ → ℕ) → ¬ Untouching (boardOf job) f) → (refusalIn m .reason ≡ 8) ⊎ (refusalIn m .reason ≡ 9)
+measure-none job bad list m p sound none =
+    let refused = measure-refuses job bad list m p in
+    let low = refused .exactly .1 (by.Named.not-measured job bad Unlent list sound none) in
+    by.Named.measure-none job bad Unlent list sound none (refusalIn m) (refused .named low .0)
 
 -- ---- both records of 9 (02)
 
@@ -151,34 +186,43 @@ pub measure-answers : (job : Job) (bad : Badness) (list : List ℕ) (t : ℕ)
     ↔ (Passed (measureTrials job bad Unlent list) × (t ≡ total (boardOf job) (costOf (boardOf job) bad) (held list)))
 measure-answers job bad list t = (by.Numbers.measure-told (callsOf job bad Unlent) (numbered job bad Unlent) list t, λ a. (Total t, a, refl))
 
--- What is passed: 8 and 9 exactly if the list holds an untouching layout; Next's trials exactly if First's are, and the list holds a best one.
+-- What is passed: First's exactly if 1 to 7 are and some layout is untouching; 8 and 9 exactly if the list holds one; Next's trials exactly if First's are, and the
+-- list holds a best one.
+pub first-passed : (job : Job) (bad : Badness) (work : Work) (room : ℕ) → Passed (firstTrials job bad work room)
+    ↔ (Passed (soundTrials job bad work room) × ((f : ℕ → ℕ) × Untouching (boardOf job) f))
+first-passed job bad work room = (
+  (λ p. (by.Accepted.first-sound job bad work room p, regular job bad work .exists room p)),
+  (λ (p, (f, u)). by.Accepted.first-passed job bad work room p (λ none. none f u)),
+)
+
 pub measure-passed : (job : Job) (bad : Badness) (list : List ℕ) → Passed (measureTrials job bad Unlent list)
-    ↔ (Passed (firstTrials job bad Unlent (length list)) × Untouching (boardOf job) (held list))
+    ↔ (Passed (soundTrials job bad Unlent (length list)) × Untouching (boardOf job) (held list))
 measure-passed job bad list = (by.Accepted.measure-accepted job bad Unlent list, λ (p, u). by.Accepted.untouching-passed job bad Unlent list p u)
 
 pub next-passed : (job : Job) (bad : Badness) (work : Work) (list : List ℕ) → Passed (nextTrials job bad work list)
     ↔ (Passed (firstTrials job bad work (length list)) × Best (labelingOf job bad) (held list))
 next-passed job bad work = regular job bad work .next-is
 
--- An accepted job has 1 to 64 pads, and as many ports at least, at most 128, their fields in range, pads whose x differ, and ports that rise.
-pub accepted-job : (job : Job) (bad : Badness) (work : Work) (room : ℕ) → Passed (firstTrials job bad work room)
+-- A job that passes 1 to 7, and so every accepted one, has 1 to 64 pads, and as many ports at least, at most 128, their fields in range, pads whose x differ, and ports
+-- that rise.
+pub accepted-job : (job : Job) (bad : Badness) (work : Work) (room : ℕ) → Passed (soundTrials job bad work room)
     → (0 < boardOf job .pads) × (boardOf job .pads ≤ 64) × (boardOf job .ports ≤ 128) × Proper (boardOf job)
     × ((i : ℕ) → i < boardOf job .pads
-    → (nameOf (padsOf job) i ≢ 0) × (reservedOf (padsOf job) i ≡ 0) × (1 ≤ boardOf job .x i) × (boardOf job .x i ≤ 1000000) × (natAbs (boardOf job .y i) ≤ 1000000))
+    → (nameOf (padsOf job) i ≢ 0) × (boardOf job .half i ≤ 2000) × (1 ≤ boardOf job .x i) × (boardOf job .x i ≤ 1000000) × (natAbs (boardOf job .y i) ≤ 1000000))
     × ((q : ℕ) → q < boardOf job .ports → natAbs (boardOf job .port q) ≤ 1000000)
 accepted-job job bad work room p =
-    let a = by.Accepted.first-accepted job bad work room p .0 in
-    (a .some, a .few, a .slots-few, a .proper, (λ i l. (a .named i l, a .reserved i l, a .right i l, a .width i l, a .pad i l)), a .port)
+    let a = by.Accepted.sound-accepted job bad work room p .0 in
+    (a .some, a .few, a .slots-few, a .proper, (λ i l. (a .named i l, a .half i l, a .right i l, a .width i l, a .pad i l)), a .port)
 
--- In every accepted job a name stands for one pad: no two are equal, and none is 0 (02).
-pub names-differ : (job : Job) (bad : Badness) (work : Work) (room : ℕ) → Passed (firstTrials job bad work room)
+-- In every such job a name stands for one pad: no two are equal, and none is 0 (02).
+pub names-differ : (job : Job) (bad : Badness) (work : Work) (room : ℕ) → Passed (soundTrials job bad work room)
     → (i j : ℕ) → j < i → i < boardOf job .pads → nameOf (padsOf job) i ≢ nameOf (padsOf job) j
-names-differ job bad work room p = by.Accepted.first-accepted job bad work room p .0 .names-differ
+names-differ job bad work room p = by.Accepted.sound-accepted job bad work room p .0 .names-differ
 
--- In every accepted job each port is at least 8 above those before it (02), so that ports rise.
-pub ports-apart : (job : Job) (bad : Badness) (work : Work) (room : ℕ) → Passed (firstTrials job bad work room)
+-- In every such job each port is at least 8 above those before it (02), so that ports rise.
+pub ports-apart : (job : Job) (bad : Badness) (work : Work) (room : ℕ) → Passed (soundTrials job bad work room)
     → (a c : ℕ) → a < c → c < boardOf job .ports → (boardOf job .port a +ℤ pos 8) ≤ℤ boardOf job .port c
-ports-apart job bad work room p = by.Accepted.first-accepted job bad work room p .0 .spaced
+ports-apart job bad work room p = by.Accepted.sound-accepted job bad work room p .0 .spaced
 
 -- In a layout each port number stands exactly once, and where each does, that is a layout (with as many ports as pads, as in records).
 pub each-port-once : (b : Board) (f : ℕ → ℕ) → b .ports ≡ b .pads → Layout b f ↔ EachOnce b f
@@ -190,6 +234,17 @@ touch-plane = by.Plane.touch-plane
 
 pub touch-criterion : (l m : Leader) → m .x < l .x → Touch l m ↔ Between (l .port) (m .y) (m .port)
 touch-criterion = by.Touching.touch-iff
+
+-- A leader and a square that share any point of the plane share a whole one; and the code's test says whether they do.
+pub meets-plane : (line : Line) (l : Leader) (s : Square) → MeetsIn line l s ↔ Meets l s
+meets-plane = by.Plane.meets-plane
+
+pub meets-iff : (l : Leader) (s : Square) → T (meets l s) ↔ Meets l s
+meets-iff = by.Squares.meets-iff
+
+-- Records whose half-sides are 0 touch exactly if their leaders do: 01's rule.
+pub points-touch : (b : Board) (f : ℕ → ℕ) (i j : ℕ) → b .half i ≡ 0 → b .half j ≡ 0 → Touching b f i j ↔ LeadersTouch b f i j
+points-touch = by.Squares.points-iff
 
 -- By weights the total is (length weight × sum of lengths) + (bend weight × sum of bends); a leader has no bend exactly if its pad is at its port's height; and a
 -- total is at most 192,000,064,000. By a table of figures of 32 bits it is at most 64 times the largest, 274,877,906,880. C's number has 63 bits for it.
@@ -255,7 +310,7 @@ drawn-once a b v = by.Quarter.four-times-one {a = a} {b = b} v
 pub drawn-zero : (a : Float) → FourTimesIs a (pos 0) → a ≡ fin false 0 (pos 0)
 drawn-zero a = by.Quarter.zero-positive {a = a}
 
--- With both weights 0, or all figures equal, every untouching layout is best; and every job that is accepted has one.
+-- With both weights 0, or all figures equal, every untouching layout is best; and every job that passes 1 to 7, and whose half-sides are all 0, has one.
 pub zero-weights : (b : Board) (f : ℕ → ℕ) → Untouching b f → Best (labeling b (weighted b 0 0)) f
 zero-weights = by.Boards.zero-weights
 
@@ -263,8 +318,9 @@ pub equal-figures : (b : Board) (figures : List ℕ) (c : ℕ) → ((i q : ℕ) 
     → (f : ℕ → ℕ) → Untouching b f → Best (labeling b (figure b figures)) f
 equal-figures b figures = by.Boards.equal-costs b (figure b figures)
 
-pub untouching-exists : (job : Job) (bad : Badness) (work : Work) (room : ℕ) → Passed (firstTrials job bad work room) → (f : ℕ → ℕ) × Untouching (boardOf job) f
-untouching-exists job bad work = regular job bad work .exists
+pub untouching-exists : (job : Job) (bad : Badness) (work : Work) (room : ℕ) → Points (boardOf job) → Passed (soundTrials job bad work room)
+    → (f : ℕ → ℕ) × Untouching (boardOf job) f
+untouching-exists job bad work room points p = by.Existence.points-exist (boardOf job) (by.Accepted.sound-accepted job bad work room p .0 .proper) points
 
 -- ---- DEMAND 3: the first sheet and then the next until the end gives every best sheet, each exactly once, in order, and no other; the end comes
 
@@ -278,7 +334,7 @@ before-trans = by.Order.before-trans
 pub before-total : (b : Board) (f g : ℕ → ℕ) → Before b f g ⊎ Same b f g ⊎ Before b g f
 before-total = by.Order.before-total
 
--- For every accepted job and pair of weights, or table, in the words of Runs.
+-- For every job that First accepts and pair of weights, or table, in the words of Runs.
 pub demand-3 : (job : Job) (bad : Badness) (work : Work) (list : List ℕ) → Passed (firstTrials job bad work (length list)) → Demand3 (callsOf job bad work) list
 demand-3 job bad work list = by.Demand.demand-3 (callsOf job bad work) (regular job bad work) list
 
@@ -300,20 +356,42 @@ paged-on job bad work = by.ByNext.paged-on (callsOf job bad work) (regular job b
 
 -- ---- straightening costs no length (02, No. 5)
 
--- For bend weight 0 no layout at all, touching or not, has a smaller total than First answers; nor than a best one, on any board with enough ports.
-pub straightening-costs-no-length : (job : Job) (lw : ℕ) (work : Work) → CostsNothing job (byWeights lw 0) work
+-- For half-sides 0 and bend weight 0 no layout at all, touching or not, has a smaller total than First answers; nor than a best one, on any board with enough ports.
+pub straightening-costs-no-length : (job : Job) → Points (boardOf job) → (lw : ℕ) (work : Work) → CostsNothing job (byWeights lw 0) work
 straightening-costs-no-length = by.Shortest.straightening-costs-no-length
 
-pub best-of-all : (b : Board) → Proper b → (lw : ℕ) (f : ℕ → ℕ) → Best (labeling b (weighted b lw 0)) f
+pub best-of-all : (b : Board) → Proper b → Points b → (lw : ℕ) (f : ℕ → ℕ) → Best (labeling b (weighted b lw 0)) f
     → LeastOfAll b (weighted b lw 0) (total b (weighted b lw 0) f)
 best-of-all = by.Shortest.best-of-all
 
--- With a bend weight it can cost: an example, for every length weight. And with a table.
+-- With a bend weight it can cost: an example, for every length weight. And with a table, and with a square.
 pub bends-can-cost : BendsCanCost
 bends-can-cost = by.Shortest.bends-can-cost
 
 pub tables-can-cost : TablesCanCost
 tables-can-cost = by.Shortest.tables-can-cost
+
+pub squares-can-cost : SquaresCanCost
+squares-can-cost = by.Shortest.squares-can-cost
+
+-- ---- on points the promises are 01's (02)
+
+-- Of a job whose half-sides are all 0 First replies as where only leaders touch, and no job is refused by 15; so do Next, Page and Measure.
+pub first-on-points : (job : Job) (bad : Badness) (work : Work) → Points (boardOf job) → (before : List ℕ) (m : ℤ) (after : List ℕ)
+    → FirstPromise job bad work before m after ↔ FirstReplies (pointCallsOf job bad work) before m after
+first-on-points job bad work points = by.OnPoints.first-on-points job bad points work
+
+pub next-on-points : (job : Job) (bad : Badness) (work : Work) → Points (boardOf job) → (before : List ℕ) (m : ℤ) (after : List ℕ)
+    → NextPromise job bad work before m after ↔ NextReplies (pointCallsOf job bad work) before m after
+next-on-points job bad work points = by.OnPoints.next-on-points job bad points work
+
+pub page-on-points : (job : Job) (bad : Badness) (work : Work) → Points (boardOf job) → (given before : List ℕ) (m : ℤ) (after : List ℕ)
+    → PagePromise job bad work given before m after ↔ PageReplies (pointCallsOf job bad work) given before m after
+page-on-points job bad work points = by.OnPoints.page-on-points job bad points work
+
+pub measure-on-points : (job : Job) (bad : Badness) → Points (boardOf job) → (list : List ℕ) (m : ℤ)
+    → MeasurePromise job bad list m ↔ MeasureReplies (pointCallsOf job bad Unlent) list m
+measure-on-points job bad points = by.OnPoints.measure-on-points job bad points Unlent
 
 -- ---- the weighted calls are the table of weighted lengths and bends (02)
 
@@ -334,25 +412,25 @@ pub measure-by-table : (job : Job) (lw bw : ℕ) (figures : List ℕ) → lw ≤
     → (list : List ℕ) (m : ℤ) → MeasurePromise job (byWeights lw bw) list m ↔ MeasurePromise job (byTable figures) list m
 measure-by-table = by.Alike.measure-by-table
 
--- There is such a table, and its figures have 32 bits in every job that First accepts.
+-- There is such a table, and its figures have 32 bits in every job that passes 1 to 7.
 pub weighted-table : (b : Board) (lw bw : ℕ) → (figures : List ℕ) × TableOf b (weighted b lw bw) figures
 weighted-table b lw bw = by.Alike.table-of b (weighted b lw bw)
 
-pub weighted-fits : (job : Job) (lw bw : ℕ) (work : Work) (room : ℕ) → Passed (firstTrials job (byWeights lw bw) work room)
+pub weighted-fits : (job : Job) (lw bw : ℕ) (work : Work) (room : ℕ) → Passed (soundTrials job (byWeights lw bw) work room)
     → (i q : ℕ) → i < boardOf job .pads → q < boardOf job .ports → weighted (boardOf job) lw bw i q < 4294967296
 weighted-fits job lw bw work room p =
-    let (accepted, fair, _) = by.Accepted.first-accepted job (byWeights lw bw) work room p in
+    let (accepted, fair, _) = by.Accepted.sound-accepted job (byWeights lw bw) work room p in
     by.Accepted.weighted-narrow accepted lw bw (fair .0) (fair .1)
 
 -- ---- the worked sheets
 
 -- The fields of a record, byte by byte: offsets, little-endian, two's complement.
-pub fields-read : (count sample ≡ 2) × (nameOf sample 1 ≡ 513) × (reservedOf sample 1 ≡ 1027) × (xOf sample 1 ≡ 134678021)
+pub fields-read : (count sample ≡ 2) × (nameOf sample 1 ≡ 513) × (halfOf sample 1 ≡ 1027) × (xOf sample 1 ≡ 134678021)
     × (yOf sample 1 ≡ negℤ (pos 1)) × (lastOf sample 1 ≡ 2147483648) × (portOf Records sample 1 ≡ negℤ (pos 2147483648))
     × (portCount Slots sample ≡ 8) × (portOf Slots sample 7 ≡ negℤ (pos 2147483648)) × (twos 2147483647 ≡ pos 2147483647)
 fields-read = by.Vectors.fields-read
 
--- P1 to P12, and those of 02 for 12, for both records of 9, by tables and on slots, are replies that the promises allow; so are Page's eight.
+-- P1 to P12, and those of 02 for 12, for both records of 9, by tables, on slots and with squares, are replies that the promises allow; so are Page's nine.
 pub worked : Each Allowed sheets
 worked = by.Worked.worked
 

@@ -3,6 +3,7 @@
 pub mod Tests
 -- Touching, totals, layouts and their order:
 pub mod Touching
+pub mod Squares
 pub mod Plane
 pub mod Totals
 pub mod Boards
@@ -11,8 +12,8 @@ pub mod Order
 pub mod Trials
 pub mod Decided
 pub mod Accepted
-pub mod Named
 pub mod Numbers
+pub mod Named
 pub mod Bounds
 -- Drawn points:
 pub mod Quarter
@@ -33,6 +34,7 @@ pub mod Determined
 pub mod Met
 pub mod Demand
 pub mod ByNext
-pub mod Shortest
 pub mod Alike
+pub mod OnPoints
 pub mod Worked
+pub mod Shortest

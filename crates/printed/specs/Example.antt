@@ -6,17 +6,17 @@ use native.Mathlib.Omega.{arith}
 use lib.ListN.{replicate, getD}
 use Rattle.paper.specs.declared.Answer.the-variants.{Total}
 use Rattle.paper.specs.declared.Work.the-variants.{Unlent}
-use Rattle.paper.specs.Job.{records, twos, nameOf, reservedOf, xOf, yOf, lastOf, portOf}
+use Rattle.paper.specs.Job.{records, twos, nameOf, halfOf, xOf, yOf, lastOf, portOf}
 use Rattle.paper.specs.Leaders.{lengthOf, bendsOf}
 use Rattle.paper.specs.Layouts.{boardOf, held, weighted, byWeights, sum}
 use Rattle.paper.specs.Problem.{FirstBest, labelingOf}
-use Rattle.paper.specs.Refusals.{Passed, firstTrials}
+use Rattle.paper.specs.Refusals.{Passed, soundTrials, firstTrials}
 use Rattle.paper.specs.Promises.{Kept}
 use Rattle.paper.specs.laws.Totals.{totalOf}
 use Rattle.paper.specs.Sheets.{J5}
-use Rattle.paper.specs.laws.Tests.{somewhere, outside, between, leadersMeet, jobTests, firstTests}
-use Rattle.paper.specs.laws.Decided.{tests-pass, firstTestsOf, first-tests}
-use Rattle.paper.specs.laws.Accepted.{first-accepted}
+use Rattle.paper.specs.laws.Tests.{somewhere, outside, between, leadersMeet, covers, jobTests, soundTests}
+use Rattle.paper.specs.laws.Decided.{tests-pass, soundTestsOf, sound-tests}
+use Rattle.paper.specs.laws.Accepted.{sound-accepted, first-passed}
 use Rattle.paper.specs.laws.Trying.{firstTest, bestTest, first-iff, labeling-searchable, heads, words, any, someWord, leastTest}
 use Rattle.paper.specs.laws.Trying.{misled, untouchingTest, differRight, decidedAt, beforeTest, cheaper}
 use Rattle.text.specs.Text.{bytes, digits, decimal}
@@ -26,16 +26,19 @@ use Rattle.printed.specs.Printed.{line, lines, Printed}
 abbrev list : List ℕ
 list = 1 ∷ 2 ∷ 0 ∷ replicate 61 0
 
-passed : Passed (firstTrials (records J5) (byWeights 1 0) Unlent 64)
-unfolding somewhere outside jobTests firstTests twos nameOf reservedOf xOf yOf lastOf portOf
-passed =
-    tests-pass (firstTestsOf (records J5) (byWeights 1 0) Unlent 64) (firstTrials (records J5) (byWeights 1 0) Unlent 64)
-    (first-tests (records J5) (byWeights 1 0) Unlent 64) tt
+sound : Passed (soundTrials (records J5) (byWeights 1 0) Unlent 64)
+unfolding somewhere outside jobTests soundTests twos nameOf halfOf xOf yOf lastOf portOf
+sound =
+    tests-pass (soundTestsOf (records J5) (byWeights 1 0) Unlent 64) (soundTrials (records J5) (byWeights 1 0) Unlent 64)
+    (sound-tests (records J5) (byWeights 1 0) Unlent 64) tt
 
 earliest : FirstBest (labelingOf (records J5) (byWeights 1 0)) (held list)
-unfolding firstTest bestTest heads words any someWord leastTest misled untouchingTest differRight decidedAt beforeTest cheaper somewhere between leadersMeet
-    twos xOf yOf portOf lengthOf bendsOf sum weighted
-earliest = first-iff (labelingOf (records J5) (byWeights 1 0)) (labeling-searchable (boardOf (records J5)) (weighted (boardOf (records J5)) 1 0) (first-accepted (records J5) (byWeights 1 0) Unlent 64 passed .0 .proper .differ)) (held list) .0 tt
+unfolding firstTest bestTest heads words any someWord leastTest misled untouchingTest differRight decidedAt beforeTest cheaper somewhere between leadersMeet covers
+    twos halfOf xOf yOf portOf lengthOf bendsOf sum weighted
+earliest = first-iff (labelingOf (records J5) (byWeights 1 0)) (labeling-searchable (boardOf (records J5)) (weighted (boardOf (records J5)) 1 0) (sound-accepted (records J5) (byWeights 1 0) Unlent 64 sound .0 .proper .differ)) (held list) .0 tt
+
+passed : Passed (firstTrials (records J5) (byWeights 1 0) Unlent 64)
+passed = first-passed (records J5) (byWeights 1 0) Unlent 64 sound (λ none. none (held list) (earliest .best .counts))
 
 total : 90 ≡ totalOf (boardOf (records J5)) (byWeights 1 0) list
 unfolding twos xOf yOf portOf lengthOf bendsOf sum weighted

@@ -16,8 +16,8 @@ use Rattle.paper.specs.Layouts.{byWeights, boardOf, leader, held}
 use Rattle.paper.specs.Refusals.{Passed, measureTrials, callsOf}
 use Rattle.paper.specs.Promises.{FirstAnswers}
 use Rattle.paper.specs.laws.Totals.{totalOf, total-is}
-use Rattle.paper.specs.laws.Decided.{first-parts}
-use Rattle.paper.specs.laws.Accepted.{fair-iff, first-accepted, first-other-room, untouching-passed}
+use Rattle.paper.specs.laws.Decided.{sound-parts}
+use Rattle.paper.specs.laws.Accepted.{fair-iff, first-sound, sound-accepted, sound-other-room, untouching-passed}
 use Rattle.paper.specs.laws.Determined.{first-answer}
 use Rattle.text.specs.Text.{bytes, Writes}
 use Rattle.text.specs.Writing.{writes-none, writes-then, writes-whole}
@@ -75,11 +75,12 @@ module _ (job list : List ℕ) (a : Answer) (f : FirstAnswers (records job) (byW
   -- A layout: what the sheet goes by,
   pub first-passed : (t : ℕ) → a ≡ Total t → Passed (measureTrials (records job) (byWeights 0 1) Unlent list) × (t ≡ lengths job list)
   first-passed t e =
-      let (q, b, s, k) : FirstAnswers (records job) (byWeights 1 0) Unlent (replicate 64 0) (Total t) list = rw e at f in
-      let (sizes, given, roomy, passed) = first-parts (records job) (byWeights 1 0) Unlent 64 .0 q in
+      let (p, b, s, k) : FirstAnswers (records job) (byWeights 1 0) Unlent (replicate 64 0) (Total t) list = rw e at f in
+      let q = first-sound (records job) (byWeights 1 0) Unlent 64 p in
+      let (sizes, given, roomy, passed) = sound-parts (records job) (byWeights 1 0) Unlent 64 .0 q in
       let fair = fair-iff (boardOf (records job)) (byWeights 0 1) .1 (omega arith, omega arith) in
-      let room = first-accepted (records job) (byWeights 1 0) Unlent 64 q .2 in
-      let other = first-other-room (records job) (byWeights 0 1) Unlent 64 (length list) (first-parts (records job) (byWeights 0 1) Unlent 64 .1 (sizes, fair, roomy, passed)) (omega (arith, k .long)) in
+      let room = sound-accepted (records job) (byWeights 1 0) Unlent 64 q .2 in
+      let other = sound-other-room (records job) (byWeights 0 1) Unlent 64 (length list) (sound-parts (records job) (byWeights 0 1) Unlent 64 .1 (sizes, fair, roomy, passed)) (omega (arith, k .long)) in
       (untouching-passed (records job) (byWeights 0 1) Unlent list other (b .best .counts), lengths-are job list t s)
 
   -- and its text is what is printed;

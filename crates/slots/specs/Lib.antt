@@ -1,3 +1,4 @@
--- Slots: the definitions that the contracts of `slots` cite. Lending: what a caller has to know of the list that it lends.
+-- Slots: the definitions that the contracts of `slots` cite. Marks: laws of marks. Lending: what a caller has to know of the list that it lends.
 pub mod Slots
+pub mod Marks
 pub mod Lending

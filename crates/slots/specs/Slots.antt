@@ -95,7 +95,7 @@ follows w m i = getD w (m + i) 0
 abbrev pub openedFrom : List ℕ → List ℕ → ℕ → ℕ → ℕ
 openedFrom shut w m q = openedOf (getD shut q 0) (follows w m q)
 
--- v is w, with 1 at the ports of a pad's height.
+-- v is w, with 1 from place l to place h - 1: here the ports of a pad's height.
 pub record Shut (l h : ℕ) (w v : List ℕ) : Type 0 where
   pub long : length v ≡ length w
   pub marks : (q : ℕ) → q < length w → getD v q 0 ≡ cond (leb l q && ltb q h) 1 (getD w q 0)

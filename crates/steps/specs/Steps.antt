@@ -2,17 +2,17 @@
 use mathlib.Core.Path.{_≡_}
 use mathlib.Core.Bool.{Bool, true, false}
 use mathlib.Core.List.{List}
-use Prim.Native.Nat.{ℕ}
+use Prim.Native.Nat.{ℕ, _^_, _≤_}
 use lib.ListN.{length, take}
 use Rattle.numbers.specs.Kept.{KeptFrom}
-use Rattle.strips.specs.Least.{some}
+use Rattle.strips.specs.Least.{none, some}
 use Rattle.strips.specs.Grid.{Sol, costSum, best}
 use Rattle.strips.specs.Order.{SameOn, EarliestOn}
 use Rattle.strips.specs.FirstNext.{Optimal, Later, FilledFrom}
 use Rattle.places.specs.Places.{portIn}
 use Rattle.choices.specs.Source.{Source, gridOn}
 
--- A layout without touching leaders.
+-- A layout without touching leaders, each pad on a port that it may use.
 abbrev pub UntouchingLayout : List ℕ → Source → List ℕ → List ℕ → List ℕ → Type 0
 UntouchingLayout order T lo hi w = Sol (gridOn order T lo hi) order 0 (T .ports) (portIn w)
 
@@ -28,9 +28,10 @@ BestLayout order T lo hi w = Optimal (gridOn order T lo hi) order (T .ports) (po
 abbrev pub totalIn : List ℕ → Source → List ℕ → List ℕ → List ℕ → ℕ
 totalIn order T lo hi w = costSum (gridOn order T lo hi .cost) order (portIn w)
 
--- t is the least total, if there is one.
-abbrev pub IsLeast : List ℕ → Source → List ℕ → List ℕ → ℕ → Type 0
-IsLeast order T lo hi t = (v : ℕ) → best (gridOn order T lo hi) order 0 (T .ports) ≡ some v → t ≡ v
+-- t is the least total; where there is no layout, a number from 2 ^ 62 on.
+pub record IsLeast (order : List ℕ) (T : Source) (lo hi : List ℕ) (t : ℕ) : Type 0 where
+  pub total : (v : ℕ) → best (gridOn order T lo hi) order 0 (T .ports) ≡ some v → t ≡ v
+  pub none : best (gridOn order T lo hi) order 0 (T .ports) ≡ none → 2 ^ 62 ≤ t
 
 -- FIRST: v holds the earliest best layout.
 pub record FirstIs (order : List ℕ) (T : Source) (lo hi w v : List ℕ) : Type 0 where

@@ -23,8 +23,8 @@ pub record Row (S : Sides) (C : ℕ → ℕ → Least) (order hs ts : List ℕ) 
   pub done : (b′ : ℕ) → a ≤ b′ → b′ < b → Cell S C order a b′ (getD hs (place a b′) 0) (getD ts (place a b′) 0)
 
 -- other tables of the same length
-pub sizes-with : {hs ts hs′ ts′ order cs : List ℕ} → Sizes hs ts order cs → length hs′ ≡ 2145 → length ts′ ≡ 2145 → Sizes hs′ ts′ order cs
-sizes-with Z h t = record { heads = h; totals = t; square = Z .square; cheap = Z .cheap }
+pub sizes-with : {hs ts hs′ ts′ order cs bs : List ℕ} → Sizes hs ts order cs bs → length hs′ ≡ 2145 → length ts′ ≡ 2145 → Sizes hs′ ts′ order cs bs
+sizes-with Z h t = record { heads = h; totals = t; square = Z .square; bars = Z .bars; cheap = Z .cheap }
 
 module _ (S : Sides) (C : ℕ → ℕ → Least) (order : List ℕ) where
   pub row-start : (hs ts : List ℕ) (a : ℕ) → Rows S C order hs ts (a + 1) → Row S C order hs ts a a
@@ -91,14 +91,14 @@ whole-count S n h (j ∷ js) =
     ap (λ (x : Bool). bit x + padsIn S 0 n js) (spans-by 0 n (S .lo j) (S .hi j) zero-le (h j)) ∙ (let more = whole-count S n h js in omega arith)
 
 -- the first row's last cell has the best total of all pads on all ports
-pub whole-best : {order cs lo hi hs ts : List ℕ} → Pads order lo hi (length order) → Table order cs lo hi hs ts
-    → getD ts (cornerOf (length order)) 0 ≡ coded (strip.best (gridOf order cs lo hi) order 0 (length order))
+pub whole-best : {order cs bs lo hi hs ts : List ℕ} → Pads order lo hi (length order) → Table order cs bs lo hi hs ts
+    → getD ts (cornerOf (length order)) 0 ≡ coded (strip.best (gridOf order cs bs lo hi) order 0 (length order))
 unfolding bestWithin
-whole-best {order} {cs} {lo} {hi} {hs} {ts} P T =
+whole-best {order} {cs} {bs} {lo} {hi} {hs} {ts} P T =
     let n = length order in
     let e : cornerOf n + 0 ≡ cornerOf n = omega arith in
     ap (λ (k : ℕ). getD ts k 0) (sym e)
-    ∙ cell-right (sidesOf lo hi) (figures cs n) order 0 n (getD hs (place 0 n) 0) (getD ts (place 0 n) 0) (T .rows 0 n zero-le zero-le (omega arith)) 0 zero-le
+    ∙ cell-right (sidesOf lo hi) (figures cs bs n) order 0 n (getD hs (place 0 n) 0) (getD ts (place 0 n) 0) (T .rows 0 n zero-le zero-le (omega arith)) 0 zero-le
     (whole-count (sidesOf lo hi) n (P .top) order ∙ omega arith)
-    ∙ ap (λ (l : List ℕ). coded (strip.best (gridOf order cs lo hi) l 0 n))
+    ∙ ap (λ (l : List ℕ). coded (strip.best (gridOf order cs bs lo hi) l 0 n))
     (keep-same (fits (sidesOf lo hi) 0 n) order (λ j m. spans-by 0 n (getD lo j 0) (getD hi j 0) zero-le (P .top j)))

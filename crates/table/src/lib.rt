@@ -18,24 +18,39 @@ fn fill_row(
     all: &[u8],
     order: &[u8],
     cost: &[u32],
+    bars: &[u8],
     lo: &[u8],
     hi: &[u8],
     a: usize,
 )
     requires { ⌜ Pads (now order) (now lo) (now hi) (length (now order)) ⌝ }
-    requires { ⌜ Sizes (now heads) (now totals) (now order) (now cost) ⌝ }
+    requires { ⌜ Sizes (now heads) (now totals) (now order) (now cost) (now bars) ⌝ }
     requires { ⌜ Rooms (now at) (now seen) (now all) ⌝ }
     requires { ⌜ (length (now lows) ≡ 65) × (length (now sums) ≡ 65) × (a ≤ length (now order)) ⌝ }
     requires { ⌜ Tallies (sidesOf (now lo) (now hi)) (now order) (now at) (now seen) (now all) a ⌝ }
-    requires { ⌜ RowsOf (now order) (now cost) (now lo) (now hi) (now heads) (now totals) (a + 1) ⌝ }
+    requires { ⌜ RowsOf (now order) (now cost) (now bars) (now lo) (now hi) (now heads) (now totals) (a + 1) ⌝ }
     ensures { λ _. ⌜ Tallies (sidesOf (now (lo .entry)) (now (hi .entry))) (now (order .entry)) (now (at .exit)) (now (seen .exit)) (now (all .entry)) a ⌝ }
-    ensures { λ _. ⌜ RowsOf (now (order .entry)) (now (cost .entry)) (now (lo .entry)) (now (hi .entry)) (now (heads .exit)) (now (totals .exit)) a ⌝ }
+    ensures { λ _. ⌜ RowsOf (now (order .entry)) (now (cost .entry)) (now (bars .entry)) (now (lo .entry)) (now (hi .entry)) (now (heads .exit))
+        (now (totals .exit)) a ⌝ }
 {
     let n = order.len();
     let mut b = a;
     while b <= n {
         let h = heads::head(at, seen, all, order, lo, hi, a, b);
-        let v = totals::strip_total(lows, sums, heads, totals, order, cost, lo, hi, a, b, h);
+        let v = totals::strip_total(
+            lows,
+            sums,
+            heads,
+            totals,
+            order,
+            cost,
+            bars,
+            lo,
+            hi,
+            a,
+            b,
+            h,
+        );
         let i = totals::corner(b) + a;
         let k = totals::kept(h, v) as u8;
         heads[i] = k;
@@ -52,13 +67,15 @@ pub fn fill(
     totals: &mut [u64],
     order: &[u8],
     cost: &[u32],
+    bars: &[u8],
     lo: &[u8],
     hi: &[u8],
 ) -> u64
     requires { ⌜ Pads (now order) (now lo) (now hi) (length (now order)) ⌝ }
-    requires { ⌜ (length (now heads) ≡ 2145) × (length (now totals) ≡ 2145) × (length (now cost) ≡ length (now order) * length (now order)) ⌝ }
-    ensures { λ _. ⌜ Table (now (order .entry)) (now (cost .entry)) (now (lo .entry)) (now (hi .entry)) (now (heads .exit)) (now (totals .exit)) ⌝ }
-    ensures { λ v. ⌜ v ≡ leastOf (now (order .entry)) (now (cost .entry)) (now (lo .entry)) (now (hi .entry)) ⌝ }
+    requires { ⌜ (length (now heads) ≡ 2145) × (length (now totals) ≡ 2145) × (length (now cost) ≡ length (now order) * length (now order))
+        × (length (now bars) ≡ length (now order) * length (now order)) ⌝ }
+    ensures { λ _. ⌜ Table (now (order .entry)) (now (cost .entry)) (now (bars .entry)) (now (lo .entry)) (now (hi .entry)) (now (heads .exit)) (now (totals .exit)) ⌝ }
+    ensures { λ v. ⌜ v ≡ leastOf (now (order .entry)) (now (cost .entry)) (now (bars .entry)) (now (lo .entry)) (now (hi .entry)) ⌝ }
 {
     let mut at = [0u8; 65];
     let mut seen = [0u8; 65];
@@ -79,6 +96,7 @@ pub fn fill(
             &all,
             order,
             cost,
+            bars,
             lo,
             hi,
             a,

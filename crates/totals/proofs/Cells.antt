@@ -118,11 +118,15 @@ module _ (S : Sides) (C : ℕ → ℕ → Least) (level : (j : ℕ) → S .lo j 
 
 -- ---- the same of the lists that the code has
 
-pub figures-cheap : {hs ts order cs : List ℕ} → Sizes hs ts order cs → (j q : ℕ) → Capped (2 ^ 32) (figures cs (length order) j q)
-figures-cheap {hs} {ts} {order} {cs} Z j q = let u = Z .cheap (j * length order + q) in omega arith
+pub figures-cheap : {hs ts order cs bs : List ℕ} → Sizes hs ts order cs bs → (j q : ℕ) → Capped (2 ^ 32) (figures cs bs (length order) j q)
+figures-cheap {hs} {ts} {order} {cs} {bs} Z j q = go (eqb (getD bs (j * length order + q) 0) 0)
+  where
+    go : (z : Bool) → Capped (2 ^ 32) (cond z (some (getD cs (j * length order + q) 0)) none)
+    go true = let u = Z .cheap (j * length order + q) in omega arith
+    go false = tt
 
-module _ {hs ts order cs lo hi : List ℕ} (P : Pads order lo hi (length order)) (Z : Sizes hs ts order cs) (r a b : ℕ) (T : Strip (sidesOf lo hi) order a b r)
-    (D : Parts (sidesOf lo hi) (figures cs (length order)) order hs ts a b) (q : ℕ) (aq : a ≤ q) (qb : q < b) where
+module _ {hs ts order cs bs lo hi : List ℕ} (P : Pads order lo hi (length order)) (Z : Sizes hs ts order cs bs) (r a b : ℕ) (T : Strip (sidesOf lo hi) order a b r)
+    (D : Parts (sidesOf lo hi) (figures cs bs (length order)) order hs ts a b) (q : ℕ) (aq : a ≤ q) (qb : q < b) where
   abbrev h-below : ℕ
   h-below = getD hs (place a q) 0
 
@@ -141,42 +145,50 @@ module _ {hs ts order cs lo hi : List ℕ} (P : Pads order lo hi (length order))
   b64 : b ≤ 64
   b64 = omega (arith, T .ports, P .few)
 
+  -- the pad's figure, and what the parts have: none where it is barred
+  figured : (z : Bool) → cond z (sumAt ts ts cs row q (place a q) (place (q + 1) b)) noTotal
+      ≡ coded (add (cond z (some (getD cs (row + q) 0)) none) (some (x-below + x-above)))
+  figured true = refl
+  figured false = refl
+
   answer : (x y : Bool) → ltb (r + 1) h-below ≡ x → ltb (r + 1) h-above ≡ y
-      → cond (x && y) (sumAt ts ts cs row q (place a q) (place (q + 1) b)) noTotal ≡ coded (choice order cs lo hi r a b q)
+      → cond ((x && y) && eqb (getD bs (row + q) 0) 0) (sumAt ts ts cs row q (place a q) (place (q + 1) b)) noTotal ≡ coded (choice order cs bs lo hi r a b q)
   answer true true u v =
-      sym (ap coded (some-parts (sidesOf lo hi) (figures cs (length order)) (P .level) (figures-cheap Z) order r a b q (T .listed) b64 aq qb (T .rest)
+      figured (eqb (getD bs (row + q) 0) 0)
+      ∙ sym (ap coded (some-parts (sidesOf lo hi) (figures cs bs (length order)) (P .level) (figures-cheap Z) order r a b q (T .listed) b64 aq qb (T .rest)
       h-below x-below (D q aq qb .0) h-above x-above (D q aq qb .1) (getD order r 0) (ltb-true (r + 1) h-below u) (ltb-true (r + 1) h-above v)))
   answer true false u v =
-      sym (ap coded (no-above (sidesOf lo hi) (figures cs (length order)) (P .level) (figures-cheap Z) order r a b q (T .listed) b64 aq qb (T .rest)
+      sym (ap coded (no-above (sidesOf lo hi) (figures cs bs (length order)) (P .level) (figures-cheap Z) order r a b q (T .listed) b64 aq qb (T .rest)
       h-below x-below (D q aq qb .0) h-above x-above (D q aq qb .1) (getD order r 0) (ltb-false (r + 1) h-above v)))
   answer false y u v =
-      sym (ap coded (no-below (sidesOf lo hi) (figures cs (length order)) (P .level) (figures-cheap Z) order r a b q (T .listed) b64 aq qb (T .rest)
+      sym (ap coded (no-below (sidesOf lo hi) (figures cs bs (length order)) (P .level) (figures-cheap Z) order r a b q (T .listed) b64 aq qb (T .rest)
       h-below x-below (D q aq qb .0) h-above x-above (D q aq qb .1) (getD order r 0) (ltb-false (r + 1) h-below u)))
 
   module _ {hb tb : List ℕ} (below above : ℕ) (L : Lower hb tb hs ts a q below) (ea : above ≡ place (q + 1) b) where
     -- what the code adds up for a port is the total with the pad on it
-    pub port-right : portTotal hb tb hs ts cs (r + 1) row q below above ≡ coded (choice order cs lo hi r a b q)
+    pub port-right : portTotal hb tb hs ts cs bs (r + 1) row q below above ≡ coded (choice order cs bs lo hi r a b q)
     port-right = rw (L .head, L .total, ea) (answer (ltb (r + 1) h-below) (ltb (r + 1) h-above) refl refl)
 
-    pub port-ready : Port hb tb hs ts cs (r + 1) row q below above
+    pub port-ready : Port hb tb hs ts cs bs (r + 1) row q below above
     port-ready = record {
       low-head = L .head-listed;
       low-total = L .total-listed;
       high-head = let t = corner-top b b64 in omega (arith, b64, Z .heads);
       high-total = let t = corner-top b b64 in omega (arith, b64, Z .totals);
       listed = let f = place-in (length order) (length order) (getD order r 0) q (P .listed r (T .listed)) (omega (arith, T .ports)) in omega (arith, Z .square);
-      small = rw (L .head, L .total, ea) (λ u v. small-parts (sidesOf lo hi) (figures cs (length order)) (P .level) (figures-cheap Z) order r a b q (T .listed) b64 aq qb
+      bar-listed = let f = place-in (length order) (length order) (getD order r 0) q (P .listed r (T .listed)) (omega (arith, T .ports)) in omega (arith, Z .bars);
+      small = rw (L .head, L .total, ea) (λ u v. small-parts (sidesOf lo hi) (figures cs bs (length order)) (P .level) (figures-cheap Z) order r a b q (T .listed) b64 aq qb
           (T .rest)
           h-below x-below (D q aq qb .0) h-above x-above (D q aq qb .1) (getD order r 0) u v);
     }
 
     -- the least so far, and one port more
-    pub least-step : (v w : ℕ) → v ≡ coded (least (choice order cs lo hi r a b) a (q - a)) → w ≡ min v (portTotal hb tb hs ts cs (r + 1) row q below above)
-        → w ≡ coded (least (choice order cs lo hi r a b) a (q + 1 - a))
+    pub least-step : (v w : ℕ) → v ≡ coded (least (choice order cs bs lo hi r a b) a (q - a)) → w ≡ min v (portTotal hb tb hs ts cs bs (r + 1) row q below above)
+        → w ≡ coded (least (choice order cs bs lo hi r a b) a (q + 1 - a))
     least-step v w e f =
         f ∙ ap₂ min e port-right
-        ∙ coded-least ((1 + padsIn (sidesOf lo hi) a b (drop (r + 1) order)) * 2 ^ 32) (choice order cs lo hi r a b) a q (omega (arith, T .rest, T .ports, P .few)) aq
-        (λ i u v. local-most (sidesOf lo hi) (figures cs (length order)) (P .level) (figures-cheap Z) (getD order r 0) (drop (r + 1) order) a b i u (omega arith))
+        ∙ coded-least ((1 + padsIn (sidesOf lo hi) a b (drop (r + 1) order)) * 2 ^ 32) (choice order cs bs lo hi r a b) a q (omega (arith, T .rest, T .ports, P .few)) aq
+        (λ i u v. local-most (sidesOf lo hi) (figures cs bs (length order)) (P .level) (figures-cheap Z) (getD order r 0) (drop (r + 1) order) a b i u (omega arith))
 
 -- ---- a strip's cell
 

@@ -27,12 +27,12 @@ count-keep S a b (j ∷ js) =
     let ih = count-keep S a b js in
     keep-if (fits S a b) (λ ks. bit (fits S a b j) + padsIn S a b js ≡ length ks) j js (λ e. rw e (omega arith)) (λ e. rw e (omega arith))
 
-module _ {hs ts order cs lo hi : List ℕ} (P : Pads order lo hi (length order)) (T : Table order cs lo hi hs ts) (r a b : ℕ) (O : FullFrom (gridOf order cs lo hi) order r a b) where
+module _ {hs ts order cs bs lo hi : List ℕ} (P : Pads order lo hi (length order)) (T : Table order cs bs lo hi hs ts) (r a b : ℕ) (O : FullFrom (gridOf order cs bs lo hi) order r a b) where
   abbrev S : Sides
   S = sidesOf lo hi
 
   abbrev C : ℕ → ℕ → Least
-  C = figures cs (length order)
+  C = figures cs bs (length order)
 
   abbrev rest : List ℕ
   rest = drop (r + 1) order
@@ -53,7 +53,7 @@ module _ {hs ts order cs lo hi : List ℕ} (P : Pads order lo hi (length order))
       (T .rows a b zero-le (omega (arith, O .full)) (O .ports)) r (omega (arith, O .listed)) headed
 
   -- a strip with no layout has no such port
-  pub none-leads : getD ts (place a b) 0 ≡ noTotal → (q : ℕ) → Leads (gridOf order cs lo hi) order r a b q → ⊥
+  pub none-leads : getD ts (place a b) 0 ≡ noTotal → (q : ℕ) → Leads (gridOf order cs bs lo hi) order r a b q → ⊥
   none-leads e =
       leads-none S C order r a b (O .listed) (O .here) noTotal (padsIn S a b (drop r order) * 2 ^ 32)
       (most-best S C (P .level) (figures-cheap (T .sizes)) (drop r order) a b) (omega (arith, headed, O .ports, P .few)) (sym table-best ∙ e)
@@ -61,15 +61,15 @@ module _ {hs ts order cs lo hi : List ℕ} (P : Pads order lo hi (length order))
   -- what `attains` answers of a port says whether it leads
   module _ (q : ℕ) (aq : a ≤ q) (qb : q < b) (below above least : ℕ) (eb : below ≡ place a q) (ea : above ≡ place (q + 1) b)
       (el : least ≡ getD ts (place a b) 0) (has : least ≡ noTotal → ⊥)
-      (x : Bool) (is : x ≡ eqb (portTotal hs ts hs ts cs (r + 1) (getD order r 0 * length order) q below above) least) where
+      (x : Bool) (is : x ≡ eqb (portTotal hs ts hs ts cs bs (r + 1) (getD order r 0 * length order) q below above) least) where
     abbrev portSum : ℕ
-    portSum = portTotal hs ts hs ts cs (r + 1) (getD order r 0 * length order) q below above
+    portSum = portTotal hs ts hs ts cs bs (r + 1) (getD order r 0 * length order) q below above
 
-    right : portSum ≡ coded (choice order cs lo hi r a b q)
+    right : portSum ≡ coded (choice order cs bs lo hi r a b q)
     right = port-right P (T .sizes) r a b ready-strip table-parts q aq qb below above (in-table (T .sizes) a q below aq (omega (arith, O .ports, P .few)) eb) ea
 
-    pub attains-yes : x ≡ true → Leads (gridOf order cs lo hi) order r a b q
+    pub attains-yes : x ≡ true → Leads (gridOf order cs bs lo hi) order r a b q
     attains-yes e = leads-yes S C order r a b (O .listed) (O .here) noTotal q portSum least right (el ∙ table-best) has aq qb (eqb-true portSum least (sym is ∙ e))
 
-    pub attains-no : x ≡ false → Leads (gridOf order cs lo hi) order r a b q → ⊥
+    pub attains-no : x ≡ false → Leads (gridOf order cs bs lo hi) order r a b q → ⊥
     attains-no e = leads-no S C order r a b (O .listed) (O .here) noTotal q portSum least right (el ∙ table-best) has (eqb-false portSum least (sym is ∙ e))

@@ -1,13 +1,13 @@
 -- Laws of one port's total, as the code reads it.
 use mathlib.Core.Path.{_≡_, refl, sym, ap, _∙_}
-use mathlib.Core.Bool.{true, false}
+use mathlib.Core.Bool.{Bool, true, false, cond}
 use mathlib.Core.List.{List}
 use Prim.Native.Nat.{ℕ, _+_, _*_, _^_, _≤_, _<_, min}
 use native.Mathlib.Omega.{arith}
 use native.Mathlib.Nat.{mul-le-mul}
 use lib.Dec.{ltb, eqb}
 use lib.ListN.{length, getD}
-use borrow.Author.Tests.{ltb-true, ne-eqb}
+use borrow.Author.Tests.{ltb-true, eqb-true, eqb-false, eq-eqb, ne-eqb}
 use Rattle.strips.specs.Lists.{both}
 use Rattle.totals.specs.Cell.{noTotal, place, Sizes, CopiedRow, Port, opens, sumAt, portTotal}
 use Rattle.totals.proofs.Corners.{corner-top}
@@ -19,7 +19,7 @@ pub record Lower (hb tb hs ts : List ℕ) (a q below : ℕ) : Type 0 where
   pub head : getD hb below 0 ≡ getD hs (place a q) 0
   pub total : getD tb below 0 ≡ getD ts (place a q) 0
 
-pub in-table : {hs ts order cs : List ℕ} → Sizes hs ts order cs → (a q below : ℕ) → a ≤ q → q ≤ 64 → below ≡ place a q → Lower hs ts hs ts a q below
+pub in-table : {hs ts order cs bs : List ℕ} → Sizes hs ts order cs bs → (a q below : ℕ) → a ≤ q → q ≤ 64 → below ≡ place a q → Lower hs ts hs ts a q below
 in-table {hs} {ts} Z a q below aq q64 e = let t = corner-top q q64 in record {
   head-listed = omega (arith, Z .heads);
   total-listed = omega (arith, Z .totals);
@@ -35,7 +35,7 @@ in-row a b q K aq qb b64 = record {
   total = K .same q aq qb .1;
 }
 
-module _ {hb tb hs ts cs : List ℕ} {past row q below above : ℕ} (P : Port hb tb hs ts cs past row q below above) where
+module _ {hb tb hs ts cs bs : List ℕ} {past row q below above : ℕ} (P : Port hb tb hs ts cs bs past row q below above) where
   -- what `sum_at` asks
   pub port-sum : opens hb hs past below above ≡ true
       → ((below < length tb) × (above < length ts) × (row + q < length cs)) × ((getD tb below 0 ≤ 2 ^ 38) × (getD ts above 0 ≤ 2 ^ 38))
@@ -43,25 +43,51 @@ module _ {hb tb hs ts cs : List ℕ} {past row q below above : ℕ} (P : Port hb
       let t = both (ltb past (getD hb below 0)) (ltb past (getD hs above 0)) e in
       ((P .low-total, P .high-total, P .listed), P .small (ltb-true past (getD hb below 0) (t .0)) (ltb-true past (getD hs above 0) (t .1)))
 
-  port-open : opens hb hs past below above ≡ true → portTotal hb tb hs ts cs past row q below above ≡ sumAt tb ts cs row q below above
-  port-open e = rw e refl
+  abbrev bar : ℕ
+  bar = getD bs (row + q) 0
 
-  port-shut : opens hb hs past below above ≡ false → portTotal hb tb hs ts cs past row q below above ≡ noTotal
+  abbrev total : ℕ
+  total = portTotal hb tb hs ts cs bs past row q below above
+
+  -- an open port's total s, where it is not barred
+  module _ (s : ℕ) (open-port : opens hb hs past below above ≡ true) (is : s ≡ sumAt tb ts cs row q below above) where
+    port-by : total ≡ cond (eqb bar 0) s noTotal
+    port-by = rw (open-port, is) refl
+
+    pub port-free : bar ≡ 0 → total ≡ s
+    port-free z = port-by ∙ rw (eq-eqb bar 0 z) refl
+
+    pub port-barred : (bar ≡ 0 → ⊥) → total ≡ noTotal
+    port-barred n = port-by ∙ rw (ne-eqb bar 0 n) refl
+
+    -- s is not less than v
+    pub port-more : (v : ℕ) → v ≤ s → v ≤ noTotal → v ≡ min v total
+    port-more v h k = go (eqb bar 0) refl
+      where
+        go : (z : Bool) → eqb bar 0 ≡ z → v ≡ min v total
+        go true e = omega (arith, port-free (eqb-true bar 0 e))
+        go false e = omega (arith, port-barred (eqb-false bar 0 e))
+
+    -- s is v, or not
+    pub port-equal : (v : ℕ) → (v ≡ noTotal → ⊥) → s ≡ v → eqb bar 0 ≡ eqb total v
+    port-equal v ne e = go (eqb bar 0) refl
+      where
+        go : (z : Bool) → eqb bar 0 ≡ z → z ≡ eqb total v
+        go true k = sym (eq-eqb total v (port-free (eqb-true bar 0 k) ∙ e))
+        go false k = sym (ne-eqb total v (λ w. ne (sym w ∙ port-barred (eqb-false bar 0 k))))
+
+    pub port-other : (v : ℕ) → (v ≡ noTotal → ⊥) → (s ≡ v → ⊥) → false ≡ eqb total v
+    port-other v ne n = sym (ne-eqb total v (go (eqb bar 0) refl))
+      where
+        go : (z : Bool) → eqb bar 0 ≡ z → total ≡ v → ⊥
+        go true k w = n (sym (port-free (eqb-true bar 0 k)) ∙ w)
+        go false k w = ne (sym w ∙ port-barred (eqb-false bar 0 k))
+
+  pub port-shut : opens hb hs past below above ≡ false → total ≡ noTotal
   port-shut e = rw e refl
 
-  pub port-smaller : (r v s : ℕ) → opens hb hs past below above ≡ true → r ≡ min v s → s ≡ sumAt tb ts cs row q below above
-      → r ≡ min v (portTotal hb tb hs ts cs past row q below above)
-  port-smaller r v s e m t = m ∙ ap (min v) (t ∙ sym (port-open e))
-
-  pub port-same : (v : ℕ) → v ≤ noTotal → opens hb hs past below above ≡ false → v ≡ min v (portTotal hb tb hs ts cs past row q below above)
-  port-same v h e = let s = port-shut e in omega arith
-
-  pub port-equal : (s v : ℕ) → opens hb hs past below above ≡ true → s ≡ sumAt tb ts cs row q below above → eqb s v ≡ eqb (portTotal hb tb hs ts cs past row q below
-      above) v
-  port-equal s v e t = ap (λ (x : ℕ). eqb x v) (t ∙ sym (port-open e))
-
-  pub port-other : (v : ℕ) → (v ≡ noTotal → ⊥) → opens hb hs past below above ≡ false → false ≡ eqb (portTotal hb tb hs ts cs past row q below above) v
-  port-other v ne e = sym (ne-eqb (portTotal hb tb hs ts cs past row q below above) v (λ w. ne (sym w ∙ port-shut e)))
+  pub port-unequal : (v : ℕ) → (v ≡ noTotal → ⊥) → opens hb hs past below above ≡ false → false ≡ eqb total v
+  port-unequal v ne e = sym (ne-eqb total v (λ w. ne (sym w ∙ port-shut e)))
 
 -- a pad's row of figures starts early
 pub row-small : (n j : ℕ) → j < n → n ≤ 64 → j * n ≤ 4096

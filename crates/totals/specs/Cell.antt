@@ -1,7 +1,7 @@
 -- What the table holds, and what its inputs are.
 use mathlib.Core.Path.{_≡_}
 use mathlib.Core.Bool.{Bool, cond, _&&_}
-use lib.Dec.{ltb}
+use lib.Dec.{ltb, eqb}
 use Rattle.strips.specs.Least.{Least, none, some}
 use mathlib.Core.List.{List}
 use Prim.Native.Nat.{ℕ, zero, suc, _+_, _-_, _*_, _^_, _≤_, _<_}
@@ -13,13 +13,13 @@ use Rattle.strips.specs.Prefix.{lies, Lies}
 use Rattle.pads.specs.Pads.{Sides, padsIn, sidesOf, Head}
 use Rattle.totals.specs.Strip.{grid, bestWithin, localWithin}
 
--- the figures that slices hold
-abbrev pub figures : List ℕ → ℕ → ℕ → ℕ → Least
-figures cs n j q = some (getD cs (j * n + q) 0)
+-- the figures that slices hold: none where a bar, a number other than 0, says that the pad may not use the port
+abbrev pub figures : List ℕ → List ℕ → ℕ → ℕ → ℕ → Least
+figures cs bs n j q = cond (eqb (getD bs (j * n + q) 0) 0) (some (getD cs (j * n + q) 0)) none
 
 -- the board that slices hold
-abbrev pub gridOf : List ℕ → List ℕ → List ℕ → List ℕ → Grid
-gridOf order cs lo hi = grid (sidesOf lo hi) (figures cs (length order))
+abbrev pub gridOf : List ℕ → List ℕ → List ℕ → List ℕ → List ℕ → Grid
+gridOf order cs bs lo hi = grid (sidesOf lo hi) (figures cs bs (length order))
 
 -- a total as code holds it that lets z stand for none
 abbrev pub codedBy : ℕ → Least → ℕ
@@ -34,12 +34,12 @@ abbrev pub coded : Least → ℕ
 coded o = codedBy noTotal o
 
 -- the least total of all pads on all ports, as the code holds it
-abbrev pub leastOf : List ℕ → List ℕ → List ℕ → List ℕ → ℕ
-leastOf order cs lo hi = coded (strip.best (gridOf order cs lo hi) order 0 (length order))
+abbrev pub leastOf : List ℕ → List ℕ → List ℕ → List ℕ → List ℕ → ℕ
+leastOf order cs bs lo hi = coded (strip.best (gridOf order cs bs lo hi) order 0 (length order))
 
 -- `localWithin` of the pad at place r of order and the pads after it, from lists
-abbrev pub choice : List ℕ → List ℕ → List ℕ → List ℕ → ℕ → ℕ → ℕ → ℕ → Least
-choice order cs lo hi r a b = localWithin (sidesOf lo hi) (figures cs (length order)) (getD order r 0) (drop (r + 1) order) a b
+abbrev pub choice : List ℕ → List ℕ → List ℕ → List ℕ → List ℕ → ℕ → ℕ → ℕ → ℕ → Least
+choice order cs bs lo hi r a b = localWithin (sidesOf lo hi) (figures cs bs (length order)) (getD order r 0) (drop (r + 1) order) a b
 
 -- h is the strip's head, and v the best total of its pads
 pub record Valued (S : Sides) (C : ℕ → ℕ → Least) (order : List ℕ) (a b h v : ℕ) : Type 0 where
@@ -55,11 +55,12 @@ pub record Cell (S : Sides) (C : ℕ → ℕ → Least) (order : List ℕ) (a b 
   pub value : (s : ℕ) → h ≡ s + 1 → bestWithin S C (drop s order) a b ≡ some v
   pub nothing : h ≡ 0 → v ≡ noTotal
 
--- the tables have a place for each strip of 64 ports, and the figures are those of each pad with each port
-pub record Sizes (hs ts order cs : List ℕ) : Type 0 where
+-- the tables have a place for each strip of 64 ports, and figures and bars are those of each pad with each port
+pub record Sizes (hs ts order cs bs : List ℕ) : Type 0 where
   pub heads : length hs ≡ 2145
   pub totals : length ts ≡ 2145
   pub square : length cs ≡ length order * length order
+  pub bars : length bs ≡ length order * length order
   pub cheap : (i : ℕ) → getD cs i 0 < 2 ^ 32
 
 -- the pad at place r heads the strip a .. b - 1, which holds as many pads from there on as ports
@@ -78,13 +79,14 @@ abbrev pub place : ℕ → ℕ → ℕ
 place a b = cornerOf b + a
 
 -- what a port's total is read from: the places of the strips below (in hb and tb) and above it (in hs and ts), `past` the least head that they may not have, and
--- the start of the pad's row of figures
-pub record Port (hb tb hs ts cs : List ℕ) (past row q below above : ℕ) : Type 0 where
+-- the start of the pad's row of figures and of bars
+pub record Port (hb tb hs ts cs bs : List ℕ) (past row q below above : ℕ) : Type 0 where
   pub low-head : below < length hb
   pub low-total : below < length tb
   pub high-head : above < length hs
   pub high-total : above < length ts
   pub listed : row + q < length cs
+  pub bar-listed : row + q < length bs
   pub small : past < getD hb below 0 → past < getD hs above 0 → (getD tb below 0 ≤ 2 ^ 38) × (getD ts above 0 ≤ 2 ^ 38)
 
 -- both strips have a layout of pads after the one that takes the port
@@ -95,17 +97,18 @@ opens hb hs past below above = ltb past (getD hb below 0) && ltb past (getD hs a
 abbrev pub sumAt : List ℕ → List ℕ → List ℕ → ℕ → ℕ → ℕ → ℕ → ℕ
 sumAt tb ts cs row q below above = getD cs (row + q) 0 + (getD tb below 0 + getD ts above 0)
 
--- the same as the code holds it, the largest u64 where a part has no layout
-abbrev pub portTotal : List ℕ → List ℕ → List ℕ → List ℕ → List ℕ → ℕ → ℕ → ℕ → ℕ → ℕ → ℕ
-portTotal hb tb hs ts cs past row q below above = cond (opens hb hs past below above) (sumAt tb ts cs row q below above) noTotal
+-- the same as the code holds it, the largest u64 where a part has no layout or the pad may not take the port
+abbrev pub portTotal : List ℕ → List ℕ → List ℕ → List ℕ → List ℕ → List ℕ → ℕ → ℕ → ℕ → ℕ → ℕ → ℕ
+portTotal hb tb hs ts cs bs past row q below above =
+    cond (opens hb hs past below above && eqb (getD bs (row + q) 0) 0) (sumAt tb ts cs row q below above) noTotal
 
 -- the strips that start at a or above are right in the tables hs and ts
 abbrev pub Rows : Sides → (ℕ → ℕ → Least) → List ℕ → List ℕ → List ℕ → ℕ → Type 0
 Rows S C order hs ts a = (a′ b′ : ℕ) → a ≤ a′ → a′ ≤ b′ → b′ ≤ length order → Cell S C order a′ b′ (getD hs (place a′ b′) 0) (getD ts (place a′ b′) 0)
 
 -- the same of the lists that the code has
-abbrev pub RowsOf : List ℕ → List ℕ → List ℕ → List ℕ → List ℕ → List ℕ → ℕ → Type 0
-RowsOf order cs lo hi hs ts a = Rows (sidesOf lo hi) (figures cs (length order)) order hs ts a
+abbrev pub RowsOf : List ℕ → List ℕ → List ℕ → List ℕ → List ℕ → List ℕ → List ℕ → ℕ → Type 0
+RowsOf order cs bs lo hi hs ts a = Rows (sidesOf lo hi) (figures cs bs (length order)) order hs ts a
 
 -- the strips that a port q of a .. b - 1 leaves below and above it are right
 abbrev pub Parts : Sides → (ℕ → ℕ → Least) → List ℕ → List ℕ → List ℕ → ℕ → ℕ → Type 0
@@ -114,8 +117,8 @@ Parts S C order hs ts a b =
     → Cell S C order a q (getD hs (place a q) 0) (getD ts (place a q) 0) × Cell S C order (q + 1) b (getD hs (place (q + 1) b) 0) (getD ts (place (q + 1) b) 0)
 
 -- the same of the lists that the code has
-abbrev pub PartsOf : List ℕ → List ℕ → List ℕ → List ℕ → List ℕ → List ℕ → ℕ → ℕ → Type 0
-PartsOf order cs lo hi hs ts a b = Parts (sidesOf lo hi) (figures cs (length order)) order hs ts a b
+abbrev pub PartsOf : List ℕ → List ℕ → List ℕ → List ℕ → List ℕ → List ℕ → List ℕ → ℕ → ℕ → Type 0
+PartsOf order cs bs lo hi hs ts a b = Parts (sidesOf lo hi) (figures cs bs (length order)) order hs ts a b
 
 -- the short lists rh and rt have at q what the tables have of the strip a .. q - 1, for each q from a to b - 1
 pub record CopiedRow (rh rt hs ts : List ℕ) (a b : ℕ) : Type 0 where
@@ -123,10 +126,10 @@ pub record CopiedRow (rh rt hs ts : List ℕ) (a b : ℕ) : Type 0 where
   pub totals : length rt ≡ 65
   pub same : (q : ℕ) → a ≤ q → q < b → (getD rh q 0 ≡ getD hs (place a q) 0) × (getD rt q 0 ≡ getD ts (place a q) 0)
 
--- the tables are right, for the pads `order` with the sides lo and hi and the figures cs
-pub record Table (order cs lo hi hs ts : List ℕ) : Type 0 where
-  pub sizes : Sizes hs ts order cs
-  pub rows : Rows (sidesOf lo hi) (figures cs (length order)) order hs ts 0
+-- the tables are right, for the pads `order` with the sides lo and hi, the figures cs and the bars bs
+pub record Table (order cs bs lo hi hs ts : List ℕ) : Type 0 where
+  pub sizes : Sizes hs ts order cs bs
+  pub rows : Rows (sidesOf lo hi) (figures cs bs (length order)) order hs ts 0
 
 -- the pad at place r lies in the strip a .. b - 1, which it and the pads after it fill: a pad for each port
 pub record FullFrom (B : Grid) (order : List ℕ) (r a b : ℕ) : Type 0 where

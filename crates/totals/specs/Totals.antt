@@ -1,15 +1,16 @@
 -- Laws of `bestWithin`, `localWithin` and `least`.
 use mathlib.Core.Path.{_≡_, refl, sym, ap, ap₂, _∙_, subst}
 use mathlib.Core.Logic.{_⊎_, inl, inr, ⊎-elim}
-use mathlib.Core.Bool.{Bool, true, false}
+use mathlib.Core.Bool.{Bool, true, false, cond, false≢true}
 use Rattle.strips.specs.Least.{Least, none, some, smallerOf, least}
 use mathlib.Core.List.{List, [], _∷_, _++_, append-nil}
 use Prim.Native.Nat.{ℕ, zero, suc, _+_, _-_, _*_, _^_, _≤_, _<_, min, zero-le}
 use native.Mathlib.Omega.{arith}
-use lib.ListN.{take, drop}
+use lib.Dec.{eqb}
+use lib.ListN.{getD, take, drop}
 use Rattle.pads.specs.Pads.{Sides, fits, bit, padsIn}
-use Rattle.totals.specs.Strip.{partedWithin, bestWithin, localWithin}
-use Rattle.totals.specs.Cell.{codedBy, noTotal, coded}
+use Rattle.totals.specs.Strip.{partedWithin, given, value, bestWithin, localWithin}
+use Rattle.totals.specs.Cell.{figures, codedBy, noTotal, coded}
 use Rattle.pads.specs.Counts.{le-or-lt, drop-split, count-drop}
 use Rattle.totals.specs.Parted.{parted-least, parts-most}
 use Rattle.totals.specs.Masks.{add, best-within-nil, best-in, best-out, local-parted, local-blocked}
@@ -19,6 +20,14 @@ use Rattle.totals.specs.Masks.{add, best-within-nil, best-in, best-out, 
 plus-none : (x : Least) → add x none ≡ none
 plus-none none = refl
 plus-none (some x) = refl
+
+-- the figure of a pad that may use the port
+pub allowed-figure : (cs bs : List ℕ) (n j q : ℕ) → given (figures cs bs n j q) ≡ true → value (figures cs bs n j q) ≡ getD cs (j * n + q) 0
+allowed-figure cs bs n j q e = go (eqb (getD bs (j * n + q) 0) 0) e
+  where
+    go : (z : Bool) → given (cond z (some (getD cs (j * n + q) 0)) none) ≡ true → value (cond z (some (getD cs (j * n + q) 0)) none) ≡ getD cs (j * n + q) 0
+    go true e = refl
+    go false e = absurd (false≢true e)
 
 -- ---- least
 

@@ -3,7 +3,8 @@
 // A strip is a run of ports a .. b - 1, and its cell stands at place a of b's column, `corner(b) + a`, in two tables:
 // `heads` has 1 more than the place in `order` of the strip's rightmost pad, or 0 where the strip has too few pads or
 // no layout, and `totals` the best total of the strip's pads, or NONE. While row a is filled, two short lists, `lows`
-// and `sums`, have the cells of its strips at b: the parts below a port are read there.
+// and `sums`, have the cells of its strips at b: the parts below a port are read there. `cost` and `bars` have n × n
+// entries, pad by pad, ports rising: figures, and bytes of which any but 0 says that the pad may not use the port.
 ghost use mathlib.Core.Path.{_≡_};
 ghost use mathlib.Core.Bool.{cond};
 ghost use Prim.Native.Nat.{_+_, _-_, _*_, _^_, _≤_, _<_, min};
@@ -27,7 +28,7 @@ pub fn corner(b: usize) -> usize
 // The figure of pad j on port q, of a table of n × n.
 pub fn figure(cost: &[u32], n: usize, j: usize, q: usize) -> u64
     requires { ⌜ (j < n) × (q < n) × (n ≤ 64) × (length (now cost) ≡ n * n) ⌝ }
-    ensures { λ r. ⌜ (r ≡ coded (figures (now (cost .entry)) n j q)) × (r < 2 ^ 32) ⌝ }
+    ensures { λ r. ⌜ (r ≡ getD (now (cost .entry)) (j * n + q) 0) × (r < 2 ^ 32) ⌝ }
 {
     cost[j * n + q] as u64
 }
@@ -67,25 +68,31 @@ fn sum_at(
     cost[row + q] as u64 + (sums[below] + totals[above])
 }
 
-// The least total so far, v, and that of one port more.
+// The least total so far, v, and that of one port more. A bar is read only where it counts: most totals are not less than v.
 fn better(
     lows: &[u8],
     sums: &[u64],
     heads: &[u8],
     totals: &[u64],
     cost: &[u32],
+    bars: &[u8],
     v: u64,
     past: u8,
     row: usize,
     q: usize,
     above: usize,
 ) -> u64
-    requires { ⌜ Port (now lows) (now sums) (now heads) (now totals) (now cost) past row q q above ⌝ }
+    requires { ⌜ Port (now lows) (now sums) (now heads) (now totals) (now cost) (now bars) past row q q above ⌝ }
     ensures { λ r. ⌜ r ≡ min v (portTotal (now (lows .entry)) (now (sums .entry)) (now (heads .entry)) (now (totals .entry))
-        (now (cost .entry)) past row q q above) ⌝ }
+        (now (cost .entry)) (now (bars .entry)) past row q q above) ⌝ }
 {
     if opened(lows, heads, past, q, above) {
-        smaller(v, sum_at(sums, totals, cost, row, q, q, above))
+        let s = sum_at(sums, totals, cost, row, q, q, above);
+        if v <= s {
+            v
+        } else {
+            if bars[row + q] == 0 { s } else { v }
+        }
     } else {
         v
     }
@@ -96,6 +103,7 @@ fn attains(
     heads: &[u8],
     totals: &[u64],
     cost: &[u32],
+    bars: &[u8],
     v: u64,
     past: u8,
     row: usize,
@@ -103,13 +111,17 @@ fn attains(
     below: usize,
     above: usize,
 ) -> bool
-    requires { ⌜ Port (now heads) (now totals) (now heads) (now totals) (now cost) past row q below above ⌝ }
+    requires { ⌜ Port (now heads) (now totals) (now heads) (now totals) (now cost) (now bars) past row q below above ⌝ }
     requires { ⌜ (v ≡ noTotal → ⊥) ⌝ }
     ensures { λ r. ⌜ r ≡ eqb (portTotal (now (heads .entry)) (now (totals .entry)) (now (heads .entry)) (now (totals .entry))
-        (now (cost .entry)) past row q below above) v ⌝ }
+        (now (cost .entry)) (now (bars .entry)) past row q below above) v ⌝ }
 {
     if opened(heads, heads, past, below, above) {
-        sum_at(totals, totals, cost, row, q, below, above) == v
+        if sum_at(totals, totals, cost, row, q, below, above) == v {
+            bars[row + q] == 0
+        } else {
+            false
+        }
     } else {
         false
     }
@@ -123,6 +135,7 @@ fn least_total(
     totals: &[u64],
     order: &[u8],
     cost: &[u32],
+    bars: &[u8],
     lo: &[u8],
     hi: &[u8],
     r: usize,
@@ -130,11 +143,11 @@ fn least_total(
     b: usize,
 ) -> u64
     requires { ⌜ Pads (now order) (now lo) (now hi) (length (now order)) ⌝ }
-    requires { ⌜ Sizes (now heads) (now totals) (now order) (now cost) ⌝ }
+    requires { ⌜ Sizes (now heads) (now totals) (now order) (now cost) (now bars) ⌝ }
     requires { ⌜ Strip (sidesOf (now lo) (now hi)) (now order) a b r ⌝ }
-    requires { ⌜ PartsOf (now order) (now cost) (now lo) (now hi) (now heads) (now totals) a b ⌝ }
+    requires { ⌜ PartsOf (now order) (now cost) (now bars) (now lo) (now hi) (now heads) (now totals) a b ⌝ }
     requires { ⌜ CopiedRow (now lows) (now sums) (now heads) (now totals) a b ⌝ }
-    ensures { λ v. ⌜ v ≡ coded (least (choice (now (order .entry)) (now (cost .entry)) (now (lo .entry)) (now (hi .entry)) r a b) a (b - a)) ⌝ }
+    ensures { λ v. ⌜ v ≡ coded (least (choice (now (order .entry)) (now (cost .entry)) (now (bars .entry)) (now (lo .entry)) (now (hi .entry)) r a b) a (b - a)) ⌝ }
 {
     let row = order[r] as usize * order.len();
     let past = (r + 1) as u8;
@@ -142,7 +155,19 @@ fn least_total(
     let mut v = NONE;
     let mut q = a;
     while q < b {
-        v = better(lows, sums, heads, totals, cost, v, past, row, q, base + q);
+        v = better(
+            lows,
+            sums,
+            heads,
+            totals,
+            cost,
+            bars,
+            v,
+            past,
+            row,
+            q,
+            base + q,
+        );
         q += 1;
     }
     v
@@ -156,6 +181,7 @@ pub fn strip_total(
     totals: &[u64],
     order: &[u8],
     cost: &[u32],
+    bars: &[u8],
     lo: &[u8],
     hi: &[u8],
     a: usize,
@@ -163,11 +189,12 @@ pub fn strip_total(
     h: usize,
 ) -> u64
     requires { ⌜ Pads (now order) (now lo) (now hi) (length (now order)) ⌝ }
-    requires { ⌜ Sizes (now heads) (now totals) (now order) (now cost) ⌝ }
+    requires { ⌜ Sizes (now heads) (now totals) (now order) (now cost) (now bars) ⌝ }
     requires { ⌜ (a ≤ b) × (b ≤ length (now order)) × Head (sidesOf (now lo) (now hi)) (now order) a b h ⌝ }
-    requires { ⌜ PartsOf (now order) (now cost) (now lo) (now hi) (now heads) (now totals) a b ⌝ }
+    requires { ⌜ PartsOf (now order) (now cost) (now bars) (now lo) (now hi) (now heads) (now totals) a b ⌝ }
     requires { ⌜ CopiedRow (now lows) (now sums) (now heads) (now totals) a b ⌝ }
-    ensures { λ v. ⌜ Valued (sidesOf (now (lo .entry)) (now (hi .entry))) (figures (now (cost .entry)) (length (now (order .entry)))) (now (order .entry)) a b h v ⌝ }
+    ensures { λ v. ⌜ Valued (sidesOf (now (lo .entry)) (now (hi .entry))) (figures (now (cost .entry)) (now (bars .entry)) (length (now (order .entry))))
+        (now (order .entry)) a b h v ⌝ }
 {
     if h == 0 {
         return NONE;
@@ -175,7 +202,20 @@ pub fn strip_total(
     if a == b {
         return 0;
     }
-    least_total(lows, sums, heads, totals, order, cost, lo, hi, h - 1, a, b)
+    least_total(
+        lows,
+        sums,
+        heads,
+        totals,
+        order,
+        cost,
+        bars,
+        lo,
+        hi,
+        h - 1,
+        a,
+        b,
+    )
 }
 
 // The head as the table has it: 0 where the strip has no layout.
@@ -192,6 +232,7 @@ pub fn next_port(
     totals: &[u64],
     order: &[u8],
     cost: &[u32],
+    bars: &[u8],
     lo: &[u8],
     hi: &[u8],
     r: usize,
@@ -200,10 +241,11 @@ pub fn next_port(
     from: usize,
 ) -> usize
     requires { ⌜ Pads (now order) (now lo) (now hi) (length (now order)) ⌝ }
-    requires { ⌜ Table (now order) (now cost) (now lo) (now hi) (now heads) (now totals) ⌝ }
-    requires { ⌜ FullFrom (gridOf (now order) (now cost) (now lo) (now hi)) (now order) r a b ⌝ }
+    requires { ⌜ Table (now order) (now cost) (now bars) (now lo) (now hi) (now heads) (now totals) ⌝ }
+    requires { ⌜ FullFrom (gridOf (now order) (now cost) (now bars) (now lo) (now hi)) (now order) r a b ⌝ }
     requires { ⌜ (a ≤ from) × (from ≤ b) ⌝ }
-    ensures { λ q. ⌜ NextPort (Leads (gridOf (now (order .entry)) (now (cost .entry)) (now (lo .entry)) (now (hi .entry))) (now (order .entry)) r a b) from b q ⌝ }
+    ensures { λ q. ⌜ NextPort (Leads (gridOf (now (order .entry)) (now (cost .entry)) (now (bars .entry)) (now (lo .entry)) (now (hi .entry)))
+        (now (order .entry)) r a b) from b q ⌝ }
 {
     let row = order[r] as usize * order.len();
     let past = (r + 1) as u8;
@@ -215,7 +257,18 @@ pub fn next_port(
     let mut below = corner(from) + a;
     let mut q = from;
     while q < b {
-        if attains(heads, totals, cost, best, past, row, q, below, base + 1 + q) {
+        if attains(
+            heads,
+            totals,
+            cost,
+            bars,
+            best,
+            past,
+            row,
+            q,
+            below,
+            base + 1 + q,
+        ) {
             return q;
         }
         q += 1;

@@ -20,7 +20,7 @@ use Rattle.walks.specs.Walks.{listRules, Begins, SteppedOn, Turned}
 -- A walk goes on from its start.
 pub began : {order : List ℕ} {T : Source} {lo hi w : List ℕ} (start : Start) (l : List ℕ) → Working order T lo hi w
     → Begins (listRules order T lo hi) start w l true → Working order T lo hi l × BestLayout order T lo hi l
-began First l W b = (working-with l W (b .1 .kept .long), b .1 .earliest .has)
+began First l W b = (working-with l W (b .kept .long), b .earliest .has)
 began Given l W b = rw (b .1) (W, b .0)
 
 module _ (order : List ℕ) (T : Source) (lo hi l before : List ℕ) where

@@ -11,6 +11,7 @@ use Rattle.walks.specs.Walks.{Rules, Begins, SteppedOn, Turns, Walks}
 -- What R says, S says as well.
 pub record Says (R S : Rules) : Type 0 where
   pub earliest : (w v : List ℕ) → R .Earliest w v → S .Earliest w v
+  pub nothing : R .Nothing → S .Nothing
   pub best : (w : List ℕ) → R .Best w ↔ S .Best w
   pub next : (w v : List ℕ) → R .Next w v → S .Next w v
   pub last : (w : List ℕ) → R .Last w → S .Last w
@@ -18,7 +19,8 @@ pub record Says (R S : Rules) : Type 0 where
 
 module _ {R S : Rules} (says : Says R S) where
   begins-said : (start : Start) (w l : List ℕ) (r : Bool) → Begins R start w l r → Begins S start w l r
-  begins-said First w l r b = (b .0, says .earliest w l (b .1))
+  begins-said First w l true b = says .earliest w l b
+  begins-said First w l false b = (says .nothing (b .0), b .1)
   begins-said Given w l true b = (says .best w .0 (b .0), b .1)
   begins-said Given w l false b = (λ s. b .0 (says .best w .1 s), b .1)
 

@@ -7,44 +7,52 @@ ghost use Rattle.steps.specs.Steps.{IsLeast, BestLayout};
 ghost use Rattle.numbers.specs.Copies.{Copied};
 ghost use Rattle.walks.specs.Walks.{listRules, Startable, Begins, Turned, Walks};
 
+// A least total from here on says that there is no layout.
+const NONE: u64 = 4611686018427387904;
+
 // A walk starts at the earliest best layout, or at the one that is given.
 pub enum Start {
     First,
     Given,
 }
 
-// What a walk comes to: whether the layout that it starts at is best, how many it put on its page, and the least total.
+// What a walk comes to: whether it starts at a best layout (if not, there is no layout, or the given one is not best), how
+// many it put on its page, and the least total.
 pub struct Walked {
     pub best: bool,
     pub count: u64,
     pub total: u64,
 }
 
-// Has the walk's first layout in w; false where the given one is not best.
+// Has the walk's first layout in w; false, and w is as it was, where there is no layout or the given one is not best.
 fn begin(
     start: Start,
     heads: &[u8],
     totals: &[u64],
     order: &[u8],
     cost: &[u32],
+    bars: &[u8],
     lo: &[u8],
     hi: &[u8],
     p: usize,
     w: &mut [u16],
     least: u64,
 ) -> bool
-    requires { ⌜ Working (now order) (source (now heads) (now totals) (now cost) p) (now lo) (now hi) (now w) ⌝ }
-    requires { ⌜ IsLeast (now order) (source (now heads) (now totals) (now cost) p) (now lo) (now hi) least
-        × Startable start (now order) (source (now heads) (now totals) (now cost) p) (now lo) (now hi) (now w) ⌝ }
-    ensures { λ r. ⌜ Begins (listRules (now (order .entry)) (source (now (heads .entry)) (now (totals .entry)) (now (cost .entry)) p) (now (lo .entry))
-        (now (hi .entry))) start (now (w .entry)) (now (w .exit)) r ⌝ }
+    requires { ⌜ Working (now order) (source (now heads) (now totals) (now cost) (now bars) p) (now lo) (now hi) (now w) ⌝ }
+    requires { ⌜ IsLeast (now order) (source (now heads) (now totals) (now cost) (now bars) p) (now lo) (now hi) least
+        × Startable start (now order) (source (now heads) (now totals) (now cost) (now bars) p) (now lo) (now hi) (now w) ⌝ }
+    ensures { λ r. ⌜ Begins (listRules (now (order .entry)) (source (now (heads .entry)) (now (totals .entry)) (now (cost .entry)) (now (bars .entry)) p)
+        (now (lo .entry)) (now (hi .entry))) start (now (w .entry)) (now (w .exit)) r ⌝ }
 {
     match start {
         Start::First => {
-            steps::first(heads, totals, order, cost, lo, hi, p, w);
+            if NONE <= least {
+                return false;
+            }
+            steps::first(heads, totals, order, cost, bars, lo, hi, p, w);
             true
         }
-        Start::Given => steps::is_best(heads, totals, order, cost, lo, hi, p, w, least),
+        Start::Given => steps::is_best(heads, totals, order, cost, bars, lo, hi, p, w, least),
     }
 }
 
@@ -66,23 +74,24 @@ fn turn(
     totals: &[u64],
     order: &[u8],
     cost: &[u32],
+    bars: &[u8],
     lo: &[u8],
     hi: &[u8],
     p: usize,
     w: &mut [u16],
     page: &mut [u16],
 ) -> u64
-    requires { ⌜ (0 < length (now order)) × Working (now order) (source (now heads) (now totals) (now cost) p) (now lo) (now hi) (now w) ⌝ }
-    requires { ⌜ BestLayout (now order) (source (now heads) (now totals) (now cost) p) (now lo) (now hi) (now w) ⌝ }
-    ensures { λ k. ⌜ Turned (listRules (now (order .entry)) (source (now (heads .entry)) (now (totals .entry)) (now (cost .entry)) p) (now (lo .entry))
-        (now (hi .entry))) (length (now (order .entry))) (now (w .entry)) (now (page .entry)) (now (w .exit)) (now (page .exit)) k ⌝ }
+    requires { ⌜ (0 < length (now order)) × Working (now order) (source (now heads) (now totals) (now cost) (now bars) p) (now lo) (now hi) (now w) ⌝ }
+    requires { ⌜ BestLayout (now order) (source (now heads) (now totals) (now cost) (now bars) p) (now lo) (now hi) (now w) ⌝ }
+    ensures { λ k. ⌜ Turned (listRules (now (order .entry)) (source (now (heads .entry)) (now (totals .entry)) (now (cost .entry)) (now (bars .entry)) p)
+        (now (lo .entry)) (now (hi .entry))) (length (now (order .entry))) (now (w .entry)) (now (page .entry)) (now (w .exit)) (now (page .exit)) k ⌝ }
 {
     let n = order.len();
     let mut known = [0u8; 256];
     let mut at = 0;
     let mut k = 0;
     while n <= page.len() - at {
-        if steps::step(heads, totals, order, cost, lo, hi, p, w, &mut known) {
+        if steps::step(heads, totals, order, cost, bars, lo, hi, p, w, &mut known) {
             copy(w, n, page, at);
             at += n;
             k += 1;
@@ -100,6 +109,7 @@ pub fn walk(
     totals: &[u64],
     order: &[u8],
     cost: &[u32],
+    bars: &[u8],
     lo: &[u8],
     hi: &[u8],
     p: usize,
@@ -107,16 +117,16 @@ pub fn walk(
     page: &mut [u16],
     least: u64,
 ) -> Walked
-    requires { ⌜ (0 < length (now order)) × Working (now order) (source (now heads) (now totals) (now cost) p) (now lo) (now hi) (now w) ⌝ }
-    requires { ⌜ IsLeast (now order) (source (now heads) (now totals) (now cost) p) (now lo) (now hi) least
-        × Startable start (now order) (source (now heads) (now totals) (now cost) p) (now lo) (now hi) (now w) ⌝ }
-    ensures { λ r. ⌜ Walks (listRules (now (order .entry)) (source (now (heads .entry)) (now (totals .entry)) (now (cost .entry)) p) (now (lo .entry))
+    requires { ⌜ (0 < length (now order)) × Working (now order) (source (now heads) (now totals) (now cost) (now bars) p) (now lo) (now hi) (now w) ⌝ }
+    requires { ⌜ IsLeast (now order) (source (now heads) (now totals) (now cost) (now bars) p) (now lo) (now hi) least
+        × Startable start (now order) (source (now heads) (now totals) (now cost) (now bars) p) (now lo) (now hi) (now w) ⌝ }
+    ensures { λ r. ⌜ Walks (listRules (now (order .entry)) (source (now (heads .entry)) (now (totals .entry)) (now (cost .entry)) (now (bars .entry)) p) (now (lo .entry))
         (now (hi .entry))) (length (now (order .entry))) start (now (w .entry)) (now (page .entry)) (now (w .exit)) (now (page .exit)) r ⌝ }
 {
-    let best = begin(start, heads, totals, order, cost, lo, hi, p, w, least);
+    let best = begin(start, heads, totals, order, cost, bars, lo, hi, p, w, least);
     let mut count = 0;
     if best {
-        count = turn(heads, totals, order, cost, lo, hi, p, w, page);
+        count = turn(heads, totals, order, cost, bars, lo, hi, p, w, page);
     }
     Walked {
         best: best,

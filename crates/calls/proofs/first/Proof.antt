@@ -6,15 +6,16 @@ use borrow.Author.Needs.{needs}
 use Rattle.paper.specs.Job.{records}
 use Rattle.paper.specs.declared.Work.the-variants.{Unlent}
 use Rattle.paper.specs.Layouts.{byWeights}
-use Rattle.paper.specs.Refusals.{firstTrials}
-use Rattle.checks.specs.Judged.{Judged, judged-sound, judged-refused, first-judged}
+use Rattle.paper.specs.Refusals.{soundTrials}
+use Rattle.paper.specs.laws.Accepted.{sound-refused}
+use Rattle.checks.specs.Judged.{Judged, judged-sound, judged-refused, sound-judged}
 use Rattle.calls.proofs.first.Statement.{statement}
 use Rattle.calls.proofs.first.Tie as tie
 
 -- the verdict is the right one
 judged : (c : tie.After-of-first)
-    → let a = c .before .before .before .before .args in Judged (c .of-first .result) (firstTrials (records (now (a .job))) (byWeights (a .lw) (a .bw)) Unlent (length (now (a .list))))
-judged c = let a = c .before .before .before .before .args in rw (c .of-first .ensures, c .before .of-weights .ensures) (first-judged (records (now (a .job))) (byWeights (a .lw) (a .bw)) Unlent (length (now (a .list))))
+    → let a = c .before .before .before .before .args in Judged (c .of-first .result) (soundTrials (records (now (a .job))) (byWeights (a .lw) (a .bw)) Unlent (length (now (a .list))))
+judged c = let a = c .before .before .before .before .args in rw (c .of-first .ensures, c .before .of-weights .ensures) (sound-judged (records (now (a .job))) (byWeights (a .lw) (a .bw)) Unlent (length (now (a .list))))
 
 of-weights-requires : tie.Need-of-weights-requires
 of-weights-requires c κs = search needs
@@ -38,7 +39,10 @@ returns : tie.Need-returns
 returns c = search needs
 
 returns-2 : tie.Need-returns-2
-returns-2 c = (judged-refused _ _ _ (judged (c .before .before .before)) (c .before .v .given .1), refl)
+returns-2 c =
+    let v = c .before .before .before in
+    let a = v .before .before .before .before .args in
+    (sound-refused (records (now (a .job))) (byWeights (a .lw) (a .bw)) Unlent (length (now (a .list))) _ (judged-refused _ _ _ (judged v) (c .before .v .given .1)), refl)
 
 pub first-spec : {M : Type 1} → statement M
 first-spec =

@@ -9,7 +9,7 @@ use Rattle.choices.proofs.above.Tie as tie
 
 -- where the function reads
 abbrev read : tie.Start → Source
-read s = source (s .args .heads .now) (s .args .totals .now) (s .args .cost .now) (s .args .p)
+read s = source (s .args .heads .now) (s .args .totals .now) (s .args .cost .now) (s .args .bars .now) (s .args .p)
 
 add-if1 : tie.Need-add-if1
 add-if1 c = search needs
@@ -18,11 +18,11 @@ slice-read-if1 : tie.Need-slice-read-if1
 slice-read-if1 c = search needs
 
 cast-if1 : tie.Need-cast-if1
-cast-if1 c = let s = c .before .before .before .before .before .before .before .before .before .before in
+cast-if1 c = let s = c .before .before .before .before .before .before .before .before .before .before .before in
     omega (arith, c .slice-known2 .given (192 + s .args .m))
 
 returns : tie.Need-returns
-returns c = let s = c .before .before .before .before .before .before .before .before .before .before .before in
+returns c = let s = c .before .before .before .before .before .before .before .before .before .before .before .before in
     let few : s .args .m < 64 = omega (arith, s .pre .1 .0 .0, s .pre .0 .proper .pads .few) in
     let K = s .pre .1 .1 .0 .1 in let now = s .pre .1 .1 .1 .0 in
     (most-chosen (s .args .m) K now (s .args .from) few (c .if1 .taken) (s .pre .1 .1 .1 .1), learnt-same (s .args .m) K now)
@@ -31,7 +31,7 @@ settle-requires : tie.Need-settle-requires
 settle-requires c κs = search needs
 
 choose-requires : tie.Need-choose-requires
-choose-requires c κs = let s = c .before .before .before .before .before .before .before .before .before .before .before .before .before .before .before .before in
+choose-requires c κs = let s = c .before .before .before .before .before .before .before .before .before .before .before .before .before .before .before .before .before in
     let few : s .args .m < 64 = omega (arith, s .pre .1 .0 .0, s .pre .0 .proper .pads .few) in
     let K = s .pre .1 .1 .0 .1 in let N = c .before .before .before .settle .ensures in (
       s .pre .0 .table,
@@ -43,14 +43,14 @@ choose-requires c κs = let s = c .before .before .before .before .before .befor
 
 cast-known : tie.Need-cast-known
 cast-known c = let s = c .before .before .before .before .before .before .before .before .before .before .before .before .before .before .before .before .before
-    .before in omega (arith, s .pre .1 .1 .1 .2)
+    .before .before in omega (arith, s .pre .1 .1 .1 .2)
 
 add-known : tie.Need-add-known
-add-known c = search needs
+add-known c = let s = c .before .before .before .before .before .before .before .before .before .before .before .before .before .before .before .before .before .before .before in omega (arith, s .pre .1 .0 .0, s .pre .0 .proper .pads .few)
 
 slice-write-known : tie.Need-slice-write-known
 slice-write-known c = let s = c .before .before .before .before .before .before .before .before .before .before .before .before .before .before .before .before
-    .before .before in let N = c .before .before .before .before .before .settle .ensures in
+    .before .before .before in let N = c .before .before .before .before .before .settle .ensures in
     omega (arith, N .long, s .pre .1 .1 .0 .1 .long, s .pre .1 .0 .0, s .pre .0 .proper .pads .few)
 
 same-length : tie.Need-same-length
@@ -58,7 +58,7 @@ same-length c = search needs
 
 returns-2 : tie.Need-returns-2
 returns-2 c = let s = c .before .before .before .before .before .before .before .before .before .before .before .before .before .before .before .before .before
-    .before in let few : s .args .m < 64 = omega (arith, s .pre .1 .0 .0, s .pre .0 .proper .pads .few) in
+    .before .before in let few : s .args .m < 64 = omega (arith, s .pre .1 .0 .0, s .pre .0 .proper .pads .few) in
     let K = s .pre .1 .1 .0 .1 in let N = c .before .before .before .before .before .settle .ensures in let q = c .before .choose in
     let strip = settled-strip (s .args .w .now) (s .args .m) K N in (
       strip-chosen (read s) (s .args .m) (s .args .from) (q .result) strip (q .ensures),
@@ -71,7 +71,7 @@ same-length-2 c = search needs
 
 returns-3 : tie.Need-returns-3
 returns-3 c = let s = c .before .before .before .before .before .before .before .before .before .before .before .before .before .before .before .before .before
-    .before in
+    .before .before in
     let K = s .pre .1 .1 .0 .1 in let N = c .before .before .before .before .before .settle .ensures in let q = c .before .choose in (
       strip-chosen (read s) (s .args .m) (s .args .from) (q .result) (settled-strip (s .args .w .now) (s .args .m) K N) (q .ensures),
       settled-learnt (s .args .w .now) (s .args .m) K N,

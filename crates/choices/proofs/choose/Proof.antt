@@ -11,14 +11,14 @@ use Rattle.choices.proofs.choose.Tie as tie
 
 -- the board that the function reads
 abbrev board : tie.Start → Grid
-board s = gridOn (s .args .order .now) (source (s .args .heads .now) (s .args .totals .now) (s .args .cost .now) (s .args .p)) (s .args .lo .now)
+board s = gridOn (s .args .order .now) (source (s .args .heads .now) (s .args .totals .now) (s .args .cost .now) (s .args .bars .now) (s .args .p)) (s .args .lo .now)
     (s .args .hi .now)
 
 shared-slice-read-a : tie.Need-shared-slice-read-a
 shared-slice-read-a c = search needs
 
 cast-a : tie.Need-cast-a
-cast-a c = omega (arith, c .shared-slice-known8 .given (c .before .before .before .before .before .before .before .before .args .m))
+cast-a c = omega (arith, c .shared-slice-known9 .given (c .before .before .before .before .before .before .before .before .before .args .m))
 
 add-b : tie.Need-add-b
 add-b c = search needs
@@ -33,23 +33,23 @@ larger-requires : tie.Need-larger-requires
 larger-requires c κs = search needs
 
 returns : tie.Need-returns
-returns c = let s = c .before .before .before .before .before .before .before .before .before .before .before in
+returns c = let s = c .before .before .before .before .before .before .before .before .before .before .before .before in
     choose-past (board s) (s .args .order .now) (s .args .m) (getD (s .args .known .now) (s .args .m) 0) (getD (s .args .known .now) (64 + s .args .m) 0)
     (s .args .from)
     (omega (arith, c .before .larger .ensures, c .if1 .taken))
 
 next-port-requires : tie.Need-next-port-requires
-next-port-requires c κs = let s = c .before .before .before .before .before .before .before .before .before .before .before in
+next-port-requires c κs = let s = c .before .before .before .before .before .before .before .before .before .before .before .before in
     ((s .pre .1 .0 .2, s .pre .0), (s .pre .1 .1, (omega (arith, c .before .larger .ensures), omega (arith, c .if1 .left))))
 
 returns-2 : tie.Need-returns-2
-returns-2 c = let s = c .before .before .before .before .before .before .before .before .before .before .before .before .before in
+returns-2 c = let s = c .before .before .before .before .before .before .before .before .before .before .before .before .before .before in
     choose-found (board s) (s .args .order .now) (s .args .m) (getD (s .args .known .now) (s .args .m) 0) (getD (s .args .known .now) (64 + s .args .m) 0)
     (s .args .from)
     (c .before .next-port .result) (rw (c .before .before .before .larger .ensures) at (c .before .next-port .ensures)) (c .if2 .taken)
 
 returns-3 : tie.Need-returns-3
-returns-3 c = let s = c .before .before .before .before .before .before .before .before .before .before .before .before .before in
+returns-3 c = let s = c .before .before .before .before .before .before .before .before .before .before .before .before .before .before in
     choose-none (board s) (s .args .order .now) (s .args .m) (getD (s .args .known .now) (s .args .m) 0) (getD (s .args .known .now) (64 + s .args .m) 0)
     (s .args .from)
     (c .before .next-port .result) (rw (c .before .before .before .larger .ensures) at (c .before .next-port .ensures)) (c .if2 .left)

@@ -10,7 +10,7 @@ use Rattle.choices.proofs.lowest.Tie as tie
 
 -- where the function reads
 abbrev read : tie.Start → Source
-read s = source (s .args .heads .now) (s .args .totals .now) (s .args .cost .now) (s .args .p)
+read s = source (s .args .heads .now) (s .args .totals .now) (s .args .cost .now) (s .args .bars .now) (s .args .p)
 
 settle-requires : tie.Need-settle-requires
 settle-requires c κs = search needs
@@ -22,7 +22,7 @@ slice-read-f : tie.Need-slice-read-f
 slice-read-f c = search needs
 
 cast-f : tie.Need-cast-f
-cast-f c = let s = c .before .before .before .before .before .before .before .before .before .before .before .before .before .before in
+cast-f c = let s = c .before .before .before .before .before .before .before .before .before .before .before .before .before .before .before in
     omega (arith, c .slice-known3 .given (128 + s .args .m))
 
 sub-result : tie.Need-sub-result
@@ -32,7 +32,7 @@ same-length : tie.Need-same-length
 same-length c = search needs
 
 returns : tie.Need-returns
-returns c = let s = c .before .before .before .before .before .before .before .before .before .before .before .before .before .before .before in
+returns c = let s = c .before .before .before .before .before .before .before .before .before .before .before .before .before .before .before .before in
     let few : s .args .m < 64 = omega (arith, s .pre .1 .0 .0, s .pre .0 .proper .pads .few) in
     let K = s .pre .1 .1 .1 in let N = c .before .before .before .before .settle .ensures in let L = settled-learnt (s .args .w .now) (s .args .m) K N in (
       strip-chosen (read s) (s .args .m) 0 _ (settled-strip (s .args .w .now) (s .args .m) K N) (L .facts .least (s .args .m) few (c .if1 .taken)),
@@ -40,7 +40,7 @@ returns c = let s = c .before .before .before .before .before .before .before .b
     )
 
 choose-requires : tie.Need-choose-requires
-choose-requires c κs = let s = c .before .before .before .before .before .before .before .before .before .before .before .before .before .before .before .before in
+choose-requires c κs = let s = c .before .before .before .before .before .before .before .before .before .before .before .before .before .before .before .before .before in
     let few : s .args .m < 64 = omega (arith, s .pre .1 .0 .0, s .pre .0 .proper .pads .few) in
     let K = s .pre .1 .1 .1 in let N = c .before .before .before .before .before .settle .ensures in (
       s .pre .0 .table,
@@ -52,7 +52,7 @@ choose-requires c κs = let s = c .before .before .before .before .before .befor
 
 -- The pads before have the ports of some best layout, so that there is a port.
 some-port : (c : tie.After-choose) → c .choose .result < 128
-some-port c = let s = c .before .before .before .before .before .before .before .before .before .before .before .before .before .before .before .before .before in
+some-port c = let s = c .before .before .before .before .before .before .before .before .before .before .before .before .before .before .before .before .before .before in
     let K = s .pre .1 .1 .1 in let N = c .before .before .before .before .before .before .settle .ensures in let q = c .choose in
     chosen-some (s .args .w .now) (s .pre .0 .proper) (s .args .m) (s .pre .1 .0 .0) (s .pre .1 .0 .1) (q .result)
     (strip-chosen (read s) (s .args .m) 0 (q .result) (settled-strip (s .args .w .now) (s .args .m) K N) (q .ensures))
@@ -64,10 +64,10 @@ cast-known : tie.Need-cast-known
 cast-known c = omega (arith, some-port c)
 
 add-known-2 : tie.Need-add-known-2
-add-known-2 c = search needs
+add-known-2 c = let s = c .before .before .before .before .before .before .before .before .before .before .before .before .before .before .before .before .before .before in omega (arith, s .pre .1 .0 .0, s .pre .0 .proper .pads .few)
 
 slice-write-known : tie.Need-slice-write-known
-slice-write-known c = let s = c .before .before .before .before .before .before .before .before .before .before .before .before .before .before .before .before .before in
+slice-write-known c = let s = c .before .before .before .before .before .before .before .before .before .before .before .before .before .before .before .before .before .before in
     let N = c .before .before .before .before .before .before .settle .ensures in
     omega (arith, N .long, s .pre .1 .1 .1 .long, s .pre .1 .0 .0, s .pre .0 .proper .pads .few)
 
@@ -75,7 +75,7 @@ same-length-2 : tie.Need-same-length-2
 same-length-2 c = search needs
 
 returns-2 : tie.Need-returns-2
-returns-2 c = let s = c .before .before .before .before .before .before .before .before .before .before .before .before .before .before .before .before .before in
+returns-2 c = let s = c .before .before .before .before .before .before .before .before .before .before .before .before .before .before .before .before .before .before in
     let few : s .args .m < 64 = omega (arith, s .pre .1 .0 .0, s .pre .0 .proper .pads .few) in
     let K = s .pre .1 .1 .1 in let N = c .before .before .before .before .before .before .settle .ensures in let q = c .choose in (
       strip-chosen (read s) (s .args .m) 0 (q .result) (settled-strip (s .args .w .now) (s .args .m) K N) (q .ensures),

@@ -7,11 +7,11 @@ use Rattle.choices.proofs.next_port.Tie as tie
 
 -- where the function reads
 abbrev read : tie.Start → Source
-read s = source (s .args .heads .now) (s .args .totals .now) (s .args .cost .now) (s .args .p)
+read s = source (s .args .heads .now) (s .args .totals .now) (s .args .cost .now) (s .args .bars .now) (s .args .p)
 
 next-port-requires : tie.Need-next-port-requires
 next-port-requires c κs =
-    let s = c .before .before .before .before .before .before .before in
+    let s = c .before .before .before .before .before .before .before .before in
     let F = s .pre .0 .1 .slotted (c .if1 .taken) in (
       (s .pre .0 .0, F),
       (
@@ -23,13 +23,13 @@ next-port-requires c κs =
 
 returns : tie.Need-returns
 returns c =
-    let s = c .before .before .before .before .before .before .before .before in
+    let s = c .before .before .before .before .before .before .before .before .before in
     slots-next (s .args .order .now) (read s) (s .args .lo .now) (s .args .hi .now) (c .before .if1 .taken) (s .args .m) (s .args .a) (s .args .b)
     (s .args .from) _ (c .next-port .ensures)
 
 next-port-requires-2 : tie.Need-next-port-requires-2
 next-port-requires-2 c κs =
-    let s = c .before .before .before .before .before .before .before in
+    let s = c .before .before .before .before .before .before .before .before in
     let some = c .if1 .left in
     let F = s .pre .0 .1 .full (omega arith) in (
       full-pads (s .args .order .now) (read s) (s .args .lo .now) (s .args .hi .now) F (s .pre .0 .0),
@@ -45,7 +45,7 @@ next-port-requires-2 c κs =
 
 returns-2 : tie.Need-returns-2
 returns-2 c =
-    let s = c .before .before .before .before .before .before .before .before in
+    let s = c .before .before .before .before .before .before .before .before .before in
     full-next (s .args .order .now) (read s) (s .args .lo .now) (s .args .hi .now) (c .before .if1 .left) (s .args .m) (s .args .a) (s .args .b)
     (s .args .from) _ (c .next-port2 .ensures)
 

@@ -10,8 +10,8 @@ x-requires c κs = search needs
 name-requires : tie.Need-name-requires
 name-requires c κs = search needs
 
-reserved-requires : tie.Need-reserved-requires
-reserved-requires c κs = search needs
+half-side-requires : tie.Need-half-side-requires
+half-side-requires c κs = search needs
 
 y-requires : tie.Need-y-requires
 y-requires c κs = search needs
@@ -30,10 +30,10 @@ returns c =
       c .before .out-of-range .ensures,
       read-back (y .result) (y .ok),
       y .ensures .0,
-      c .before .before .before .reserved .ensures,
+      c .before .before .before .half-side .ensures,
       c .before .before .before .before .name .ensures,
       c .before .before .before .before .before .x .ensures,
     )
 
 pub bad-field-spec : {M : Type 1} → statement M
-bad-field-spec = tie.close (tie.spec x-requires name-requires reserved-requires y-requires out-of-range-requires bad-last-requires returns)
+bad-field-spec = tie.close (tie.spec x-requires name-requires half-side-requires y-requires out-of-range-requires bad-last-requires returns)

@@ -1,7 +1,12 @@
 -- `layouts::walk` meets its contract: the lists lent are arrays and parts of arrays. Assumes nothing.
 use mathlib.Core.Path.{sym, refl}
+use Prim.Native.Nat.{_*_}
+use native.Mathlib.Nat.{mul-le-mul}
+use native.Mathlib.Omega.{arith}
 use lib.Seq.{length-take-le}
 use borrow.Author.Needs.{needs}
+use Rattle.numbers.specs.Filled.{zeros-front}
+use Rattle.paper.specs.Job.{count}
 use Rattle.layouts.proofs.walk.Statement.{statement}
 use Rattle.layouts.proofs.walk.Tie as tie
 
@@ -29,11 +34,25 @@ slice-aggregate-walk-at-4 c = search needs
 slice-aggregate-walk-at-5 : tie.Need-slice-aggregate-walk-at-5
 slice-aggregate-walk-at-5 c = search needs
 
+mul-bars : tie.Need-mul-bars
+mul-bars c = let few = c .before .before .before .before .before .before .before .before .before .pre .0 .few in omega (arith, mul-le-mul few few)
+
+array-borrow-prefix-bars : tie.Need-array-borrow-prefix-bars
+array-borrow-prefix-bars c = let few = c .before .before .before .before .before .before .before .before .before .pre .0 .few in mul-le-mul few few
+
+slice-aggregate-walk-at-6 : tie.Need-slice-aggregate-walk-at-6
+slice-aggregate-walk-at-6 c = let few = c .before .before .before .before .before .before .before .before .before .before .pre .0 .few in sym (length-take-le _ _ (mul-le-mul few few))
+
 walk-at-requires : tie.Need-walk-at-requires
 walk-at-requires c κs =
-    let s = c .before .before .before .before .before .before .before .before .before .before .before in
-    let few = s .pre .0 .few in
-    (s .pre, (record { places = length-take-le _ _ few; lows = length-take-le _ _ few; highs = length-take-le _ _ few }, refl {a = 2145}, refl {a = 2145}))
+    let s = c .before .before .before .before .before .before .before .before .before .before .before .before in
+    let few = s .pre .0 .few in (
+      s .pre,
+      (
+        (record { places = length-take-le _ _ few; lows = length-take-le _ _ few; highs = length-take-le _ _ few }, refl {a = 2145}, refl {a = 2145}),
+        (length-take-le _ _ (mul-le-mul few few), zeros-front (count (s .args .job .now) * count (s .args .job .now)) 4096),
+      ),
+    )
 
 same-length : tie.Need-same-length
 same-length c = search needs
@@ -56,6 +75,9 @@ walk-spec =
     slice-aggregate-walk-at-3
     slice-aggregate-walk-at-4
     slice-aggregate-walk-at-5
+    mul-bars
+    array-borrow-prefix-bars
+    slice-aggregate-walk-at-6
     walk-at-requires
     same-length
     same-length-2

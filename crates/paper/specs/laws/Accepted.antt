@@ -1,5 +1,5 @@
 -- What a call may go by once its trials are passed.
---     first-accepted, draw-accepted: the job's fields, weights or table, and room;  layout-passed: 8 and 9 on any board;  measure-accepted, untouching-passed: Measure's
+--     sound-accepted, draw-accepted: the job's fields, weights or table, and room;  first-sound, first-some, first-passed: First's are these, and some layout counts;  layout-passed: 8 and 9 on any board;  measure-accepted, untouching-passed: Measure's
 use mathlib.Core.Path.{_≡_, refl, ap}
 use mathlib.Core.Logic.{_≢_, inl, inr, ⊎-elim, _↔_, Dec·not-not}
 use mathlib.Core.List.{List, [], _∷_}
@@ -16,14 +16,14 @@ use Rattle.paper.specs.declared.Form.{Form}
 use Rattle.paper.specs.declared.Form.the-variants.{Records}
 use Rattle.paper.specs.declared.Work.{Work}
 use Rattle.paper.specs.declared.Work.the-variants.{Unlent, Lent}
-use Rattle.paper.specs.Job.{Job, records, slots, formOf, padsOf, portsOf, lastOf, count, nameOf, reservedOf, xOf, yOf, portCount, portOf}
+use Rattle.paper.specs.Job.{Job, records, slots, formOf, padsOf, portsOf, lastOf, count, nameOf, halfOf, xOf, yOf, portCount, portOf}
 use Rattle.paper.specs.Layouts.{Board, boardFrom, boardOf, held, Badness, byWeights, byTable, weighted, costOf, total, Layout, Untouching}
 use Rattle.paper.specs.Problem.{Best, labelingOf}
 use Rattle.paper.specs.Refusals.{BadSize, BadField, BadEntry, workNeeded, Clean, Passed, RefusedBy, refusal}
-use Rattle.paper.specs.Refusals.{sizeTrials, enoughTrials, workTrials, fieldTrials, placeTrials, jobTrials, badnessTrial, firstTrials, measureTrials, nextTrials, drawTrials, layoutTrials, bestTrial, numberTrial}
+use Rattle.paper.specs.Refusals.{sizeTrials, enoughTrials, workTrials, fieldTrials, placeTrials, jobTrials, badnessTrial, soundTrials, firstTrials, measureTrials, nextTrials, drawTrials, layoutTrials, bestTrial, NoLayout, noneTrial, numberTrial}
 use Rattle.paper.specs.Layouts.{Differ, Rising, Proper}
 use Rattle.paper.specs.laws.Trials.{alone, passed-append, append-passed, refused-left, refused-right}
-use Rattle.paper.specs.laws.Decided.{passed-differ, first-parts}
+use Rattle.paper.specs.laws.Decided.{passed-differ, sound-parts}
 use Rattle.paper.specs.laws.Totals.{sum-at-most, weighted-bound, total-bound}
 
 not-lt : {a b : ℕ} → ¬ (a < b) → b ≤ a
@@ -39,7 +39,7 @@ pub record Accepted (form : Form) (pads ports : List ℕ) : Type 0 where
   pub whole : 16 * count pads ≡ length pads
   pub named : (i : ℕ) → i < count pads → nameOf pads i ≢ 0
   pub names-differ : (i j : ℕ) → j < i → i < count pads → nameOf pads i ≢ nameOf pads j
-  pub reserved : (i : ℕ) → i < count pads → reservedOf pads i ≡ 0
+  pub half : (i : ℕ) → i < count pads → halfOf pads i ≤ 2000
   pub right : (i : ℕ) → i < count pads → 1 ≤ xOf pads i
   pub width : (i : ℕ) → i < count pads → xOf pads i ≤ 1000000
   pub pad : (i : ℕ) → i < count pads → natAbs (yOf pads i) ≤ 1000000
@@ -121,7 +121,7 @@ job-accepted job sizes enough passed =
       whole = size .whole;
       named = λ i l e. in-range i l (inl e);
       names-differ = λ i j k l e. places .1 .1 .0 i l (j, k, e);
-      reserved = λ i l. Dec·not-not (ℕ-discrete (reservedOf pads i) 0) .0 (λ n. in-range i l (inr (inl n)));
+      half = λ i l. not-lt (λ h. in-range i l (inr (inl h)));
       right = λ i l. not-lt (λ h. in-range i l (inr (inr (inl h))));
       width = λ i l. not-lt (λ h. in-range i l (inr (inr (inr (inl h)))));
       pad = λ i l. not-lt (λ h. in-range i l (inr (inr (inr (inr (inl h))))));
@@ -140,32 +140,32 @@ fair-iff b (byWeights lw bw) =
     ((λ c. (not-lt (λ h. c 0 (omega arith) (inl h)), not-lt (λ h. c 0 (omega arith) (inr h)))), (λ f i l. ⊎-elim (λ h. omega (arith, f .0)) (λ h. omega (arith, f .1))))
 fair-iff b (byTable figures) = ((λ c. Dec·not-not (ℕ-discrete (length figures) (b .pads * b .ports)) .0 (c 0 (omega arith))), (λ f i l n. n f))
 
--- First's trials are passed: an accepted job, weights in range or a table of that length, and room for the layout.
-pub first-accepted : (job : Job) (bad : Badness) (work : Work) (room : ℕ) → Passed (firstTrials job bad work room)
+-- 1 to 7 are passed: an accepted job, weights in range or a table of that length, and room for the layout.
+pub sound-accepted : (job : Job) (bad : Badness) (work : Work) (room : ℕ) → Passed (soundTrials job bad work room)
     → AcceptedJob job × Fair (boardOf job) bad × (boardOf job .pads ≤ room)
-first-accepted job bad work room p =
-    let (sizes, given, roomy, passed) = first-parts job bad work room .0 p in
+sound-accepted job bad work room p =
+    let (sizes, given, roomy, passed) = sound-parts job bad work room .0 p in
     (job-accepted job sizes (append-passed (enoughTrials job) (workTrials (boardOf job) work) (roomy .1) .0) passed, fair-iff (boardOf job) bad .0 given, not-lt (roomy .0 0 (omega arith)))
 
 -- .. and the work list, where one is lent, is long enough.
-pub first-working : (job : Job) (bad : Badness) (numbers room : ℕ) → Passed (firstTrials job bad (Lent numbers) room)
+pub sound-working : (job : Job) (bad : Badness) (numbers room : ℕ) → Passed (soundTrials job bad (Lent numbers) room)
     → workNeeded (boardOf job .pads) (boardOf job .ports) ≤ numbers
-first-working job bad numbers room p =
-    not-lt (append-passed (enoughTrials job) (workTrials (boardOf job) (Lent numbers)) (first-parts job bad (Lent numbers) room .0 p .2 .1) .1 .0 0 (omega arith))
+sound-working job bad numbers room p =
+    not-lt (append-passed (enoughTrials job) (workTrials (boardOf job) (Lent numbers)) (sound-parts job bad (Lent numbers) room .0 p .2 .1) .1 .0 0 (omega arith))
 
 -- Without a work list 24 is not tried: what passes with one passes without.
-pub first-unlent : (job : Job) (bad : Badness) (work : Work) (room : ℕ) → Passed (firstTrials job bad work room) → Passed (firstTrials job bad Unlent room)
-first-unlent job bad work room p =
-    let (sizes, given, roomy, passed) = first-parts job bad work room .0 p in
+pub sound-unlent : (job : Job) (bad : Badness) (work : Work) (room : ℕ) → Passed (soundTrials job bad work room) → Passed (soundTrials job bad Unlent room)
+sound-unlent job bad work room p =
+    let (sizes, given, roomy, passed) = sound-parts job bad work room .0 p in
     let enough = append-passed (enoughTrials job) (workTrials (boardOf job) work) (roomy .1) .0 in
-    first-parts job bad Unlent room .1 (sizes, given, (roomy .0, passed-append (enoughTrials job) [] enough tt), passed)
+    sound-parts job bad Unlent room .1 (sizes, given, (roomy .0, passed-append (enoughTrials job) [] enough tt), passed)
 
 -- How many entries are lent makes no difference, if there is room.
-pub first-other-room : (job : Job) (bad : Badness) (work : Work) (room other : ℕ) → Passed (firstTrials job bad work room) → boardOf job .pads ≤ other
-    → Passed (firstTrials job bad work other)
-first-other-room job bad work room other p l =
-    let (sizes, given, roomy, passed) = first-parts job bad work room .0 p in
-    first-parts job bad work other .1 (sizes, given, ((λ i h s. omega arith), roomy .1), passed)
+pub sound-other-room : (job : Job) (bad : Badness) (work : Work) (room other : ℕ) → Passed (soundTrials job bad work room) → boardOf job .pads ≤ other
+    → Passed (soundTrials job bad work other)
+sound-other-room job bad work room other p l =
+    let (sizes, given, roomy, passed) = sound-parts job bad work room .0 p in
+    sound-parts job bad work other .1 (sizes, given, ((λ i h s. omega arith), roomy .1), passed)
 
 -- Draw's are passed: an accepted job, room for three points, and numbers of a record and of a port.
 pub draw-accepted : (bytes : List ℕ) (i q room : ℕ) → Passed (drawTrials bytes i q room)
@@ -217,23 +217,43 @@ layout-passed b list = (
     entries u i l (inl h) = omega (arith, u .layout .inside i l)
     entries u i l (inr (j, k, e)) = u .layout .own i j k l e
 
+-- First's trials are 1 to 7, and then 15: it is not so that no layout is untouching.
+module _ (job : Job) (bad : Badness) (work : Work) (room : ℕ) where
+  pub first-sound : Passed (firstTrials job bad work room) → Passed (soundTrials job bad work room)
+  first-sound p = append-passed (soundTrials job bad work room) (noneTrial (labelingOf job bad) ∷ []) p .0
+
+  pub first-some : Passed (firstTrials job bad work room) → ¬ NoLayout (labelingOf job bad)
+  first-some p = append-passed (soundTrials job bad work room) (noneTrial (labelingOf job bad) ∷ []) p .1 .0 0 (omega arith)
+
+  pub first-passed : Passed (soundTrials job bad work room) → ¬ NoLayout (labelingOf job bad) → Passed (firstTrials job bad work room)
+  first-passed p n = passed-append (soundTrials job bad work room) (noneTrial (labelingOf job bad) ∷ []) p ((λ i l none. n none), tt)
+
+  pub none-refused : Passed (soundTrials job bad work room) → NoLayout (labelingOf job bad) → RefusedBy (firstTrials job bad work room) (refusal 15 0 0)
+  none-refused p none =
+      refused-right (soundTrials job bad work room) (noneTrial (labelingOf job bad) ∷ []) (refusal 15 0 0) p
+      (inl (refl, record { inside = omega arith; first = record { here = none; none-below = λ j l. absurd (omega arith) }; named = alone }))
+
+  -- What 1 to 7 refuse, First refuses alike.
+  pub sound-refused : (r : Refusal) → RefusedBy (soundTrials job bad work room) r → RefusedBy (firstTrials job bad work room) r
+  sound-refused r = refused-left (soundTrials job bad work room) (noneTrial (labelingOf job bad) ∷ []) r
+
 module _ (job : Job) (bad : Badness) (work : Work) (list : List ℕ) where
-  -- Measure's are passed: First's are, and the list holds an untouching layout.
-  pub measure-accepted : Passed (measureTrials job bad work list) → Passed (firstTrials job bad work (length list)) × Untouching (boardOf job) (held list)
+  -- Measure's are passed: 1 to 7 are, and the list holds an untouching layout.
+  pub measure-accepted : Passed (measureTrials job bad work list) → Passed (soundTrials job bad work (length list)) × Untouching (boardOf job) (held list)
   measure-accepted p =
-      let (passed, rest) = append-passed (firstTrials job bad work (length list)) (layoutTrials (boardOf job) list) p in
+      let (passed, rest) = append-passed (soundTrials job bad work (length list)) (layoutTrials (boardOf job) list) p in
       (passed, layout-passed (boardOf job) list .0 rest)
 
   -- So then the job is accepted, with weights in range or a table of that length, and room for the layout, and the entries are port numbers.
   pub measure-facts : Passed (measureTrials job bad work list) → AcceptedJob job × Fair (boardOf job) bad × (boardOf job .pads ≤ length list)
-  measure-facts p = first-accepted job bad work (length list) (measure-accepted p .0)
+  measure-facts p = sound-accepted job bad work (length list) (measure-accepted p .0)
 
   pub measure-entries : Passed (measureTrials job bad work list) → (i : ℕ) → i < boardOf job .pads → held list i < boardOf job .ports
   measure-entries p = measure-accepted p .1 .layout .inside
 
   -- And the other way round.
-  pub untouching-passed : Passed (firstTrials job bad work (length list)) → Untouching (boardOf job) (held list) → Passed (measureTrials job bad work list)
-  untouching-passed p u = passed-append (firstTrials job bad work (length list)) (layoutTrials (boardOf job) list) p (layout-passed (boardOf job) list .1 u)
+  pub untouching-passed : Passed (soundTrials job bad work (length list)) → Untouching (boardOf job) (held list) → Passed (measureTrials job bad work list)
+  untouching-passed p u = passed-append (soundTrials job bad work (length list)) (layoutTrials (boardOf job) list) p (layout-passed (boardOf job) list .1 u)
 
   -- Next refuses by 10 what passes Measure's trials, if the layout is not a best one;
   pub not-best-refused : Passed (measureTrials job bad work list) → ¬ Best (labelingOf job bad) (held list)

@@ -1,7 +1,8 @@
 -- CALLS THAT COST ALIKE ANSWER ALIKE. Weights and a table, or two tables, that give every pad with every port the same cost: the same replies, refusals and lists
 -- too. So the weighted calls are those on the table of weighted lengths and bends.
 --     first-by-table, next-by-table, page-by-table, measure-by-table;  table-of: there is such a table
---     first-follows, measure-follows, first-on, next-on, page-on: from one to the other, for the code that searches by such a table
+--     sound-follows, measure-follows, first-on, next-on, page-on: from one to the other, for the code that searches by such a table
+--     first-over, next-over, page-over, measure-over: of any calls whose trials follow, on problems whose layouts are worth the same
 use mathlib.Core.Path.{_≡_, sym, _∙_}
 use mathlib.Core.Logic.{inl, inr, ⊎-elim, _↔_}
 use mathlib.Core.List.{List, [], _∷_, _++_}
@@ -22,8 +23,8 @@ use Rattle.paper.specs.Job.{Job}
 use Rattle.paper.specs.Layouts.{Board, boardOf, held, Layout, Untouching, Badness, byWeights, byTable, weighted, costOf, TableOf, total}
 use Rattle.paper.specs.Problem.{Problem, Best, FirstBest, NextBest, LastBest, labelingOf}
 use Rattle.paper.specs.Refusals.{Trial, Clean, Passed, RefusedBy, sizeTrials, roomTrials, jobTrials, layoutTrials, ofWhole, badnessTrial, bestTrial}
-use Rattle.paper.specs.Refusals.{firstTrials, measureTrials, nextTrials}
-use Rattle.paper.specs.Promises.{Following, FirstAnswers, NextAnswers, PageAnswers, MeasureAnswers, FirstPromise, NextPromise, PagePromise, MeasurePromise}
+use Rattle.paper.specs.Refusals.{noneTrial, soundTrials, firstTrials, measureTrials, nextTrials, Calls}
+use Rattle.paper.specs.Promises.{Following, FirstOver, NextOver, PageOver, MeasureOver, FirstAnswers, NextAnswers, PageAnswers, MeasureAnswers, FirstPromise, NextPromise, PagePromise, MeasurePromise}
 use Rattle.paper.specs.laws.Trials.{passed-append, append-passed, refused-left, refused-right, refused-append}
 use Rattle.paper.specs.laws.Totals.{sum-same}
 use Rattle.paper.specs.laws.Trying.{row, row-length, row-at}
@@ -31,37 +32,51 @@ use Rattle.paper.specs.laws.Accepted.{Fair, fair-iff, measure-accepted}
 
 -- ---- problems
 
--- On one board, with the same layouts that count, and the same values of those.
-module _ (b : Board) (Counts : (ℕ → ℕ) → Type 0) where
-  abbrev Valued : ((ℕ → ℕ) → ℕ) → Problem
-  Valued value = record { board = b; Counts = Counts; value = value }
+-- On one board.
+abbrev Given : Board → ((ℕ → ℕ) → Type 0) → ((ℕ → ℕ) → ℕ) → Problem
+Given b Counts value = record { board = b; Counts = Counts; value = value }
 
-  abbrev SameValue : ((ℕ → ℕ) → ℕ) → ((ℕ → ℕ) → ℕ) → Type 0
-  SameValue v w = (f : ℕ → ℕ) → Counts f → v f ≡ w f
+-- The same layouts count, and these have the same values.
+pub record SameWorth (C D : (ℕ → ℕ) → Type 0) (v w : (ℕ → ℕ) → ℕ) : Type 0 where
+  pub counts : (f : ℕ → ℕ) → C f ↔ D f
+  pub value : (f : ℕ → ℕ) → C f → v f ≡ w f
 
-  best-alike : (v w : (ℕ → ℕ) → ℕ) → SameValue v w → (f : ℕ → ℕ) → Best (Valued v) f → Best (Valued w) f
-  best-alike v w same f s = record { counts = s .counts; least = λ g u. omega (arith, s .least g u, same f (s .counts), same g u) }
+pub turned : {C D : (ℕ → ℕ) → Type 0} {v w : (ℕ → ℕ) → ℕ} → SameWorth C D v w → SameWorth D C w v
+turned same = record { counts = λ f. (same .counts f .1, same .counts f .0); value = λ f d. sym (same .value f (same .counts f .1 d)) }
 
-  module _ (v w : (ℕ → ℕ) → ℕ) (same : SameValue v w) where
-    back : (f : ℕ → ℕ) → Best (Valued w) f → Best (Valued v) f
-    back = best-alike w v (λ f c. sym (same f c))
+best-alike : (b : Board) {C D : (ℕ → ℕ) → Type 0} {v w : (ℕ → ℕ) → ℕ} → SameWorth C D v w → (f : ℕ → ℕ) → Best (Given b C v) f → Best (Given b D w) f
+best-alike b same f s = record {
+  counts = same .counts f .0 (s .counts);
+  least = λ g d. let c = same .counts g .1 d in omega (arith, s .least g c, same .value f (s .counts), same .value g c);
+}
 
-    first-best-alike : (f : ℕ → ℕ) → FirstBest (Valued v) f → FirstBest (Valued w) f
-    first-best-alike f s = record { best = best-alike v w same f (s .best); earliest = λ g t. s .earliest g (back g t) }
+module _ (b : Board) {C D : (ℕ → ℕ) → Type 0} {v w : (ℕ → ℕ) → ℕ} (same : SameWorth C D v w) where
+  back : (f : ℕ → ℕ) → Best (Given b D w) f → Best (Given b C v) f
+  back = best-alike b (turned same)
 
-    next-best-alike : (l f : ℕ → ℕ) → NextBest (Valued v) l f → NextBest (Valued w) l f
-    next-best-alike l f s = record { best = best-alike v w same f (s .best); later = s .later; earliest = λ g t. s .earliest g (back g t) }
+  first-best-alike : (f : ℕ → ℕ) → FirstBest (Given b C v) f → FirstBest (Given b D w) f
+  first-best-alike f s = record { best = best-alike b same f (s .best); earliest = λ g t. s .earliest g (back g t) }
 
-    last-best-alike : (l : ℕ → ℕ) → LastBest (Valued v) l → LastBest (Valued w) l
-    last-best-alike l s g t = s g (back g t)
+  next-best-alike : (l f : ℕ → ℕ) → NextBest (Given b C v) l f → NextBest (Given b D w) l f
+  next-best-alike l f s = record { best = best-alike b same f (s .best); later = s .later; earliest = λ g t. s .earliest g (back g t) }
 
-    following-alike : (given before : List ℕ) (k : ℕ) (after : List ℕ) → Following (Valued v) given before k after → Following (Valued w) given before k after
-    following-alike given before k after s = record {
-      fit = s .fit;
-      follow = λ j h. next-best-alike _ _ (s .follow j h);
-      all = ⊎-elim inl (λ l. inr (last-best-alike _ l)) (s .all);
-      kept = s .kept;
-    }
+  last-best-alike : (l : ℕ → ℕ) → LastBest (Given b C v) l → LastBest (Given b D w) l
+  last-best-alike l s g t = s g (back g t)
+
+  following-alike : (given before : List ℕ) (k : ℕ) (after : List ℕ) → Following (Given b C v) given before k after → Following (Given b D w) given before k after
+  following-alike given before k after s = record {
+    fit = s .fit;
+    follow = λ j h. next-best-alike _ _ (s .follow j h);
+    all = ⊎-elim inl (λ l. inr (last-best-alike _ l)) (s .all);
+    kept = s .kept;
+  }
+
+  -- 10 names the same layouts.
+  pub not-best-alike : (list : List ℕ) → (C (held list) × ¬ Best (Given b C v) (held list)) ↔ (D (held list) × ¬ Best (Given b D w) (held list))
+  not-best-alike list = (
+    (λ (c, n). (same .counts (held list) .0 c, λ s. n (back (held list) s))),
+    (λ (d, n). (same .counts (held list) .1 d, λ s. n (best-alike b same (held list) s))),
+  )
 
 -- Two costs of every pad with every port of a board, and the totals of a layout.
 abbrev pub SameCosts : Board → (ℕ → ℕ → ℕ) → (ℕ → ℕ → ℕ) → Type 0
@@ -73,7 +88,7 @@ total-alike b c d same f l = sum-same (b .pads) (λ i. c i (f i)) (λ i. d i (f 
 -- ---- trials
 
 -- What passes the first trials passes the second, and what those refuse is refused so by these.
-abbrev Follows : List Trial → List Trial → Type 0
+abbrev pub Follows : List Trial → List Trial → Type 0
 Follows ts us = (Passed ts → Passed us) × ((r : Refusal) → RefusedBy ts r → RefusedBy us r)
 
 -- A trial before both; before both a trial that is clean; trials before both.
@@ -84,18 +99,18 @@ after-clean : (t u : Trial) (ts us : List Trial) → Clean t → Clean u → Fol
 after-clean t u ts us c d f =
     ((λ p. (d, f .0 (p .1))), λ r. ⊎-elim (λ a. absurd (c (r .at) (a .1 .inside) (a .1 .first .here))) (λ a. inr (d, f .1 r (a .1))))
 
-after-all : (vs ts us : List Trial) → Follows ts us → Follows (vs ++ ts) (vs ++ us)
+pub after-all : (vs ts us : List Trial) → Follows ts us → Follows (vs ++ ts) (vs ++ us)
 after-all [] ts us f = f
 after-all (v ∷ vs) ts us f = after-same v (vs ++ ts) (vs ++ us) (after-all vs ts us f)
 
-follows-append : (ts us vs ws : List Trial) → Follows ts us → Follows vs ws → Follows (ts ++ vs) (us ++ ws)
+pub follows-append : (ts us vs ws : List Trial) → Follows ts us → Follows vs ws → Follows (ts ++ vs) (us ++ ws)
 follows-append ts us vs ws f g = (
   (λ p. let (h, k) = append-passed ts vs p in passed-append us ws (f .0 h) (g .0 k)),
   λ r a. ⊎-elim (λ h. refused-left us ws r (f .1 r h)) (λ (h, k). refused-right us ws r (f .0 h) (g .1 r k)) (refused-append ts vs r a),
 )
 
 -- One trial of the input as a whole, for the same fault.
-whole-follows : (r : ℕ) (P Q : Type 0) → P ↔ Q → Follows (ofWhole r P ∷ []) (ofWhole r Q ∷ [])
+pub whole-follows : (r : ℕ) (P Q : Type 0) → P ↔ Q → Follows (ofWhole r P ∷ []) (ofWhole r Q ∷ [])
 whole-follows r P Q same = (
   (λ p. ((λ i l y. p .0 i l (same .1 y)), tt)),
   λ s. ⊎-elim
@@ -105,6 +120,40 @@ whole-follows r P Q same = (
 
 -- ---- calls
 
+-- Calls on such problems whose trials follow reply alike.
+module _ (b : Board) {C D : (ℕ → ℕ) → Type 0} {v w : (ℕ → ℕ) → ℕ} (same : SameWorth C D v w)
+    (first other-first : ℕ → List Trial) (measure other-measure next other-next : List ℕ → List Trial) where
+  abbrev these : Calls
+  these = record { problem = Given b C v; first = first; measure = measure; next = next }
+
+  abbrev those : Calls
+  those = record { problem = Given b D w; first = other-first; measure = other-measure; next = other-next }
+
+  pub first-over : ((room : ℕ) → Follows (first room) (other-first room))
+      → (before : List ℕ) (a : Answer) (after : List ℕ) → FirstOver these before a after → FirstOver those before a after
+  first-over follows before (Total t) after (p, f, e, k) =
+      (follows (length before) .0 p, first-best-alike b same (held after) f, e ∙ same .value (held after) (f .best .counts), k)
+  first-over follows before End after p = absurd p
+  first-over follows before (Refused r) after (a, e) = (follows (length before) .1 r a, e)
+
+  pub next-over : ((list : List ℕ) → Follows (next list) (other-next list))
+      → (before : List ℕ) (a : Answer) (after : List ℕ) → NextOver these before a after → NextOver those before a after
+  next-over follows before (Total t) after (p, f, e, k) =
+      (follows before .0 p, next-best-alike b same (held before) (held after) f, e ∙ same .value (held after) (f .best .counts), k)
+  next-over follows before End after (p, l, e) = (follows before .0 p, last-best-alike b same (held before) l, e)
+  next-over follows before (Refused r) after (a, e) = (follows before .1 r a, e)
+
+  pub page-over : ((list : List ℕ) → Follows (next list) (other-next list))
+      → (list before : List ℕ) (a : Paged) (after : List ℕ) → PageOver these list before a after → PageOver those list before a after
+  page-over follows list before (Wrote k) after (p, f) = (follows list .0 p, following-alike b same list before k after f)
+  page-over follows list before (NotPaged r) after (a, e) = (follows list .1 r a, e)
+
+  pub measure-over : ((list : List ℕ) → Follows (measure list) (other-measure list)) → ((list : List ℕ) → Passed (measure list) → C (held list))
+      → (list : List ℕ) (a : Answer) → MeasureOver these list a → MeasureOver those list a
+  measure-over follows counts list (Total t) (p, e) = (follows list .0 p, e ∙ same .value (held list) (counts list p))
+  measure-over follows counts list End p = absurd p
+  measure-over follows counts list (Refused r) a = follows list .1 r a
+
 module _ (job : Job) where
   abbrev b : Board
   b = boardOf job
@@ -112,64 +161,53 @@ module _ (job : Job) where
   abbrev pub AlikeOn : Badness → Badness → Type 0
   AlikeOn bad other = SameCosts b (costOf b bad) (costOf b other)
 
-  same-value : (bad other : Badness) → AlikeOn bad other → (f : ℕ → ℕ) → Untouching b f → total b (costOf b bad) f ≡ total b (costOf b other) f
-  same-value bad other same f u = total-alike b (costOf b bad) (costOf b other) same f (u .layout)
-
-  best-on : (bad other : Badness) → AlikeOn bad other → (f : ℕ → ℕ) → Best (labelingOf job bad) f → Best (labelingOf job other) f
-  best-on bad other same = best-alike b (Untouching b) (total b (costOf b bad)) (total b (costOf b other)) (same-value bad other same)
+  same-worth : (bad other : Badness) → AlikeOn bad other → SameWorth (Untouching b) (Untouching b) (total b (costOf b bad)) (total b (costOf b other))
+  same-worth bad other same =
+      record { counts = λ f. ((λ u. u), (λ u. u)); value = λ f u. total-alike b (costOf b bad) (costOf b other) same f (u .layout) }
 
   module _ (bad other : Badness) (fair : Fair b bad) (fair-other : Fair b other) (same : AlikeOn bad other) where
-    abbrev v : (ℕ → ℕ) → ℕ
-    v = total b (costOf b bad)
-
-    abbrev w : (ℕ → ℕ) → ℕ
-    w = total b (costOf b other)
-
     -- The trials but for 2 and 13, which both pass, and 10, which names the same layouts.
-    pub first-follows : (work : Work) (room : ℕ) → Follows (firstTrials job bad work room) (firstTrials job other work room)
-    first-follows work room =
+    pub sound-follows : (work : Work) (room : ℕ) → Follows (soundTrials job bad work room) (soundTrials job other work room)
+    sound-follows work room =
         let rest = roomTrials job work room ++ jobTrials job in
         after-all (sizeTrials job) (badnessTrial b bad ∷ rest) (badnessTrial b other ∷ rest)
         (after-clean (badnessTrial b bad) (badnessTrial b other) rest rest (fair-iff b bad .1 fair) (fair-iff b other .1 fair-other) ((λ p. p), λ r a. a))
 
+    first-follows : (work : Work) (room : ℕ) → Follows (firstTrials job bad work room) (firstTrials job other work room)
+    first-follows work room =
+        follows-append (soundTrials job bad work room) (soundTrials job other work room) (noneTrial (labelingOf job bad) ∷ []) (noneTrial (labelingOf job other) ∷ [])
+        (sound-follows work room) ((λ p. p), λ r a. a)
+
     pub measure-follows : (work : Work) (list : List ℕ) → Follows (measureTrials job bad work list) (measureTrials job other work list)
     measure-follows work list =
-        follows-append (firstTrials job bad work (length list)) (firstTrials job other work (length list)) (layoutTrials b list) (layoutTrials b list)
-        (first-follows work (length list)) ((λ p. p), λ r a. a)
+        follows-append (soundTrials job bad work (length list)) (soundTrials job other work (length list)) (layoutTrials b list) (layoutTrials b list)
+        (sound-follows work (length list)) ((λ p. p), λ r a. a)
 
     next-follows : (work : Work) (list : List ℕ) → Follows (nextTrials job bad work list) (nextTrials job other work list)
     next-follows work list =
         follows-append (measureTrials job bad work list) (measureTrials job other work list)
         (bestTrial (labelingOf job bad) list ∷ []) (bestTrial (labelingOf job other) list ∷ []) (measure-follows work list)
-        (whole-follows 10 (Untouching b (held list) × ¬ Best (labelingOf job bad) (held list)) (Untouching b (held list) × ¬ Best (labelingOf job other) (held list)) (
-          (λ (u, n). (u, λ s. n (best-on other bad (λ i q h k. sym (same i q h k)) (held list) s))),
-          (λ (u, n). (u, λ s. n (best-on bad other same (held list) s))),
-        ))
+        (whole-follows 10 _ _ (not-best-alike b (same-worth bad other same) list))
 
     pub first-on : (work : Work) (before : List ℕ) (a : Answer) (after : List ℕ) → FirstAnswers job bad work before a after → FirstAnswers job other work before a after
-    first-on work before (Total t) after (p, f, e, k) =
-        (first-follows work (length before) .0 p, first-best-alike b (Untouching b) v w (same-value bad other same) (held after) f, e ∙ same-value bad other same (held after) (f .best .counts), k)
-    first-on work before End after p = absurd p
-    first-on work before (Refused r) after (a, e) = (first-follows work (length before) .1 r a, e)
+    first-on work =
+        first-over b (same-worth bad other same) (firstTrials job bad work) (firstTrials job other work) (measureTrials job bad Unlent) (measureTrials job other Unlent)
+        (nextTrials job bad work) (nextTrials job other work) (first-follows work)
 
     pub next-on : (work : Work) (before : List ℕ) (a : Answer) (after : List ℕ) → NextAnswers job bad work before a after → NextAnswers job other work before a after
-    next-on work before (Total t) after (p, f, e, k) = (
-      next-follows work before .0 p,
-      next-best-alike b (Untouching b) v w (same-value bad other same) (held before) (held after) f,
-      e ∙ same-value bad other same (held after) (f .best .counts),
-      k,
-    )
-    next-on work before End after (p, l, e) = (next-follows work before .0 p, last-best-alike b (Untouching b) v w (same-value bad other same) (held before) l, e)
-    next-on work before (Refused r) after (a, e) = (next-follows work before .1 r a, e)
+    next-on work =
+        next-over b (same-worth bad other same) (firstTrials job bad work) (firstTrials job other work) (measureTrials job bad Unlent) (measureTrials job other Unlent)
+        (nextTrials job bad work) (nextTrials job other work) (next-follows work)
 
     pub page-on : (work : Work) (list before : List ℕ) (a : Paged) (after : List ℕ) → PageAnswers job bad work list before a after → PageAnswers job other work list before a after
-    page-on work list before (Wrote k) after (p, f) = (next-follows work list .0 p, following-alike b (Untouching b) v w (same-value bad other same) list before k after f)
-    page-on work list before (NotPaged r) after (a, e) = (next-follows work list .1 r a, e)
+    page-on work =
+        page-over b (same-worth bad other same) (firstTrials job bad work) (firstTrials job other work) (measureTrials job bad Unlent) (measureTrials job other Unlent)
+        (nextTrials job bad work) (nextTrials job other work) (next-follows work)
 
     measure-on : (list : List ℕ) (a : Answer) → MeasureAnswers job bad list a → MeasureAnswers job other list a
-    measure-on list (Total t) (p, e) = (measure-follows Unlent list .0 p, e ∙ same-value bad other same (held list) (measure-accepted job bad Unlent list p .1))
-    measure-on list End p = absurd p
-    measure-on list (Refused r) a = measure-follows Unlent list .1 r a
+    measure-on =
+        measure-over b (same-worth bad other same) (firstTrials job bad Unlent) (firstTrials job other Unlent) (measureTrials job bad Unlent) (measureTrials job other Unlent)
+        (nextTrials job bad Unlent) (nextTrials job other Unlent) (measure-follows Unlent) (λ list p. measure-accepted job bad Unlent list p .1)
 
   -- THEOREMS. By weights as by their table.
   module _ (lw bw : ℕ) (figures : List ℕ) (lengths : lw ≤ 1000) (bends : bw ≤ 1000) (t : TableOf b (weighted b lw bw) figures) where

@@ -1,12 +1,12 @@
 -- Layouts on a board: which ports count, 01's criterion for all pairs of pads, and each pad's own port.
---     layout-iff: each port number stands once;  untouched-iff: the criterion;  untouching-of: own ports come by themselves;  equal-costs, zero-weights
+--     layout-iff: each port number stands once;  leaders-apart-iff: the criterion;  untouching-of: own ports come by themselves;  equal-costs, zero-weights
 use mathlib.Core.Path.{_≡_, refl, sym, ap, _∙_}
 use mathlib.Core.Logic.{_≢_, _⊎_, inl, inr, ⊎-elim, _↔_}
 use Prim.Native.Nat.{ℕ, zero, suc, _<_}
 use native.Mathlib.Decide.{decLt, ℕ-discrete}
 use native.Mathlib.Omega.{arith}
 use Rattle.paper.specs.Leaders.{Between}
-use Rattle.paper.specs.Layouts.{Board, leader, Touching, Layout, StandsOnce, EachOnce, Untouching, weighted, total, Differ, Same}
+use Rattle.paper.specs.Layouts.{Board, leader, LeadersTouch, Touching, Layout, StandsOnce, EachOnce, Untouching, weighted, total, Differ, Same}
 use Rattle.paper.specs.Problem.{Best, labeling}
 use Rattle.paper.specs.laws.Touching.{touch-sym, touch-iff}
 use Rattle.paper.specs.laws.Totals.{sum-same}
@@ -35,19 +35,19 @@ total-same b cost f g same = sum-same (b .pads) (λ i. cost i (f i)) (λ i. cost
 -- ---- 01's criterion
 
 -- THEOREM: no two leaders touch exactly if no pad's port height lies between the own height and the port height of a pad to its left.
-pub untouched-iff : (b : Board) (f : ℕ → ℕ) → Differ b
-    → ((i j : ℕ) → j < i → i < b .pads → ¬ Touching b f i j)
+pub leaders-apart-iff : (b : Board) (f : ℕ → ℕ) → Differ b
+    → ((i j : ℕ) → j < i → i < b .pads → ¬ LeadersTouch b f i j)
     ↔ ((i j : ℕ) → i < b .pads → j < b .pads → b .x j < b .x i → ¬ Between (b .port (f i)) (b .y j) (b .port (f j)))
-untouched-iff b f differ = ((λ n i j k m l t. there n i j k m (criterion i j l .1 t) (ℕ-discrete i j) l), back)
+leaders-apart-iff b f differ = ((λ n i j k m l t. there n i j k m (criterion i j l .1 t) (ℕ-discrete i j) l), back)
   where
-    criterion : (i j : ℕ) → b .x j < b .x i → Touching b f i j ↔ Between (b .port (f i)) (b .y j) (b .port (f j))
+    criterion : (i j : ℕ) → b .x j < b .x i → LeadersTouch b f i j ↔ Between (b .port (f i)) (b .y j) (b .port (f j))
     criterion i j l = touch-iff (leader b i (f i)) (leader b j (f j)) l
 
-    other : (i j : ℕ) → Touching b f i j → Touching b f j i
+    other : (i j : ℕ) → LeadersTouch b f i j → LeadersTouch b f j i
     other i j t = touch-sym (leader b i (f i)) (leader b j (f j)) t
 
-    there : ((i j : ℕ) → j < i → i < b .pads → ¬ Touching b f i j)
-        → (i j : ℕ) → i < b .pads → j < b .pads → Touching b f i j → Dec (i ≡ j) → b .x j < b .x i → ⊥
+    there : ((i j : ℕ) → j < i → i < b .pads → ¬ LeadersTouch b f i j)
+        → (i j : ℕ) → i < b .pads → j < b .pads → LeadersTouch b f i j → Dec (i ≡ j) → b .x j < b .x i → ⊥
     there n i j k m t (yes e) l = omega (arith, ap (b .x) e)
     there n i j k m t (no e) l = go (decLt j i)
       where
@@ -56,7 +56,7 @@ untouched-iff b f differ = ((λ n i j k m l t. there n i j k m (criterion i j l 
         go (no d) = n j i (omega arith) m (other i j t)
 
     back : ((i j : ℕ) → i < b .pads → j < b .pads → b .x j < b .x i → ¬ Between (b .port (f i)) (b .y j) (b .port (f j)))
-        → (i j : ℕ) → j < i → i < b .pads → ¬ Touching b f i j
+        → (i j : ℕ) → j < i → i < b .pads → ¬ LeadersTouch b f i j
     back h i j l k t = go (decLt (b .x j) (b .x i))
       where
         go : Dec (b .x j < b .x i) → ⊥
@@ -68,14 +68,14 @@ untouched-iff b f differ = ((λ n i j k m l t. there n i j k m (criterion i j l 
 -- ---- each pad's own port
 
 -- Leaders to one port touch, at the port.
-own-port : (b : Board) (f : ℕ → ℕ) (i j : ℕ) → f i ≡ f j → Touching b f i j
+own-port : (b : Board) (f : ℕ → ℕ) (i j : ℕ) → f i ≡ f j → LeadersTouch b f i j
 own-port b f i j e = (record { x = 0; y = b .port (f i) }, inr (refl, omega arith), inr (ap (b .port) e, omega arith))
 
 -- So ports inside the board and no touching pair are all there is to an untouching layout.
 pub untouching-of : (b : Board) (f : ℕ → ℕ)
     → ((i : ℕ) → i < b .pads → f i < b .ports) → ((i j : ℕ) → j < i → i < b .pads → ¬ Touching b f i j) → Untouching b f
 untouching-of b f inside apart = record {
-  layout = record { inside = inside; own = λ i j l k e. apart i j l k (own-port b f i j e) };
+  layout = record { inside = inside; own = λ i j l k e. apart i j l k (inl (own-port b f i j e)) };
   apart = apart;
 }
 

@@ -14,23 +14,23 @@ use Rattle.paper.specs.declared.Work.{Work}
 use Rattle.paper.specs.declared.Work.the-variants.{Unlent}
 use Rattle.paper.specs.Job.{Job}
 use Rattle.paper.specs.Layouts.{boardOf, held, Badness, Layout}
-use Rattle.paper.specs.Refusals.{Passed, firstTrials}
+use Rattle.paper.specs.Refusals.{Passed, soundTrials}
 use Rattle.paper.specs.Promises.{FirstAnswers, NextAnswers, PageAnswers, MeasureAnswers}
 use Rattle.paper.specs.laws.Totals.{totalOf}
-use Rattle.paper.specs.laws.Accepted.{Narrow, first-accepted, measure-accepted, measure-facts, next-measured, total-most}
+use Rattle.paper.specs.laws.Accepted.{Narrow, sound-accepted, first-sound, measure-accepted, measure-facts, next-measured, total-most}
 
 abbrev pub Bounded : Answer → Type 0
 Bounded (Total t) = t ≤ 274877906880
 Bounded End = Unit {0}
 Bounded (Refused r) = Unit {0}
 
-total-bounded : (job : Job) (bad : Badness) (work : Work) (room t : ℕ) (list : List ℕ) → Narrow bad → Passed (firstTrials job bad work room) → Layout (boardOf job) (held list)
+total-bounded : (job : Job) (bad : Badness) (work : Work) (room t : ℕ) (list : List ℕ) → Narrow bad → Passed (soundTrials job bad work room) → Layout (boardOf job) (held list)
     → t ≡ totalOf (boardOf job) bad list → t ≤ 274877906880
-total-bounded job bad work room t list narrow p l e = let a = first-accepted job bad work room p in rw e (total-most (a .0) bad (a .1) narrow (held list) l)
+total-bounded job bad work room t list narrow p l e = let a = sound-accepted job bad work room p in rw e (total-most (a .0) bad (a .1) narrow (held list) l)
 
 module _ (job : Job) (bad : Badness) (work : Work) (narrow : Narrow bad) (before : List ℕ) where
   pub first-bounded : (a : Answer) (after : List ℕ) → FirstAnswers job bad work before a after → Bounded a
-  first-bounded (Total t) after f = total-bounded job bad work (length before) t after narrow (f .0) (f .1 .best .counts .layout) (f .2)
+  first-bounded (Total t) after f = total-bounded job bad work (length before) t after narrow (first-sound job bad work (length before) (f .0)) (f .1 .best .counts .layout) (f .2)
   first-bounded End after f = tt
   first-bounded (Refused r) after f = tt
 

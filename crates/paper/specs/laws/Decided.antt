@@ -1,5 +1,5 @@
 -- TRIALS ARE DECIDED: each call's trials are passed, or one of them refuses. By tests that are computed.
---     first-decided, measure-decided, draw-decided;  tests-decide: of any trials whose tests say what they say;  tests-pass, tests-refuse: computed
+--     measure-decided, draw-decided;  tests-decide: of any trials whose tests say what they say;  tests-pass, tests-refuse: computed
 use mathlib.Core.Path.{_≡_, refl}
 use mathlib.Core.Logic.{_≢_, _⊎_, inl, inr, ⊎-elim, _↔_}
 use mathlib.Core.Bool.{Bool, true, false, not, _&&_, _||_}
@@ -15,17 +15,17 @@ use Rattle.paper.specs.declared.Form.the-variants.{Records, Slots}
 use Rattle.paper.specs.declared.Work.{Work}
 use Rattle.paper.specs.declared.Work.the-variants.{Unlent, Lent}
 use Rattle.paper.specs.Job.{Job, records, slots, formOf, padsOf, portsOf, count, portCount, portOf}
-use Rattle.paper.specs.Layouts.{Board, boardOf, held, leader, Touching, Badness, byWeights, byTable}
+use Rattle.paper.specs.Layouts.{Board, boardOf, held, Touching, Badness, byWeights, byTable}
 use Rattle.paper.specs.Refusals.{Trial, Smallest, Clean, FirstFault, Passed, RefusedBy, ofEach, ofWhole, ofPairs}
 use Rattle.paper.specs.Refusals.{BadSize, BadWeight, BadField, Outside, SameName, SameX, workNeeded}
-use Rattle.paper.specs.Refusals.{sizeTrials, enoughTrials, workTrials, roomTrials, fieldTrials, placeTrials, jobTrials, layoutTrials, badnessTrial, firstTrials, measureTrials, drawTrials}
+use Rattle.paper.specs.Refusals.{sizeTrials, enoughTrials, workTrials, roomTrials, fieldTrials, placeTrials, jobTrials, layoutTrials, badnessTrial, soundTrials, measureTrials, drawTrials}
 use Rattle.paper.specs.Layouts.{Differ}
 use Rattle.paper.specs.laws.Tests.{Test, atEach, atPairs, atWhole, somewhere, withEarlier, somewhere-iff, with-earlier-iff}
-use Rattle.paper.specs.laws.Tests.{badSize, badWeight, badTable, badField, badHeight, notAbove, tooClose, sameName, sameX, badEntry, meetAt, badNumber}
+use Rattle.paper.specs.laws.Tests.{badSize, badWeight, badTable, badField, badHeight, notAbove, tooClose, sameName, sameX, badEntry, recordsTouch, badNumber}
 use Rattle.paper.specs.laws.Tests.{bad-size-iff, bad-weight-iff, bad-table-iff, outside-iff, bad-field-iff, not-above-iff, too-close-iff}
 use Rattle.paper.specs.laws.Tests.{same-name-iff, same-x-iff, bad-entry-iff, bad-number-iff}
-use Rattle.paper.specs.laws.Tests.{sizeTests, enoughTests, workTests, roomTests, fieldTests, placeTests, jobTests, layoutTests, badnessTest, firstTests, measureTests, drawTests}
-use Rattle.paper.specs.laws.Touching.{meet-iff}
+use Rattle.paper.specs.laws.Tests.{sizeTests, enoughTests, workTests, roomTests, fieldTests, placeTests, jobTests, layoutTests, badnessTest, soundTests, measureTests, drawTests}
+use Rattle.paper.specs.laws.Squares.{records-iff}
 use Rattle.paper.specs.laws.Trials.{append-passed, passed-append}
 
 -- The trials are passed, or one of them refuses.
@@ -247,16 +247,16 @@ badness-test b (byWeights lw bw) = whole-test 2 (BadWeight lw bw) (badWeight lw 
 badness-test b (byTable figures) =
     whole-test 13 (length figures ≢ b .pads * b .ports) (badTable (b .pads) (b .ports) (length figures)) (bad-table-iff (b .pads) (b .ports) (length figures))
 
--- First's tests and Measure's, of a job that is given by weights or a table.
-abbrev pub firstTestsOf : Job → Badness → Work → ℕ → List Test
-firstTestsOf job bad = firstTests (formOf job) (padsOf job) (portsOf job) (badnessTest (boardOf job) bad)
+-- The tests of 1 to 7 and Measure's, of a job that is given by weights or a table.
+abbrev pub soundTestsOf : Job → Badness → Work → ℕ → List Test
+soundTestsOf job bad = soundTests (formOf job) (padsOf job) (portsOf job) (badnessTest (boardOf job) bad)
 
 abbrev pub measureTestsOf : Job → Badness → Work → List ℕ → List Test
 measureTestsOf job bad = measureTests (formOf job) (padsOf job) (portsOf job) (badnessTest (boardOf job) bad)
 
-pub first-tests : (job : Job) (bad : Badness) (work : Work) (room : ℕ) → TestsOf (firstTestsOf job bad work room) (firstTrials job bad work room)
-unfolding firstTests
-first-tests job bad work room =
+pub sound-tests : (job : Job) (bad : Badness) (work : Work) (room : ℕ) → TestsOf (soundTestsOf job bad work room) (soundTrials job bad work room)
+unfolding soundTests
+sound-tests job bad work room =
     tests-append (sizeTests (formOf job) (padsOf job) (portsOf job))
     (badnessTest (boardOf job) bad ∷ roomTests (formOf job) (padsOf job) (portsOf job) work room ++ jobTests (formOf job) (padsOf job) (portsOf job))
     (sizeTrials job) (badnessTrial (boardOf job) bad ∷ roomTrials job work room ++ jobTrials job)
@@ -270,10 +270,10 @@ first-tests job bad work room =
 pub passed-differ : (job : Job) → Passed (jobTrials job) → Differ (boardOf job)
 passed-differ job passed i j k l e = append-passed (fieldTrials job) (placeTrials job) passed .1 .1 .1 .1 .0 i l (j, k, e)
 
--- First's trials are passed exactly if their parts are.
-pub first-parts : (job : Job) (bad : Badness) (work : Work) (room : ℕ) → Passed (firstTrials job bad work room)
+-- These trials are passed exactly if their parts are.
+pub sound-parts : (job : Job) (bad : Badness) (work : Work) (room : ℕ) → Passed (soundTrials job bad work room)
     ↔ (Passed (sizeTrials job) × Clean (badnessTrial (boardOf job) bad) × Passed (roomTrials job work room) × Passed (jobTrials job))
-first-parts job bad work room = (
+sound-parts job bad work room = (
   (λ p.
       let (sizes, (given, rest)) = append-passed (sizeTrials job) (badnessTrial (boardOf job) bad ∷ roomTrials job work room ++ jobTrials job) p in
       let (roomy, passed) = append-passed (roomTrials job work room) (jobTrials job) rest in
@@ -288,8 +288,7 @@ unfolding layoutTests
 layout-tests b differ list = (
   each-test 8 _ _ (badEntry (b .ports) list) (λ i l. bad-entry-iff (b .ports) list i),
   λ _. (
-    pairs-test 9 (b .pads) (Touching b (held list)) (meetAt b (held list)) (λ i j l k.
-        meet-iff (leader b i (held list i)) (leader b j (held list j)) (differ i j k l)),
+    pairs-test 9 (b .pads) (Touching b (held list)) (recordsTouch b (held list)) (λ i j l k. records-iff b (held list) i j (differ i j k l)),
     λ _. tt,
   ),
 )
@@ -297,9 +296,9 @@ layout-tests b differ list = (
 pub measure-tests : (job : Job) (bad : Badness) (work : Work) (list : List ℕ) → TestsOf (measureTestsOf job bad work list) (measureTrials job bad work list)
 unfolding measureTests
 measure-tests job bad work list =
-    tests-append (firstTestsOf job bad work (length list)) (layoutTests (boardOf job) list) (firstTrials job bad work (length list)) _
-    (first-tests job bad work (length list))
-    (λ passed. layout-tests (boardOf job) (passed-differ job (first-parts job bad work (length list) .0 passed .3)) list)
+    tests-append (soundTestsOf job bad work (length list)) (layoutTests (boardOf job) list) (soundTrials job bad work (length list)) _
+    (sound-tests job bad work (length list))
+    (λ passed. layout-tests (boardOf job) (passed-differ job (sound-parts job bad work (length list) .0 passed .3)) list)
 
 pub draw-tests : (bytes : List ℕ) (i q room : ℕ) → TestsOf (drawTests bytes i q room) (drawTrials bytes i q room)
 unfolding drawTests
@@ -315,9 +314,6 @@ draw-tests bytes i q room = (
 )
 
 -- THEOREM: for every input, a call's trials are passed or one of them refuses.
-pub first-decided : (job : Job) (bad : Badness) (work : Work) (room : ℕ) → Decided (firstTrials job bad work room)
-first-decided job bad work room = tests-decide (firstTestsOf job bad work room) (firstTrials job bad work room) (first-tests job bad work room)
-
 pub measure-decided : (job : Job) (bad : Badness) (work : Work) (list : List ℕ) → Decided (measureTrials job bad work list)
 measure-decided job bad work list = tests-decide (measureTestsOf job bad work list) (measureTrials job bad work list) (measure-tests job bad work list)
 

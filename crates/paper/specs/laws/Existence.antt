@@ -1,5 +1,5 @@
--- Every accepted job has an untouching layout; and leaders that do not touch need not be longer.
---     untouching-exists;  straight-total: no layout, touching or not, is shorter than some untouching one
+-- Leaders that do not touch need not be longer; and where pads are points every accepted job has an untouching layout.
+--     straight-total: no layout, touching or not, is shorter than some whose leaders do not touch;  points-exist
 use mathlib.Core.Path.{_≡_}
 use mathlib.Core.Logic.{_≢_, _⊎_, inl, inr}
 use Prim.Native.Nat.{ℕ, _+_, _≤_, _<_}
@@ -10,10 +10,12 @@ use Rattle.numbers.specs.Whole.{whole, apart-num}
 use Rattle.numbers.specs.Tests.{dec-iff}
 use Rattle.paper.specs.Leaders.{Between, distance, lengthOf}
 use Rattle.paper.specs.Layouts.{Board, leader, Layout, Untouching, sum}
+use Rattle.paper.specs.Points.{Points, LeadersApart}
 use Rattle.paper.specs.Layouts.{Proper}
 use Rattle.paper.specs.laws.Tests.{between}
 use Rattle.paper.specs.laws.Touching.{between-iff}
-use Rattle.paper.specs.laws.Boards.{untouched-iff, untouching-of}
+use Rattle.paper.specs.laws.Boards.{leaders-apart-iff}
+use Rattle.paper.specs.laws.Squares.{points-apart}
 use Rattle.paper.specs.laws.Straighten.{Gain, Uncross, straighten}
 
 -- The way from a to c is no longer than that by m; and as long, where m lies between them.
@@ -52,15 +54,15 @@ module _ (b : Board) (proper : Proper b) where
           inr (omega (arith, w, away a q k l ne), λ i. omega (arith, w, triangle (b .y i) (b .port a) (b .port q)))
 
   -- THEOREM (Lemma 1 of "Algorithms for Multi-Criteria One-Sided Boundary Labeling", for a vertical hand): for every layout, touching or not, there is an
-  -- untouching one whose leaders together are no longer.
+  -- one whose leaders do not touch and together are no longer.
   pub straight-total : (f : ℕ → ℕ) → Layout b f
-      → (g : ℕ → ℕ) × Untouching b g × (sum (b .pads) (λ i. lengthOf (leader b i (g i))) ≤ sum (b .pads) (λ i. lengthOf (leader b i (f i))))
+      → (g : ℕ → ℕ) × LeadersApart b g × (sum (b .pads) (λ i. lengthOf (leader b i (g i))) ≤ sum (b .pads) (λ i. lengthOf (leader b i (f i))))
   straight-total f l =
       let (g, s, free, less) = straighten b long Clear uncross f l in
-      (g, untouching-of b g (s .inside) (untouched-iff b g (proper .differ) .1 free), less)
+      (g, record { layout = s; apart = leaders-apart-iff b g (proper .differ) .1 free }, less)
 
-  -- THEOREM: an untouching layout exists. It is a straightening of 'pad i on port i'.
-  pub untouching-exists : (f : ℕ → ℕ) × Untouching b f
-  untouching-exists =
+  -- THEOREM: where pads are points an untouching layout exists. It is a straightening of 'pad i on port i'.
+  pub points-exist : Points b → (f : ℕ → ℕ) × Untouching b f
+  points-exist points =
       let s = straight-total (λ i. i) (record { inside = λ i l. omega (arith, proper .enough); own = omega arith }) in
-      (s .0, s .1)
+      (s .0, points-apart b points (s .0) .1 (s .1))

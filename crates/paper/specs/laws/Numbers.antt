@@ -26,11 +26,11 @@ use Rattle.paper.specs.Job.{Job, records, slots}
 use Rattle.paper.specs.Layouts.{Board, boardOf, Badness, byWeights, byTable}
 use Rattle.paper.specs.Problem.{labelingOf}
 use Rattle.paper.specs.Refusals.{sizeTrials, enoughTrials, workTrials, roomTrials, fieldTrials, placeTrials, jobTrials, layoutTrials, numberTrial}
-use Rattle.paper.specs.Refusals.{Trial, Clean, Passed, RefusedBy, firstTrials, measureTrials, nextTrials, drawTrials, badnessTrial, bestTrial, Calls, callsOf}
+use Rattle.paper.specs.Refusals.{Trial, Clean, Passed, RefusedBy, soundTrials, firstTrials, measureTrials, nextTrials, drawTrials, badnessTrial, bestTrial, noneTrial, Calls, callsOf}
 use Rattle.paper.specs.Promises.{refusalNumber, refusalIn, number, pagedNumber, drawnNumber, FirstOver, NextOver, PageOver, MeasureOver, DrawAnswers}
 use Rattle.paper.specs.Promises.{WorkAfter, WorkPromise, FirstReplies, NextReplies, PageReplies, MeasureReplies, DrawPromise, RefusesBy}
 use Rattle.paper.specs.laws.Trials.{not-both, refused-left}
-use Rattle.paper.specs.laws.Decided.{first-parts}
+use Rattle.paper.specs.laws.Decided.{sound-parts}
 use Rattle.paper.specs.laws.Accepted.{sized, pads-sized, ports-sized}
 
 -- ---- a refusal's number
@@ -49,7 +49,7 @@ sizeOf r = 4294967296 * r .earlier + 65536 * r .reason + r .at
 pub refusal-low : (r : Refusal) → SmallRefusal r → refusalNumber r ≤ℤ negℤ (pos 65536)
 refusal-low r s = omega (whole, neg-nums (pos (sizeOf r)), neg-nums (pos 65536))
 
-refusal-apart : (r : Refusal) (t : ℕ) → SmallRefusal r → pos t ≡ refusalNumber r → ⊥
+pub refusal-apart : (r : Refusal) (t : ℕ) → SmallRefusal r → pos t ≡ refusalNumber r → ⊥
 refusal-apart r t s e = omega (arith, eq-num (pos t) (refusalNumber r) e, neg-nums (pos (sizeOf r)))
 
 refusal-not-end : (r : Refusal) → SmallRefusal r → negsuc 0 ≡ refusalNumber r → ⊥
@@ -73,9 +73,12 @@ refusal-back r s = λ i. record { reason = reason i; at = at i; earlier = earlie
 
 -- So what is said of the work list by an answer is said by C's number of it.
 work-told : (a : Answer) → ((r : Refusal) → a ≡ Refused r → SmallRefusal r) → (before after : List ℕ) → WorkAfter a before after → WorkPromise (number a) before after
-work-told (Total t) small before after w l n = absurd (omega (whole, neg-nums (pos 65536)))
-work-told End small before after w l n = absurd (omega (whole, neg-nums (pos 65536)))
-work-told (Refused r) small before after w l n = w (λ e. n (ap (λ (s : Refusal). s .reason) (refusal-back r (small r refl)) ∙ e))
+work-told (Total t) small before after w l n o = absurd (omega (whole, neg-nums (pos 65536)))
+work-told End small before after w l n o = absurd (omega (whole, neg-nums (pos 65536)))
+work-told (Refused r) small before after w l n o = w (λ e. n (same ∙ e)) (λ e. o (same ∙ e))
+  where
+    same : refusalIn (refusalNumber r) .reason ≡ r .reason
+    same = ap (λ (s : Refusal). s .reason) (refusal-back r (small r refl))
 
 -- ---- refusals by trials are such
 
@@ -96,7 +99,7 @@ pub record Numbered (c : Calls) : Type 0 where
   pub next : (list : List ℕ) (r : Refusal) → RefusedBy (c .next list) r → SmallRefusal r
 
 -- A number that is such a refusal's gives it back.
-small-back : (r : Refusal) (c : ℤ) → SmallRefusal r → c ≡ refusalNumber r → r ≡ refusalIn c
+pub small-back : (r : Refusal) (c : ℤ) → SmallRefusal r → c ≡ refusalNumber r → r ≡ refusalIn c
 small-back r c w e = sym (refusal-back r w) ∙ ap refusalIn (sym e)
 
 -- ---- what C's number tells
@@ -219,8 +222,8 @@ job-small job few slots-few = numbering-append (fieldTrials job) (placeTrials jo
     fields (records bytes) h k = omega arith
     fields (slots pads ports) h k = omega arith
 
-first-small : (job : Job) (bad : Badness) (work : Work) (room : ℕ) → Numbering (firstTrials job bad work room)
-first-small job bad work room =
+sound-small : (job : Job) (bad : Badness) (work : Work) (room : ℕ) → Numbering (soundTrials job bad work room)
+sound-small job bad work room =
     numbering-append (sizeTrials job) (badnessTrial (boardOf job) bad ∷ roomTrials job work room ++ jobTrials job) (size-small job) (λ sizes.
     let small = badness-small (boardOf job) bad in (
       small .0,
@@ -233,13 +236,14 @@ first-small job bad work room =
 next-small : (job : Job) (bad : Badness) (work : Work) (list : List ℕ) → Numbering (nextTrials job bad work list)
 next-small job bad work list =
     numbering-append (measureTrials job bad work list) (bestTrial (labelingOf job bad) list ∷ [])
-    (numbering-append (firstTrials job bad work (length list)) (layoutTrials (boardOf job) list) (first-small job bad work (length list)) (λ p.
-    let few = pads-sized job (first-parts job bad work (length list) .0 p .0) .few in omega arith))
+    (numbering-append (soundTrials job bad work (length list)) (layoutTrials (boardOf job) list) (sound-small job bad work (length list)) (λ p.
+    let few = pads-sized job (sound-parts job bad work (length list) .0 p .0) .few in omega arith))
     (λ _. omega arith)
 
 pub numbered : (job : Job) (bad : Badness) (work : Work) → Numbered (callsOf job bad work)
 numbered job bad work = record {
-  first = λ room r. refused-small (firstTrials job bad work room) r (first-small job bad work room);
+  first = λ room r. refused-small (firstTrials job bad work room) r
+      (numbering-append (soundTrials job bad work room) (noneTrial (labelingOf job bad) ∷ []) (sound-small job bad work room) (λ _. omega arith));
   measure = λ list r a. next Unlent list r (refused-left (measureTrials job bad Unlent list) (bestTrial (labelingOf job bad) list ∷ []) r a);
   next = next work;
 }

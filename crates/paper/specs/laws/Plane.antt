@@ -1,19 +1,20 @@
 -- Whole points are enough. On any line of numbers that holds the whole numbers in their order (the fractions, the reals), leaders of pads with
--- different x share a point with such coordinates exactly if they share a whole one: hands and arms lie along the axes, so that only the order
--- of the coordinates counts.
---     touch-plane;  fractions: a line that is one
+-- different x share a point with such coordinates exactly if they share a whole one, and so do a leader and a square: hands, arms and edges lie along the axes,
+-- so that only the order of the coordinates counts.
+--     touch-plane, meets-plane;  fractions: a line that is one
 use mathlib.Core.Path.{_≡_, refl, sym, _∙_, subst}
 use mathlib.Core.Logic.{_≢_, inl, inr, _↔_}
 use Prim.Native.Nat.{ℕ, _+_, _*_, _≤_, _<_}
 use native.Mathlib.Decide.{decLt}
 use native.Mathlib.Nat.{le-of-mul-le-mul-left, mul-le-mul-left}
 use native.Mathlib.Omega.{arith}
-use lib.IntN.{ℤ, pos, _*ℤ_}
+use lib.IntN.{ℤ, pos, _+ℤ_, _-ℤ_, _*ℤ_}
 use lib.Signed.{_≤ℤ_, ≤ℤ-refl}
-use Rattle.numbers.specs.Whole.{whole, up, dn, antisym, ≤ℤ-trans, times-up, times-dn}
-use Rattle.paper.specs.Leaders.{Spot, Leader, Between, On, Touch}
-use Rattle.paper.specs.Plane.{Line, BetweenIn, OnIn, TouchIn}
+use Rattle.numbers.specs.Whole.{whole, up, dn, plus-num, minus-num, apart-num, antisym, ≤ℤ-trans, times-up, times-dn}
+use Rattle.paper.specs.Leaders.{Spot, Leader, Square, Between, On, Touch, In, Meets, distance}
+use Rattle.paper.specs.Plane.{Line, BetweenIn, OnIn, TouchIn, Near, InIn, MeetsIn}
 use Rattle.paper.specs.laws.Touching.{between-end, touch-sym, touch-iff}
+use Rattle.paper.specs.laws.Squares.{UpTo, Reaches, UnderTop, OverBottom, meets-cases}
 
 module _ (line : Line) where
   infix 4 _⊑_
@@ -60,6 +61,53 @@ module _ (line : Line) where
       there (no h) (u, v, a, b) =
           let k : l .x < m .x = omega arith in
           touch-sym m l (touch-iff m l k .1 (ordered m l k (u, v, b, a)))
+
+  -- ---- squares
+
+  near-whole : (z w : ℤ) (n : ℕ) → distance z w ≤ n → Near line (e z) w n
+  near-whole z w n h =
+      let a : (w -ℤ pos n) ≤ℤ z = omega (whole, minus-num w n, apart-num z w) in
+      let b : z ≤ℤ (w +ℤ pos n) = omega (whole, plus-num w n, apart-num z w) in
+      (line .keeps (w -ℤ pos n) z a, line .keeps z (w +ℤ pos n) b)
+
+  -- A number from z on that is near w, and one up to z.
+  through-up : (z w : ℤ) (n : ℕ) (r : line .number) → e z ⊑ r → Near line r w n → UpTo z w n
+  through-up z w n r h (a, b) =
+      let c : z ≤ℤ (w +ℤ pos n) = line .tells z (w +ℤ pos n) (line .trans (e z) r (e (w +ℤ pos n)) h b) in
+      omega (whole, plus-num w n)
+
+  through-down : (z w : ℤ) (n : ℕ) (r : line .number) → r ⊑ e z → Near line r w n → UpTo w z n
+  through-down z w n r h (a, b) =
+      let c : (w -ℤ pos n) ≤ℤ z = line .tells (w -ℤ pos n) z (line .trans (e (w -ℤ pos n)) r (e z) a h) in
+      omega (whole, minus-num w n)
+
+  below : (z : ℤ) (r : line .number) → r ≡ e z → e z ⊑ r
+  below z r h = subst (λ (q : line .number). e z ⊑ q) (sym h) (line .keeps z z (≤ℤ-refl z))
+
+  above : (z : ℤ) (r : line .number) → r ≡ e z → r ⊑ e z
+  above z r h = subst (λ (q : line .number). q ⊑ e z) (sym h) (line .keeps z z (≤ℤ-refl z))
+
+  met : (l : Leader) (s : Square) → MeetsIn line l s → Reaches l s × (UnderTop l s × OverBottom l s)
+  met l s (u, v, inl (h, inl (a, b)), (c, d)) =
+      let i = through-down (pos (l .x)) (pos (s .x)) (s .half) u (above (pos (l .x)) u h) c in
+      let j = through-up (pos (l .x)) (pos (s .x)) (s .half) u (below (pos (l .x)) u h) c in
+      (omega arith, (inr (omega arith, through-up (l .y) (s .y) (s .half) v a d), inl (through-down (l .port) (s .y) (s .half) v b d)))
+  met l s (u, v, inl (h, inr (a, b)), (c, d)) =
+      let i = through-down (pos (l .x)) (pos (s .x)) (s .half) u (above (pos (l .x)) u h) c in
+      let j = through-up (pos (l .x)) (pos (s .x)) (s .half) u (below (pos (l .x)) u h) c in
+      (omega arith, (inl (through-up (l .port) (s .y) (s .half) v a d), inr (omega arith, through-down (l .y) (s .y) (s .half) v b d)))
+  met l s (u, v, inr (h, a, b), (c, d)) =
+      let i = through-down (pos (l .x)) (pos (s .x)) (s .half) u b c in (
+        omega arith,
+        (inl (through-up (l .port) (s .y) (s .half) v (below (l .port) v h) d), inl (through-down (l .port) (s .y) (s .half) v (above (l .port) v h) d)),
+      )
+
+  -- THEOREM: a leader and a square share a point of the plane exactly if they share a whole one.
+  pub meets-plane : (l : Leader) (s : Square) → MeetsIn line l s ↔ Meets l s
+  meets-plane l s = (
+    (λ m. meets-cases l s .1 (met l s m)),
+    (λ (p, a, (h, k)). (e (pos (p .x)), e (p .y), on-whole l p a, (near-whole (pos (p .x)) (pos (s .x)) (s .half) h, near-whole (p .y) (s .y) (s .half) k))),
+  )
 
 module _ (k : ℕ) (pos-k : 0 < k) where
   -- Multiples of k are in the order of the numbers.

@@ -1,15 +1,15 @@
 -- The tests that the code computes for each fault of Refusals.antt, that each says what its fault says, and each call's tests in order.
---     bad-size-iff, bad-port-size-iff, bad-weight-iff, bad-table-iff, bad-field-iff, not-above-iff, too-close-iff, same-name-iff, same-x-iff, bad-entry-iff, bad-number-iff
+--     bad-size-iff, bad-weight-iff, bad-table-iff, bad-field-iff, not-above-iff, too-close-iff, same-name-iff, same-x-iff, bad-entry-iff, bad-number-iff
 use mathlib.Core.Path.{_≡_, subst}
 use mathlib.Core.Logic.{_≢_, _⊎_, inl, inr, ⊎-elim, _↔_, Iff·trans}
 use mathlib.Core.Bool.{Bool, false, not, _&&_, _||_, or-assoc}
 use mathlib.Core.List.{List, [], _∷_, _++_}
-use Prim.Native.Nat.{ℕ, zero, suc, _*_, _-_, _%_, _≤_, _<_}
+use Prim.Native.Nat.{ℕ, zero, suc, _+_, _*_, _-_, _%_, _≤_, _<_}
 use native.Mathlib.Nat.{le-of-suc-le-suc, not-suc-le-zero, eq-or-lt-of-le}
 use native.Mathlib.Omega.{arith}
 use lib.Dec.{T, eqb, leb, ltb}
 use lib.ListN.{length}
-use lib.IntN.{ℤ, pos, negsuc, negℤ, _-ℤ_}
+use lib.IntN.{ℤ, pos, negsuc, negℤ, _+ℤ_, _-ℤ_}
 use lib.Signed.{leZ, ltZ, _<ℤ_}
 use Rattle.numbers.specs.Whole.{whole}
 use Rattle.numbers.specs.Tests.{and-iff, or-iff, not-iff, leb-iff, ltb-iff, le-iff, eqb-iff, lt-iff}
@@ -17,9 +17,9 @@ use Rattle.paper.specs.declared.Form.{Form}
 use Rattle.paper.specs.declared.Form.the-variants.{Records, Slots}
 use Rattle.paper.specs.declared.Work.{Work}
 use Rattle.paper.specs.declared.Work.the-variants.{Unlent, Lent}
-use Rattle.paper.specs.Job.{twos, count, nameOf, reservedOf, xOf, yOf, lastOf, portCount, portOf}
-use Rattle.paper.specs.Leaders.{Leader}
-use Rattle.paper.specs.Layouts.{Board, boardFrom, held, leader, Badness, byWeights, byTable}
+use Rattle.paper.specs.Job.{twos, count, nameOf, halfOf, xOf, yOf, lastOf, portCount, portOf}
+use Rattle.paper.specs.Leaders.{Leader, Square}
+use Rattle.paper.specs.Layouts.{Board, boardFrom, held, leader, square, Badness, byWeights, byTable}
 use Rattle.paper.specs.Refusals.{workNeeded, Earlier, BadSize, BadWeight, Outside, BadLast, BadField, NotAbove, TooClose, SameName, SameX, BadEntry}
 
 -- p holds at some number below n; q holds of i and a number below i
@@ -50,7 +50,7 @@ badLast Slots n = not (eqb n 0)
 
 abbrev pub badField : Form → List ℕ → ℕ → Bool
 badField form pads i =
-    eqb (nameOf pads i) 0 || not (eqb (reservedOf pads i) 0) || ltb (xOf pads i) 1 || ltb 1000000 (xOf pads i) || outside (yOf pads i) || badLast form (lastOf pads i)
+    eqb (nameOf pads i) 0 || ltb 2000 (halfOf pads i) || ltb (xOf pads i) 1 || ltb 1000000 (xOf pads i) || outside (yOf pads i) || badLast form (lastOf pads i)
 
 abbrev pub badHeight : Form → List ℕ → ℕ → Bool
 badHeight form ports q = outside (portOf form ports q)
@@ -83,8 +83,36 @@ between m a b = leZ a m && leZ m b || leZ b m && leZ m a
 unfoldable pub leadersMeet : Leader → Leader → Bool
 leadersMeet l m = ltb (m .x) (l .x) && between (l .port) (m .y) (m .port) || ltb (l .x) (m .x) && between (m .port) (l .y) (l .port)
 
-abbrev pub meetAt : Board → (ℕ → ℕ) → ℕ → ℕ → Bool
-meetAt b f i j = leadersMeet (leader b i (f i)) (leader b j (f j))
+-- .. and of a leader and a square: the leader comes as far left as the square; its hand is at an x of it; of the leader's heights at these x one is no
+-- higher than the square's top, and one no lower than its bottom
+unfoldable pub reaches : Leader → Square → Bool
+reaches l s = leb (s .x) (l .x + s .half)
+
+unfoldable pub beside : Leader → Square → Bool
+beside l s = leb (l .x) (s .x + s .half)
+
+abbrev pub topOf : Square → ℤ
+topOf s = s .y +ℤ pos (s .half)
+
+abbrev pub bottomOf : Square → ℤ
+bottomOf s = s .y -ℤ pos (s .half)
+
+unfoldable pub underTop : Leader → Square → Bool
+underTop l s = leZ (l .port) (topOf s) || beside l s && leZ (l .y) (topOf s)
+
+unfoldable pub overBottom : Leader → Square → Bool
+overBottom l s = leZ (bottomOf s) (l .port) || beside l s && leZ (bottomOf s) (l .y)
+
+unfoldable pub meets : Leader → Square → Bool
+meets l s = reaches l s && (underTop l s && overBottom l s)
+
+-- a square of half-side 0 is on its pad's own leader: only larger ones are looked at
+unfoldable pub covers : Leader → Square → Bool
+covers l s = ltb 0 (s .half) && meets l s
+
+abbrev pub recordsTouch : Board → (ℕ → ℕ) → ℕ → ℕ → Bool
+recordsTouch b f i j =
+    leadersMeet (leader b i (f i)) (leader b j (f j)) || (covers (leader b i (f i)) (square b j) || covers (leader b j (f j)) (square b i))
 
 -- 11
 abbrev pub badNumber : ℕ → ℕ → ℕ → Bool
@@ -142,9 +170,8 @@ pub bad-field-iff : (form : Form) (pads : List ℕ) (i : ℕ) → T (badField fo
 bad-field-iff form pads i =
     let last = badLast form (lastOf pads i) in
     simp or-assoc
-    (or-iff (eqb (nameOf pads i) 0) (not (eqb (reservedOf pads i) 0) || (ltb (xOf pads i) 1 || (ltb 1000000 (xOf pads i) || (outside (yOf pads i) || last)))) (eqb-iff (nameOf pads i) 0)
-    (or-iff (not (eqb (reservedOf pads i) 0)) (ltb (xOf pads i) 1 || (ltb 1000000 (xOf pads i) || (outside (yOf pads i) || last)))
-    (not-iff (eqb (reservedOf pads i) 0) (eqb-iff (reservedOf pads i) 0))
+    (or-iff (eqb (nameOf pads i) 0) (ltb 2000 (halfOf pads i) || (ltb (xOf pads i) 1 || (ltb 1000000 (xOf pads i) || (outside (yOf pads i) || last)))) (eqb-iff (nameOf pads i) 0)
+    (or-iff (ltb 2000 (halfOf pads i)) (ltb (xOf pads i) 1 || (ltb 1000000 (xOf pads i) || (outside (yOf pads i) || last))) (ltb-iff 2000 (halfOf pads i))
     (or-iff (ltb (xOf pads i) 1) (ltb 1000000 (xOf pads i) || (outside (yOf pads i) || last)) (ltb-iff (xOf pads i) 1)
     (or-iff (ltb 1000000 (xOf pads i)) (outside (yOf pads i) || last) (ltb-iff 1000000 (xOf pads i))
     (or-iff (outside (yOf pads i)) last (outside-iff (yOf pads i)) (bad-last-iff form (lastOf pads i)))))))
@@ -187,7 +214,7 @@ pub data Test : Type 0 where
 abbrev pub atWhole : ℕ → Bool → Test
 atWhole r t = atEach r 1 (λ i. t)
 
--- The tests of each call, as Refusals.antt has its trials; that of the weights or of the table is given to First's and Measure's.
+-- The tests of each call, as Refusals.antt has its trials; that of the weights or of the table is given. First's 15 is told by the search.
 abbrev pub sizeTests : Form → List ℕ → List ℕ → List Test
 sizeTests Records pads ports = atWhole 1 (badSize 16 1024 pads) ∷ []
 sizeTests Slots pads ports = atWhole 1 (badSize 16 1024 pads) ∷ atWhole 1 (badSize 4 512 ports) ∷ []
@@ -215,7 +242,7 @@ unfoldable pub jobTests : Form → List ℕ → List ℕ → List Test
 jobTests form pads ports = fieldTests form pads ports ++ placeTests form pads ports
 
 unfoldable pub layoutTests : Board → List ℕ → List Test
-layoutTests b list = atEach 8 (b .pads) (badEntry (b .ports) list) ∷ atPairs 9 (b .pads) (meetAt b (held list)) ∷ []
+layoutTests b list = atEach 8 (b .pads) (badEntry (b .ports) list) ∷ atPairs 9 (b .pads) (recordsTouch b (held list)) ∷ []
 
 abbrev pub badnessTest : Board → Badness → Test
 badnessTest b (byWeights lw bw) = atWhole 2 (badWeight lw bw)
@@ -225,12 +252,12 @@ abbrev pub roomTests : Form → List ℕ → List ℕ → Work → ℕ → List 
 roomTests form pads ports work room =
     atWhole 3 (ltb room (count pads)) ∷ enoughTests form pads ports ++ workTests (count pads) (portCount form ports) work
 
-unfoldable pub firstTests : Form → List ℕ → List ℕ → Test → Work → ℕ → List Test
-firstTests form pads ports given work room =
+unfoldable pub soundTests : Form → List ℕ → List ℕ → Test → Work → ℕ → List Test
+soundTests form pads ports given work room =
     sizeTests form pads ports ++ (given ∷ roomTests form pads ports work room ++ jobTests form pads ports)
 
 unfoldable pub measureTests : Form → List ℕ → List ℕ → Test → Work → List ℕ → List Test
-measureTests form pads ports given work list = firstTests form pads ports given work (length list) ++ layoutTests (boardFrom form pads ports) list
+measureTests form pads ports given work list = soundTests form pads ports given work (length list) ++ layoutTests (boardFrom form pads ports) list
 
 unfoldable pub drawTests : List ℕ → ℕ → ℕ → ℕ → List Test
 drawTests bytes i q room =

@@ -22,7 +22,10 @@ between-iff m a b =
     (and-iff (leZ a m) (leZ m b) (le-iff a m) (le-iff m b))
     (and-iff (leZ b m) (leZ m a) (le-iff b m) (le-iff m a))
 
--- An end lies between.
+-- Both ends lie between.
+pub between-start : (a b : ℤ) → Between a a b
+between-start a b = ⊎-elim (λ h. inl (≤ℤ-refl a, h)) (λ h. inr (h, ≤ℤ-refl a)) (le-or-le a b)
+
 pub between-end : (a b : ℤ) → Between b a b
 between-end a b = ⊎-elim (λ h. inl (h, ≤ℤ-refl b)) (λ h. inr (≤ℤ-refl b, h)) (le-or-le a b)
 

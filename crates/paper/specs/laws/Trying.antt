@@ -12,12 +12,12 @@ use native.Mathlib.Omega.{arith}
 use lib.Dec.{T, leb, ltb, eqb}
 use lib.ListN.{length}
 use Rattle.numbers.specs.Tests.{either, dec-iff, and-iff, or-iff, not-iff, leb-iff, ltb-iff, eqb-iff}
-use Rattle.paper.specs.Layouts.{Board, held, leader, Touching, Untouching, Differ, Same}
+use Rattle.paper.specs.Layouts.{Board, held, Touching, Untouching, Differ, Same}
 use Rattle.paper.specs.Problem.{Problem, Best, Before, FirstBest, NextBest, LastBest, labeling}
 use Rattle.paper.specs.Refusals.{Earlier}
-use Rattle.paper.specs.laws.Tests.{somewhere, withEarlier, somewhere-iff, with-earlier-iff, meetAt}
+use Rattle.paper.specs.laws.Tests.{somewhere, withEarlier, somewhere-iff, with-earlier-iff, recordsTouch}
 use Rattle.paper.specs.laws.Boards.{untouching-of, untouching-same, total-same}
-use Rattle.paper.specs.laws.Touching.{meet-iff}
+use Rattle.paper.specs.laws.Squares.{records-iff}
 use Rattle.paper.specs.laws.Order.{Steady, before-same, best-same}
 
 -- ---- all assignments
@@ -101,7 +101,7 @@ Inside b f = (i : ℕ) → i < b .pads → f i < b .ports
 
 -- THEOREM. Where only ports of the board pass, some assignment passes exactly if some function at all has the property; so one is found, or none has it.
 module _ (b : Board) {t : (ℕ → ℕ) → Bool} {P : (ℕ → ℕ) → Type 0} (tells : Tells b t P) (only : (f : ℕ → ℕ) → P f → Inside b f) where
-  some-word-iff : T (someWord b t) ↔ ((f : ℕ → ℕ) × P f)
+  pub some-word-iff : T (someWord b t) ↔ ((f : ℕ → ℕ) × P f)
   unfolding someWord
   some-word-iff = (there, back)
     where
@@ -143,9 +143,9 @@ module _ (b : Board) {less : (ℕ → ℕ) → (ℕ → ℕ) → Bool} {Less : (
 
 -- ---- untouching, and before
 
--- Pad i's port is none of the board's, or its leader touches that of an earlier pad. (On one port two leaders touch: no pad's port is another's.)
+-- Pad i's port is none of the board's, or record i touches an earlier one. (On one port two leaders touch: no pad's port is another's.)
 unfoldable pub misled : Board → (ℕ → ℕ) → ℕ → Bool
-misled b f i = leb (b .ports) (f i) || withEarlier (meetAt b f) i
+misled b f i = leb (b .ports) (f i) || withEarlier (recordsTouch b f) i
 
 -- No pad is misled.
 unfoldable pub untouchingTest : Board → (ℕ → ℕ) → Bool
@@ -162,8 +162,8 @@ module _ (b : Board) (differ : Differ b) where
 
       parts : T (not (somewhere (misled b f) (b .pads))) ↔ (¬ ((i : ℕ) × (i < b .pads) × Misled i))
       parts = not-iff (somewhere (misled b f) (b .pads)) (somewhere-iff (misled b f) Misled (b .pads) (λ i l.
-          or-iff (leb (b .ports) (f i)) (withEarlier (meetAt b f) i) (leb-iff (b .ports) (f i))
-          (with-earlier-iff (meetAt b f) (Touching b f) i (λ j k. meet-iff (leader b i (f i)) (leader b j (f j)) (differ i j k l)))))
+          or-iff (leb (b .ports) (f i)) (withEarlier (recordsTouch b f) i) (leb-iff (b .ports) (f i))
+          (with-earlier-iff (recordsTouch b f) (Touching b f) i (λ j k. records-iff b f i j (differ i j k l)))))
 
       there : ¬ ((i : ℕ) × (i < b .pads) × Misled i) → Untouching b f
       there n =

@@ -5,7 +5,7 @@ use mathlib.Core.List.{[], _∷_}
 use lib.IntN.{pos, negℤ}
 use lib.Ieee.{round}
 use Rattle.paper.specs.declared.Form.the-variants.{Records, Slots}
-use Rattle.paper.specs.Job.{records, count, twos, nameOf, reservedOf, xOf, yOf, lastOf, portCount, portOf}
+use Rattle.paper.specs.Job.{records, count, twos, nameOf, halfOf, xOf, yOf, lastOf, portCount, portOf}
 use Rattle.paper.specs.Layouts.{boardOf, leader}
 use Rattle.paper.specs.Promises.{coordinates}
 use Rattle.paper.specs.Sheets.{sample, J5}
@@ -13,10 +13,10 @@ use Rattle.paper.specs.laws.Quarter.{quarter}
 use Rattle.paper.specs.laws.Drawn.{canvas, leaderDrawn}
 
 -- How many records, the fields of the second, the last four bytes as the last of eight ports, and the last number that is not negative.
-pub fields-read : (count sample ≡ 2) × (nameOf sample 1 ≡ 513) × (reservedOf sample 1 ≡ 1027) × (xOf sample 1 ≡ 134678021)
+pub fields-read : (count sample ≡ 2) × (nameOf sample 1 ≡ 513) × (halfOf sample 1 ≡ 1027) × (xOf sample 1 ≡ 134678021)
     × (yOf sample 1 ≡ negℤ (pos 1)) × (lastOf sample 1 ≡ 2147483648) × (portOf Records sample 1 ≡ negℤ (pos 2147483648))
     × (portCount Slots sample ≡ 8) × (portOf Slots sample 7 ≡ negℤ (pos 2147483648)) × (twos 2147483647 ≡ pos 2147483647)
-unfolding nameOf reservedOf xOf yOf lastOf portOf twos
+unfolding nameOf halfOf xOf yOf lastOf portOf twos
 fields-read = (refl, refl, refl, refl, refl, refl, refl, refl, refl, refl)
 
 -- J5, record 2 to port 0, and record 0 to port 1: quarters of x and of -y, x before y.

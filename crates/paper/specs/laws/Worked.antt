@@ -1,4 +1,4 @@
--- THE WORKED SHEETS, P1 to P12 and those for 12, 9 and tables, by one theorem over one list, and Page's by another: a test that the checker computes for each sheet,
+-- THE WORKED SHEETS, P1 to P12 and those of 02, by one theorem over one list, and Page's by another: a test that the checker computes for each sheet,
 -- and a lemma that turns the test into the call's promise.
 --     worked, worked-pages
 use mathlib.Core.Path.{_≡_, refl, sym, ap, _∙_}
@@ -16,19 +16,19 @@ use Rattle.paper.specs.declared.Paged.{Paged}
 use Rattle.paper.specs.declared.Paged.the-variants.{Wrote, Refused as NotPaged}
 use Rattle.paper.specs.declared.Work.{Work}
 use Rattle.paper.specs.declared.Work.the-variants.{Unlent}
-use Rattle.paper.specs.Job.{Job, twos, nameOf, reservedOf, xOf, yOf, lastOf, portOf}
-use Rattle.paper.specs.Layouts.{Board, boardOf, held, Badness, weighted, costOf, sum, Differ}
+use Rattle.paper.specs.Job.{Job, records, twos, nameOf, halfOf, xOf, yOf, lastOf, portOf}
+use Rattle.paper.specs.Layouts.{Board, boardOf, held, Badness, byWeights, weighted, costOf, sum, Differ}
 use Rattle.paper.specs.Problem.{Problem, labelingOf}
 use Rattle.paper.specs.Refusals.{firstTrials, measureTrials, nextTrials}
 use Rattle.paper.specs.Promises.{Kept, inTurn, Following, FirstAnswers, NextAnswers, PageAnswers, MeasureAnswers}
 use Rattle.paper.specs.laws.Totals.{totalOf}
-use Rattle.paper.specs.Sheets.{sheets, Each, Call, First, Next, Measure, Sheet, AllowedBy, Allowed, pages, PageSheet, PageAllowed}
-use Rattle.paper.specs.laws.Tests.{somewhere, outside, between, leadersMeet, jobTests, layoutTests, firstTests, measureTests}
+use Rattle.paper.specs.Sheets.{copper, sheet, sheets, Each, Call, First, Next, Measure, Sheet, AllowedBy, Allowed, pages, PageSheet, PageAllowed}
+use Rattle.paper.specs.laws.Tests.{somewhere, outside, between, leadersMeet, reaches, beside, underTop, overBottom, meets, covers, jobTests, layoutTests, soundTests, measureTests}
 use Rattle.paper.specs.Leaders.{lengthOf, bendsOf}
 use Rattle.paper.specs.laws.Order.{below-suc}
-use Rattle.paper.specs.laws.Decided.{passes, refuses, tests-pass, tests-refuse, firstTestsOf, measureTestsOf, first-tests, measure-tests}
-use Rattle.paper.specs.laws.Accepted.{first-accepted, next-differ}
-use Rattle.paper.specs.laws.Regular.{nextTests, next-tests}
+use Rattle.paper.specs.laws.Decided.{passes, refuses, tests-pass, tests-refuse, measureTestsOf, measure-tests}
+use Rattle.paper.specs.laws.Accepted.{first-sound, sound-accepted, next-differ}
+use Rattle.paper.specs.laws.Regular.{firstTests, first-tests, nextTests, next-tests}
 use Rattle.paper.specs.laws.Pages.{Follow}
 use Rattle.paper.specs.laws.Trying.{bestTest, firstTest, nextTest, lastTest, first-iff, next-iff, last-iff, Searchable, labeling-searchable}
 use Rattle.paper.specs.laws.Trying.{heads, words, any, someWord, leastTest, misled, untouchingTest, differRight, decidedAt, beforeTest, cheaper, laterTest}
@@ -47,10 +47,10 @@ sameRest n l m = eqb (length m) (length l) && sameList (drop n m) (drop n l)
 
 abbrev firstHolds : Job → Badness → Work → List ℕ → Answer → List ℕ → Bool
 firstHolds job bad work l (Total t) m =
-    passes (firstTestsOf job bad work (length l))
+    passes (firstTests job bad work (length l))
     && (firstTest (labelingOf job bad) (untouchingTest (boardOf job)) (held m) && (eqb t (totalOf (boardOf job) bad m) && sameRest (boardOf job .pads) l m))
 firstHolds job bad work l End m = false
-firstHolds job bad work l (Refused r) m = refuses (firstTestsOf job bad work (length l)) r && sameList m l
+firstHolds job bad work l (Refused r) m = refuses (firstTests job bad work (length l)) r && sameList m l
 
 abbrev nextHolds : Job → Badness → Work → List ℕ → Answer → List ℕ → Bool
 nextHolds job bad work l (Total t) m =
@@ -131,16 +131,16 @@ module _ (job : Job) (bad : Badness) (work : Work) (l : List ℕ) where
       let c = eqb t (totalOf (boardOf job) bad m) in
       let d = sameRest (boardOf job .pads) l m in
       let e = firstTest p counts (held m) in
-      let u = both (passes (firstTestsOf job bad work (length l))) (e && (c && d)) .0 h in
+      let u = both (passes (firstTests job bad work (length l))) (e && (c && d)) .0 h in
       let w = both e (c && d) .0 (u .1) in
       let x = both c d .0 (w .1) in
-      let q = tests-pass (firstTestsOf job bad work (length l)) (firstTrials job bad work (length l)) (first-tests job bad work (length l)) (u .0) in
-      let differ = first-accepted job bad work (length l) q .0 .proper .differ in
+      let q = tests-pass (firstTests job bad work (length l)) (firstTrials job bad work (length l)) (first-tests job bad work (length l)) (u .0) in
+      let differ = sound-accepted job bad work (length l) (first-sound job bad work (length l) q) .0 .proper .differ in
       (q, first-iff p (searchable differ) (held m) .0 (w .0), eqb→eq t (totalOf (boardOf job) bad m) (x .0), same-rest (boardOf job .pads) l m (x .1))
   first-holds End m h = absurd h
   first-holds (Refused r) m h =
-      let u = both (refuses (firstTestsOf job bad work (length l)) r) (sameList m l) .0 h in
-      let q = tests-refuse (firstTestsOf job bad work (length l)) (firstTrials job bad work (length l)) r (first-tests job bad work (length l)) (u .0) in
+      let u = both (refuses (firstTests job bad work (length l)) r) (sameList m l) .0 h in
+      let q = tests-refuse (firstTests job bad work (length l)) (firstTrials job bad work (length l)) r (first-tests job bad work (length l)) (u .0) in
       (q, same-list m l (u .1))
 
   next-holds : (a : Answer) (m : List ℕ) → T (nextHolds job bad work l a m) → NextAnswers job bad work l a m
@@ -217,12 +217,15 @@ all-allowed : {S : Type 0} (test : S → Bool) (P : S → Type 0) → ((s : S) �
 all-allowed test P says [] h = tt
 all-allowed test P says (s ∷ ss) h = let u = both (test s) (allHold test ss) .0 h in (says s (u .0), all-allowed test P says ss (u .1))
 
--- Each passes its test.
-all-hold : T (allHold holds sheets) × T (allHold pageSheetHolds pages)
+-- Each passes its test; and so does the example of squares that cost length.
+all-hold : T (allHold holds sheets) × T (allHold pageSheetHolds pages) × T (holds (sheet First (copper 4) 1 0 (9 ∷ 9 ∷ []) (Total 84) (1 ∷ 0 ∷ [])))
 unfolding heads words any someWord leastTest misled untouchingTest differRight decidedAt beforeTest cheaper bestTest firstTest laterTest nextTest lastTest
-    somewhere outside between leadersMeet jobTests layoutTests firstTests measureTests nextTests
-    twos nameOf reservedOf xOf yOf lastOf portOf lengthOf bendsOf sum weighted
-all-hold = (tt, tt)
+    somewhere outside between leadersMeet reaches beside underTop overBottom meets covers jobTests layoutTests soundTests firstTests measureTests nextTests
+    twos nameOf halfOf xOf yOf lastOf portOf lengthOf bendsOf sum weighted
+all-hold = (tt, tt, tt)
+
+pub copper-first : FirstAnswers (records (copper 4)) (byWeights 1 0) Unlent (9 ∷ 9 ∷ []) (Total 84) (1 ∷ 0 ∷ [])
+copper-first = first-holds (records (copper 4)) (byWeights 1 0) Unlent (9 ∷ 9 ∷ []) (Total 84) (1 ∷ 0 ∷ []) (all-hold .2)
 
 -- THEOREM. Every sheet of the list is a reply that its call's promise allows. (It allows no other: laws/Determined.)
 pub worked : Each Allowed sheets

@@ -3,7 +3,7 @@ use mathlib.Core.Path.{refl}
 use Prim.Native.Nat.{_-_, _≤_}
 use native.Mathlib.Omega.{arith}
 use Rattle.slots.specs.Slots.{Written}
-use Rattle.slots.proofs.Marks.{run-none, run-more, run-all}
+use Rattle.slots.proofs.Runs.{run-none, run-more, run-all}
 use Rattle.slots.proofs.clear.Statement.{statement}
 use Rattle.slots.proofs.clear.Tie as tie
 

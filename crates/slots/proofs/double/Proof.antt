@@ -2,7 +2,7 @@
 use Prim.Native.Nat.{_+_, _-_, _≤_}
 use native.Mathlib.Omega.{arith}
 use Rattle.slots.specs.Slots.{Written, follows}
-use Rattle.slots.proofs.Marks.{run-none, run-more, run-all}
+use Rattle.slots.proofs.Runs.{run-none, run-more, run-all}
 use Rattle.slots.proofs.double.Statement.{statement}
 use Rattle.slots.proofs.double.Tie as tie
 

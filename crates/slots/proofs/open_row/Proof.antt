@@ -4,7 +4,7 @@ use Prim.Native.Nat.{ℕ, _+_, _-_, _≤_}
 use lib.ListN.{getD}
 use native.Mathlib.Omega.{arith}
 use Rattle.slots.specs.Slots.{openedOf, openedFrom, Written}
-use Rattle.slots.proofs.Marks.{run-none, run-more, run-all}
+use Rattle.slots.proofs.Runs.{run-none, run-more, run-all}
 use Rattle.slots.proofs.open_row.Statement.{statement}
 use Rattle.slots.proofs.open_row.Tie as tie
 

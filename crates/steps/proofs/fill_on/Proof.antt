@@ -15,29 +15,29 @@ use Rattle.steps.proofs.fill_on.Statement.{statement}
 use Rattle.steps.proofs.fill_on.Tie as tie
 
 abbrev Inv-loop : tie.InvT-loop
-Inv-loop heads totals order cost lo hi p out₀ known₀ from at₀ m₀ out known at m =
-    Filling order (source heads totals cost p) lo hi out₀ from out m × (length at ≡ 128) × Entered order out m at
-    × Memory order (source heads totals cost p) lo hi out m known
+Inv-loop heads totals order cost bars lo hi p out₀ known₀ from at₀ m₀ out known at m =
+    Filling order (source heads totals cost bars p) lo hi out₀ from out m × (length at ≡ 128) × Entered order out m at
+    × Memory order (source heads totals cost bars p) lo hi out m known
 
 abbrev μ-loop : tie.MeasureT-loop
-μ-loop heads totals order cost lo hi p out₀ known₀ from at₀ m₀ out known at m = length order - m
+μ-loop heads totals order cost bars lo hi p out₀ known₀ from at₀ m₀ out known at m = length order - m
 
 slice-aggregate-place : tie.Need-slice-aggregate-place Inv-loop μ-loop
 slice-aggregate-place c = refl
 
 place-requires : tie.Need-place-requires Inv-loop μ-loop
-place-requires c κs = let s = c .before .before .before .before .before .before .before .before .before .before in
+place-requires c κs = let s = c .before .before .before .before .before .before .before .before .before .before .before in
     placeable (s .pre .0) (s .args .from) (s .pre .1 .0) (s .pre .1 .1 .0)
 
 loop-holds : tie.Need-loop-holds Inv-loop μ-loop
-loop-holds c = let s = c .before .before .before .before .before .before .before .before .before .before .before .before in let p = c .before .place in
+loop-holds c = let s = c .before .before .before .before .before .before .before .before .before .before .before .before .before in let p = c .before .place in
     (filling-none _ _ _ _ _ _ (s .pre .1 .0) (s .pre .1 .1 .0), p .kept .1 .1 .1 .0, p .ensures, s .pre .1 .1 .1)
 
 shared-slice-read-j : tie.Need-shared-slice-read-j Inv-loop μ-loop
 shared-slice-read-j c = omega arith
 
 cast-j : tie.Need-cast-j Inv-loop μ-loop
-cast-j c = let s = c .before .before .before .before .before .before .before .before .before .before .before .before .before .before .before in
+cast-j c = let s = c .before .before .before .before .before .before .before .before .before .before .before .before .before .before .before .before in
     omega (arith, s .pre .0 .proper .pads .listed (c .before .before .loop .m) (c .before .loop-test .taken), s .pre .0 .proper .pads .few)
 
 slice-aggregate-lowest : tie.Need-slice-aggregate-lowest Inv-loop μ-loop
@@ -45,7 +45,7 @@ slice-aggregate-lowest c = sym (c .before .before .before .before .loop .inv .1)
 
 lowest-requires : tie.Need-lowest-requires Inv-loop μ-loop
 lowest-requires c κs = let s = c .before .before .before .before .before .before .before .before .before .before .before .before .before .before .before .before
-    .before .before in
+    .before .before .before in
     let i = c .before .before .before .before .before .loop in (
       working-with _ (s .pre .0) (i .inv .0 .kept .long),
       (
@@ -59,7 +59,7 @@ cast-out c = search needs
 
 mul-out : tie.Need-mul-out Inv-loop μ-loop
 mul-out c = let s = c .before .before .before .before .before .before .before .before .before .before .before .before .before .before .before .before .before .before
-    .before .before .before in
+    .before .before .before .before in
     let p = s .pre .0 .proper .pads in
     omega (
       arith,
@@ -70,25 +70,25 @@ mul-out c = let s = c .before .before .before .before .before .before .before .b
 
 slice-write-out : tie.Need-slice-write-out Inv-loop μ-loop
 slice-write-out c = let s = c .before .before .before .before .before .before .before .before .before .before .before .before .before .before .before .before .before
-    .before .before .before .before in
+    .before .before .before .before .before in
     let i = c .before .before .before .before .before .before .before .before .loop in
     places (working-with (i .out) (s .pre .0) (i .inv .0 .kept .long)) (i .m) (c .before .before .before .before .before .before .before .loop-test .taken)
 
 cast-at : tie.Need-cast-at Inv-loop μ-loop
 cast-at c = let s = c .before .before .before .before .before .before .before .before .before .before .before .before .before .before .before .before .before .before
-    .before .before .before in
+    .before .before .before .before in
     omega (arith, c .before .before .before .before .before .before .before .loop-test .taken, s .pre .0 .proper .pads .few)
 
 array-write-at : tie.Need-array-write-at Inv-loop μ-loop
 array-write-at c = let s = c .before .before .before .before .before .before .before .before .before .before .before .before .before .before .before .before .before
-    .before .before .before .before in
+    .before .before .before .before .before in
     let i = c .before .before .before .before .before .before .before .before .loop in
     let t = c .before .before .before .before .before .before .before .loop-test .taken in let q = c .before .before .lowest in
     omega (arith, chosen-some (i .out) (s .pre .0 .proper) (i .m) t (i .inv .0 .begun) (q .result) (q .ensures .0), i .inv .1)
 
 add-m : tie.Need-add-m Inv-loop μ-loop
 add-m c = let s = c .before .before .before .before .before .before .before .before .before .before .before .before .before .before .before .before .before .before
-    .before .before .before in
+    .before .before .before .before in
     omega (arith, c .before .before .before .before .before .before .before .loop-test .taken, s .pre .0 .proper .pads .few)
 
 loop-less : tie.Need-loop-less Inv-loop μ-loop
@@ -97,7 +97,7 @@ loop-less c = omega (arith, c .before .before .before .before .before .before .b
 loop-again : tie.Need-loop-again Inv-loop μ-loop
 loop-again c =
     let s = c .before .before .before .before .before .before .before .before .before .before .before .before .before .before .before .before .before .before .before
-    .before .before in
+    .before .before .before in
     let i = c .before .before .before .before .before .before .before .before .loop in
     let t = c .before .before .before .before .before .before .before .loop-test .taken in let q = c .before .before .lowest in let P = s .pre .0 .proper in (
       filling-more (s .args .from) (i .m) (q .result) P (s .pre .0 .room) (i .inv .0) t (q .ensures .0),
@@ -111,11 +111,11 @@ same-length : tie.Need-same-length Inv-loop μ-loop
 same-length c = c .before .loop .inv .0 .kept .long
 
 same-length-2 : tie.Need-same-length-2 Inv-loop μ-loop
-same-length-2 c = let s = c .before .before .before .before .before .before .before .before .before .before .before .before .before .before in
+same-length-2 c = let s = c .before .before .before .before .before .before .before .before .before .before .before .before .before .before .before in
     c .before .loop .inv .3 .facts .long ∙ sym (s .pre .1 .1 .1 .facts .long)
 
 returns : tie.Need-returns Inv-loop μ-loop
-returns c = let s = c .before .before .before .before .before .before .before .before .before .before .before .before .before .before in let i = c .before .loop in
+returns c = let s = c .before .before .before .before .before .before .before .before .before .before .before .before .before .before .before in let i = c .before .loop in
     (filling-done (s .args .from) (i .m) (i .inv .0) (c .loop-test .left), memory-part (i .m) (length (s .args .order .now)) (c .loop-test .left) (i .inv .3))
 
 pub fill-on-spec : {M : Type 1} → statement M

@@ -15,22 +15,22 @@ use Rattle.steps.proofs.step.Statement.{statement}
 use Rattle.steps.proofs.step.Tie as tie
 
 abbrev Inv-loop : tie.InvT-loop
-Inv-loop heads totals order cost lo hi p out₀ known₀ at m₀ out known m =
-    Looking order (source heads totals cost p) lo hi out₀ out m × Placed order out (length order) at
-    × Memory order (source heads totals cost p) lo hi out (length order) known
+Inv-loop heads totals order cost bars lo hi p out₀ known₀ at m₀ out known m =
+    Looking order (source heads totals cost bars p) lo hi out₀ out m × Placed order out (length order) at
+    × Memory order (source heads totals cost bars p) lo hi out (length order) known
 
 abbrev μ-loop : tie.MeasureT-loop
-μ-loop heads totals order cost lo hi p out₀ known₀ at m₀ out known m = m
+μ-loop heads totals order cost bars lo hi p out₀ known₀ at m₀ out known m = m
 
 slice-aggregate-place : tie.Need-slice-aggregate-place Inv-loop μ-loop
 slice-aggregate-place c = search needs
 
 place-requires : tie.Need-place-requires Inv-loop μ-loop
-place-requires c κs = let s = c .before .before .before .before .before .before .before .before .before .before in
+place-requires c κs = let s = c .before .before .before .before .before .before .before .before .before .before .before in
     placeable-best (s .args .out .now) (s .pre .0) (s .pre .1 .0)
 
 loop-holds : tie.Need-loop-holds Inv-loop μ-loop
-loop-holds c = let s = c .before .before .before .before .before .before .before .before .before .before .before .before in
+loop-holds c = let s = c .before .before .before .before .before .before .before .before .before .before .before .before .before in
     (looking-none (s .pre .0) (s .pre .1 .0), c .before .place .ensures .placed, s .pre .1 .1)
 
 sub-m : tie.Need-sub-m Inv-loop μ-loop
@@ -95,7 +95,7 @@ fill-on-requires : tie.Need-fill-on-requires Inv-loop μ-loop
 fill-on-requires c κs =
     let l = c .before .before .before .before .before .before .before .before .before .before .before .before .before .loop in
     let x = c .before .before .before .before .before .before .before .before .before .before .before .before .before .before .before .before .before .before .before
-    .before .before .before .before .before .before .before .args in
+    .before .before .before .before .before .before .before .before .args in
     let t : 0 < l .m = omega (arith, c .before .before .before .before .before .before .before .before .before .before .before .before .loop-test .taken) in
     let q = c .before .before .before .before .before .above in
     let P = l .inv .0 .working .proper in let h = looking-inside (l .m) (l .inv .0) t in (
@@ -126,7 +126,7 @@ same-length c =
 
 same-length-2 : tie.Need-same-length-2 Inv-loop μ-loop
 same-length-2 c = let s = c .before .before .before .before .before .before .before .before .before .before .before .before .before .before .before .before .before
-    .before .before .before .before .before .before .before .before .before .before .before .before .before .before in
+    .before .before .before .before .before .before .before .before .before .before .before .before .before .before .before in
     c .before .before .before .before .fill-on .ensures .1 .facts .long ∙ sym (s .pre .1 .1 .facts .long)
 
 returns : tie.Need-returns Inv-loop μ-loop
@@ -163,7 +163,7 @@ same-length-3 : tie.Need-same-length-3 Inv-loop μ-loop
 same-length-3 c = ap length (c .before .loop .inv .0 .same)
 
 same-length-4 : tie.Need-same-length-4 Inv-loop μ-loop
-same-length-4 c = let s = c .before .before .before .before .before .before .before .before .before .before .before .before .before .before in
+same-length-4 c = let s = c .before .before .before .before .before .before .before .before .before .before .before .before .before .before .before in
     c .before .loop .inv .2 .facts .long ∙ sym (s .pre .1 .1 .facts .long)
 
 returns-2 : tie.Need-returns-2 Inv-loop μ-loop

@@ -17,24 +17,24 @@ abbrev sumFrom : List ℕ → Source → List ℕ → List ℕ → List ℕ → 
 sumFrom order T lo hi w k = costSum (gridOn order T lo hi .cost) (drop k order) (portIn w)
 
 abbrev Inv-loop : tie.InvT-loop
-Inv-loop heads totals order cost lo hi p w s₀ k₀ s k =
-    (k ≤ length order) × (s ≡ sumFrom order (source heads totals cost p) lo hi w k) × (s ≤ (length order - k) * 2 ^ 32)
+Inv-loop heads totals order cost bars lo hi p w s₀ k₀ s k =
+    (k ≤ length order) × (s ≡ sumFrom order (source heads totals cost bars p) lo hi w k) × (s ≤ (length order - k) * 2 ^ 32)
 
 abbrev μ-loop : tie.MeasureT-loop
-μ-loop heads totals order cost lo hi p w s₀ k₀ s k = k
+μ-loop heads totals order cost bars lo hi p w s₀ k₀ s k = k
 
 -- the function's entry, from the loop's head; where it reads; at a turn there is a pad left
 abbrev start : tie.At-loop Inv-loop μ-loop → tie.Start Inv-loop μ-loop
-start c = c .before .before .before .before .before .before .before .before
+start c = c .before .before .before .before .before .before .before .before .before
 
 abbrev read : tie.Start Inv-loop μ-loop → Source
-read s = source (s .args .heads .now) (s .args .totals .now) (s .args .cost .now) (s .args .p)
+read s = source (s .args .heads .now) (s .args .totals .now) (s .args .cost .now) (s .args .bars .now) (s .args .p)
 
 place : (c : tie.In-loop Inv-loop μ-loop) → c .before .loop .k - 1 < length (start (c .before) .args .order .now)
 place c = omega (arith, c .loop-test .taken, c .before .loop .inv .0)
 
 loop-holds : tie.Need-loop-holds Inv-loop μ-loop
-loop-holds c = let s = c .before .before .before .before .before .before .before .args in
+loop-holds c = let s = c .before .before .before .before .before .before .before .before .args in
     (omega arith, sum-none _ (s .order .now) (portIn (s .w .now)), omega arith)
 
 sub-k : tie.Need-sub-k Inv-loop μ-loop
@@ -60,11 +60,13 @@ figure-requires : tie.Need-figure-requires Inv-loop μ-loop
 figure-requires c κs =
     let i = c .before .before .before in
     let s = start (i .before) in
-    let k = i .before .loop .k - 1 in (
+    let k = i .before .loop .k - 1 in
+    let port = s .pre .1 .inside (getD (s .args .order .now) k 0) (place-mem (s .args .order .now) k (place i)) in (
       s .pre .0 .table,
       s .pre .0 .proper .pads .few,
       s .pre .0 .proper .pads .listed k (place i),
-      omega (arith, s .pre .1 .inside (getD (s .args .order .now) k 0) (place-mem (s .args .order .now) k (place i)) .high, c .wide .ensures .0),
+      omega (arith, port .high, c .wide .ensures .0),
+      rw (c .wide .ensures .0) (port .allowed),
     )
 
 add-sum : tie.Need-add-sum Inv-loop μ-loop

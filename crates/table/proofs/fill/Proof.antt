@@ -13,18 +13,18 @@ use Rattle.table.proofs.fill.Statement.{statement}
 use Rattle.table.proofs.fill.Tie as tie
 
 abbrev Inv-loop : tie.InvT-loop
-Inv-loop heads₀ totals₀ order cost lo hi at₀ seen₀ all₀ lows₀ sums₀ a₀ heads totals at seen all lows sums a = (a ≤ length order + 1)
+Inv-loop heads₀ totals₀ order cost bars lo hi at₀ seen₀ all₀ lows₀ sums₀ a₀ heads totals at seen all lows sums a = (a ≤ length order + 1)
     × (length heads ≡ 2145) × (length totals ≡ 2145) × Rooms at seen all × Tallies (sidesOf lo hi) order at seen all a
-    × Rows (sidesOf lo hi) (figures cost (length order)) order heads totals a × (length lows ≡ 65) × (length sums ≡ 65)
+    × Rows (sidesOf lo hi) (figures cost bars (length order)) order heads totals a × (length lows ≡ 65) × (length sums ≡ 65)
 
 abbrev μ-loop : tie.MeasureT-loop
-μ-loop heads₀ totals₀ order cost lo hi at₀ seen₀ all₀ lows₀ sums₀ a₀ heads totals at seen all lows sums a = a
+μ-loop heads₀ totals₀ order cost bars lo hi at₀ seen₀ all₀ lows₀ sums₀ a₀ heads totals at seen all lows sums a = a
 
 add-a : tie.Need-add-a Inv-loop μ-loop
 add-a c = omega arith
 
 loop-holds : tie.Need-loop-holds Inv-loop μ-loop
-loop-holds c = let s = c .before .before .before .before .before .before in let x = s .args in let p = s .pre in (
+loop-holds c = let s = c .before .before .before .before .before .before .before in let x = s .args in let p = s .pre in (
   omega arith,
   p .1 .0,
   p .1 .1,
@@ -49,7 +49,7 @@ slice-aggregate-enter-3 : tie.Need-slice-aggregate-enter-3 Inv-loop μ-loop
 slice-aggregate-enter-3 c = sym (c .before .before .before .before .loop .inv .3 .wholes)
 
 enter-requires : tie.Need-enter-requires Inv-loop μ-loop
-enter-requires c κs = let p = c .before .before .before .before .before .before .before .before .before .before .before .pre in
+enter-requires c κs = let p = c .before .before .before .before .before .before .before .before .before .before .before .before .pre in
     let l = c .before .before .before .before .loop in let e : l .a - 1 + 1 ≡ l .a = omega arith in (p .0, (l .inv .3, rw e (l .inv .4)))
 
 slice-aggregate-fill-row : tie.Need-slice-aggregate-fill-row Inv-loop μ-loop
@@ -72,10 +72,10 @@ slice-aggregate-fill-row-5 c = let n = c .before .before .before .before .before
 fill-row-requires : tie.Need-fill-row-requires Inv-loop μ-loop
 fill-row-requires c κs =
     let n = c .before .before .before .before .before .before .before .before .before in let t = n .before .before .before .before .before in let i = t .loop .inv in
-    let p = t .before .before .before .before .before .before .before .pre in let e : t .loop .a - 1 + 1 ≡ t .loop .a = omega arith in (
+    let p = t .before .before .before .before .before .before .before .before .pre in let e : t .loop .a - 1 + 1 ≡ t .loop .a = omega arith in (
       p .0,
       (
-        record { heads = i .1; totals = i .2; square = p .1 .2; cheap = λ k. omega (arith, t .before .before .before .shared-slice-known2 .given k) },
+        record { heads = i .1; totals = i .2; square = p .1 .2; bars = p .1 .3; cheap = λ k. omega (arith, t .before .before .before .before .shared-slice-known2 .given k) },
         (
           record { places = i .3 .places; counts = n .enter .kept .1 .0 ∙ i .3 .counts; wholes = n .enter .kept .1 .1 .0 ∙ i .3 .wholes },
           (
@@ -122,7 +122,7 @@ loop-again c =
     )
 
 corner-requires : tie.Need-corner-requires Inv-loop μ-loop
-corner-requires c κs = omega (arith, c .before .before .before .before .before .before .before .before .pre .0 .few)
+corner-requires c κs = omega (arith, c .before .before .before .before .before .before .before .before .before .pre .0 .few)
 
 mul-result : tie.Need-mul-result Inv-loop μ-loop
 mul-result c = omega (arith, c .corner .ensures .1)
@@ -137,16 +137,17 @@ same-length-2 : tie.Need-same-length-2 Inv-loop μ-loop
 same-length-2 c = omega arith
 
 returns : tie.Need-returns Inv-loop μ-loop
-returns c = let l = c .before .before .before in let i = l .loop .inv in let s = c .before .before .before .before .before .before .before .before .before .before in
+returns c = let l = c .before .before .before in let i = l .loop .inv in let s = c .before .before .before .before .before .before .before .before .before .before .before in
     let x = s .args in let p = s .pre in
-    let t : Table (x .order .now) (x .cost .now) (x .lo .now) (x .hi .now) (l .loop .heads) (l .loop .totals) =
+    let t : Table (x .order .now) (x .cost .now) (x .bars .now) (x .lo .now) (x .hi .now) (l .loop .heads) (l .loop .totals) =
     record {
       sizes = record {
         heads = i .1;
         totals = i .2;
         square = p .1 .2;
+        bars = p .1 .3;
         cheap = λ k. omega
-            (arith, c .before .before .before .before .before .before .shared-slice-known2 .given k);
+            (arith, c .before .before .before .before .before .before .before .shared-slice-known2 .given k);
       };
       rows = λ a′ b′ u. i .5 a′ b′ (omega arith);
     } in

@@ -14,15 +14,15 @@ use Rattle.table.proofs.fill_row.Statement.{statement}
 use Rattle.table.proofs.fill_row.Tie as tie
 
 abbrev Inv-loop : tie.InvT-loop
-Inv-loop lows₀ sums₀ heads₀ totals₀ at₀ seen₀ all order cost lo hi a n b₀ lows sums heads totals at seen b = (a ≤ b) × (b ≤ length order + 1)
+Inv-loop lows₀ sums₀ heads₀ totals₀ at₀ seen₀ all order cost bars lo hi a n b₀ lows sums heads totals at seen b = (a ≤ b) × (b ≤ length order + 1)
     × (length heads ≡ 2145) × (length totals ≡ 2145) × (length at ≡ 65) × (length seen ≡ 65) × Tallies (sidesOf lo hi) order at seen all a
-    × Row (sidesOf lo hi) (figures cost (length order)) order heads totals a b × CopiedRow lows sums heads totals a b
+    × Row (sidesOf lo hi) (figures cost bars (length order)) order heads totals a b × CopiedRow lows sums heads totals a b
 
 abbrev μ-loop : tie.MeasureT-loop
-μ-loop lows₀ sums₀ heads₀ totals₀ at₀ seen₀ all order cost lo hi a n b₀ lows sums heads totals at seen b = length order + 1 - b
+μ-loop lows₀ sums₀ heads₀ totals₀ at₀ seen₀ all order cost bars lo hi a n b₀ lows sums heads totals at seen b = length order + 1 - b
 
 loop-holds : tie.Need-loop-holds Inv-loop μ-loop
-loop-holds c = let p = c .before .before .before .before .before .before .before .before .before .before .before .pre in (
+loop-holds c = let p = c .before .before .before .before .before .before .before .before .before .before .before .before .pre in (
   omega arith,
   omega (arith, p .1 .1 .1 .0 .2),
   p .1 .0 .heads,
@@ -35,13 +35,13 @@ loop-holds c = let p = c .before .before .before .before .before .before .before
 )
 
 head-requires : tie.Need-head-requires Inv-loop μ-loop
-head-requires c κs = let p = c .before .before .before .before .before .before .before .before .before .before .before .before .before .before .before .pre in
+head-requires c κs = let p = c .before .before .before .before .before .before .before .before .before .before .before .before .before .before .before .before .pre in
     let i = c .before .before .before .loop .inv in (p .0, (record { places = i .4; counts = i .5; wholes = p .1 .1 .0 .wholes }, ((i .0, omega arith), i .6)))
 
 strip-total-requires : tie.Need-strip-total-requires Inv-loop μ-loop
 strip-total-requires c κs =
     let s = c .before .before .before .before .before .before .before .before .before .before .before .before in
-    let p = s .before .before .before .before .before .before .before .before .before .before .before .before .pre in let i = s .loop .inv in (
+    let p = s .before .before .before .before .before .before .before .before .before .before .before .before .before .pre in let i = s .loop .inv in (
       p .0,
       (
         sizes-with (p .1 .0) (i .2) (i .3),
@@ -53,7 +53,7 @@ corner-requires : tie.Need-corner-requires Inv-loop μ-loop
 corner-requires c κs = omega (
   arith,
   c .before .before .before .before .before .before .before .before .before .before .before .before .before .before .before .before
-      .before .before .before .before .before .before .before .before .before .pre .0 .few,
+      .before .before .before .before .before .before .before .before .before .before .pre .0 .few,
 )
 
 add-i : tie.Need-add-i Inv-loop μ-loop
@@ -61,7 +61,7 @@ add-i c = omega (
   arith,
   c .corner .ensures .1,
   c .before .before .before .before .before .before .before .before .before .before .before .before .before .before .before
-      .before .before .before .before .before .before .before .before .before .before .before .pre .0 .few,
+      .before .before .before .before .before .before .before .before .before .before .before .before .pre .0 .few,
 )
 
 kept-requires : tie.Need-kept-requires Inv-loop μ-loop
@@ -73,7 +73,7 @@ cast-k c = omega (
   c .kept .ensures .1,
   c .before .before .before .before .before .before .before .before .before .before .before .head .ensures .0 .top,
   c .before .before .before .before .before .before .before .before .before .before .before .before .before .before .before .before .before .before .before .before
-      .before .before .before .before .before .before .before .pre .0 .few,
+      .before .before .before .before .before .before .before .before .pre .0 .few,
 )
 
 slice-write-heads : tie.Need-slice-write-heads Inv-loop μ-loop
@@ -81,7 +81,7 @@ slice-write-heads c = omega (
   arith,
   c .before .corner .ensures .1,
   c .before .before .before .before .before .before .before .before .before .before .before .before
-      .before .before .before .before .before .before .before .before .before .before .before .before .before .before .before .pre .0 .few,
+      .before .before .before .before .before .before .before .before .before .before .before .before .before .before .before .before .pre .0 .few,
 )
 
 mul-totals : tie.Need-mul-totals Inv-loop μ-loop
@@ -89,7 +89,7 @@ mul-totals c = omega (
   arith,
   c .before .corner .ensures .1,
   c .before .before .before .before .before .before .before .before .before .before .before .before .before
-      .before .before .before .before .before .before .before .before .before .before .before .before .before .before .pre .0 .few,
+      .before .before .before .before .before .before .before .before .before .before .before .before .before .before .before .pre .0 .few,
 )
 
 slice-write-totals : tie.Need-slice-write-totals Inv-loop μ-loop
@@ -97,7 +97,7 @@ slice-write-totals c = omega (
   arith,
   c .before .corner .ensures .1,
   c .before .before .before .before .before .before .before .before .before .before .before .before
-      .before .before .before .before .before .before .before .before .before .before .before .before .before .before .before .pre .0 .few,
+      .before .before .before .before .before .before .before .before .before .before .before .before .before .before .before .before .pre .0 .few,
 )
 
 slice-write-lows : tie.Need-slice-write-lows Inv-loop μ-loop
@@ -106,7 +106,7 @@ slice-write-lows c = omega (
   c .before .before .before .before .before .before .before .before .before .before .before .before .before .before .before .loop .inv
       .8 .heads,
   c .before .before .before .before .before .before .before .before .before .before .before .before .before .before .before .before .before .before .before
-      .before .before .before .before .before .before .before .before .pre .0 .few,
+      .before .before .before .before .before .before .before .before .before .pre .0 .few,
 )
 
 mul-sums : tie.Need-mul-sums Inv-loop μ-loop
@@ -115,7 +115,7 @@ mul-sums c = omega (
   c .before .before .before .before .before .before .before .before .before .before .before .before .before .before .before .loop .inv .8
       .totals,
   c .before .before .before .before .before .before .before .before .before .before .before .before .before .before .before .before .before .before .before
-      .before .before .before .before .before .before .before .before .pre .0 .few,
+      .before .before .before .before .before .before .before .before .before .pre .0 .few,
 )
 
 slice-write-sums : tie.Need-slice-write-sums Inv-loop μ-loop
@@ -124,7 +124,7 @@ slice-write-sums c = omega (
   c .before .before .before .before .before .before .before .before .before .before .before .before .before .before .before .loop .inv
       .8 .totals,
   c .before .before .before .before .before .before .before .before .before .before .before .before .before .before .before .before .before .before .before
-      .before .before .before .before .before .before .before .before .pre .0 .few,
+      .before .before .before .before .before .before .before .before .before .pre .0 .few,
 )
 
 add-b : tie.Need-add-b Inv-loop μ-loop
@@ -133,7 +133,7 @@ add-b c = omega (
   c .before .before .before .before .before .before .before .before .before .before .before .before .before .before .loop-test .taken,
   c .before
       .before .before .before .before .before .before .before .before .before .before .before .before .before .before .before .before .before .before .before .before
-      .before .before .before .before .before .before .pre .0 .few,
+      .before .before .before .before .before .before .before .pre .0 .few,
 )
 
 loop-less : tie.Need-loop-less Inv-loop μ-loop
@@ -143,7 +143,7 @@ loop-again : tie.Need-loop-again Inv-loop μ-loop
 loop-again c =
     let f = c .before .before .before .before .before .before .before .before .before .before .before .head in
     let s = c .before .before .before .before .before .before .before .before .before .before .before .before .before .before .before in
-    let p = s .before .before .before .before .before .before .before .before .before .before .before .before .pre in let l = s .loop in let i = l .inv in let t = c
+    let p = s .before .before .before .before .before .before .before .before .before .before .before .before .before .pre in let l = s .loop in let i = l .inv in let t = c
     .before .before .before .before .before .before .before .before .before .before .before .before .before .before .loop-test .taken in (
       omega arith,
       omega arith,
@@ -163,7 +163,7 @@ same-length c = let l = c .before in omega (
   arith,
   l .loop .inv .8 .heads,
   l .before .before .before .before .before .before .before .before .before .before .before
-      .before .pre .1 .1 .1 .0 .0,
+      .before .before .pre .1 .1 .1 .0 .0,
 )
 
 same-length-2 : tie.Need-same-length-2 Inv-loop μ-loop
@@ -171,7 +171,7 @@ same-length-2 c = let l = c .before in omega (
   arith,
   l .loop .inv .8 .totals,
   l .before .before .before .before .before .before .before .before .before .before .before
-      .before .pre .1 .1 .1 .0 .1,
+      .before .before .pre .1 .1 .1 .0 .1,
 )
 
 same-length-3 : tie.Need-same-length-3 Inv-loop μ-loop

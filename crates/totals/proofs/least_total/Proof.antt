@@ -11,53 +11,53 @@ use Rattle.totals.proofs.least_total.Statement.{statement}
 use Rattle.totals.proofs.least_total.Tie as tie
 
 abbrev Inv-loop : tie.InvT-loop
-Inv-loop lows sums heads totals order cost lo hi r a b row past base v₀ q₀ v q = (a ≤ q) × (q ≤ b)
-    × (v ≡ coded (least (choice order cost lo hi r a b) a (q - a)))
+Inv-loop lows sums heads totals order cost bars lo hi r a b row past base v₀ q₀ v q = (a ≤ q) × (q ≤ b)
+    × (v ≡ coded (least (choice order cost bars lo hi r a b) a (q - a)))
 
 abbrev μ-loop : tie.MeasureT-loop
-μ-loop lows sums heads totals order cost lo hi r a b row past base v₀ q₀ v q = b - q
+μ-loop lows sums heads totals order cost bars lo hi r a b row past base v₀ q₀ v q = b - q
 
 shared-slice-read-row : tie.Need-shared-slice-read-row Inv-loop μ-loop
-shared-slice-read-row c = omega (arith, c .before .before .before .before .before .before .before .before .before .pre .1 .1 .0 .listed)
+shared-slice-read-row c = omega (arith, c .before .before .before .before .before .before .before .before .before .before .pre .1 .1 .0 .listed)
 
 cast-row : tie.Need-cast-row Inv-loop μ-loop
-cast-row c = let s = c .before .before .before .before .before .before .before .before .before in let x = s .args in let p = s .pre in
+cast-row c = let s = c .before .before .before .before .before .before .before .before .before .before in let x = s .args in let p = s .pre in
     omega (arith, p .0 .listed (x .r) (p .1 .1 .0 .listed), p .0 .few)
 
 mul-row : tie.Need-mul-row Inv-loop μ-loop
-mul-row c = let s = c .before .before .before .before .before .before .before .before .before in let x = s .args in let p = s .pre in
+mul-row c = let s = c .before .before .before .before .before .before .before .before .before .before in let x = s .args in let p = s .pre in
     omega (arith, row-small _ _ (p .0 .listed (x .r) (p .1 .1 .0 .listed)) (p .0 .few))
 
 add-past : tie.Need-add-past Inv-loop μ-loop
-add-past c = let s = c .before .before .before .before .before .before .before .before .before in let x = s .args in let p = s .pre in omega (
+add-past c = let s = c .before .before .before .before .before .before .before .before .before .before in let x = s .args in let p = s .pre in omega (
   arith,
   p .1 .1 .0 .listed,
   p .0 .few,
 )
 
 cast-past : tie.Need-cast-past Inv-loop μ-loop
-cast-past c = let s = c .before .before .before .before .before .before .before .before .before in let x = s .args in let p = s .pre in omega (
+cast-past c = let s = c .before .before .before .before .before .before .before .before .before .before in let x = s .args in let p = s .pre in omega (
   arith,
   p .1 .1 .0 .listed,
   p .0 .few,
 )
 
 corner-requires : tie.Need-corner-requires Inv-loop μ-loop
-corner-requires c κs = let s = c .before .before .before .before .before .before .before .before .before in let x = s .args in let p = s .pre in
+corner-requires c κs = let s = c .before .before .before .before .before .before .before .before .before .before in let x = s .args in let p = s .pre in
     omega (arith, p .1 .1 .0 .ports, p .0 .few)
 
 add-base : tie.Need-add-base Inv-loop μ-loop
 add-base c = omega (arith, c .corner .ensures .1)
 
 loop-holds : tie.Need-loop-holds Inv-loop μ-loop
-loop-holds c = (omega arith, omega (arith, c .before .before .before .before .before .before .before .before .before .before .pre .1 .1 .0 .rest), coded-least-none _ _)
+loop-holds c = (omega arith, omega (arith, c .before .before .before .before .before .before .before .before .before .before .before .pre .1 .1 .0 .rest), coded-least-none _ _)
 
 add-better : tie.Need-add-better Inv-loop μ-loop
-add-better c = let p = c .before .before .before .before .before .before .before .before .before .before .before .before .pre in
+add-better c = let p = c .before .before .before .before .before .before .before .before .before .before .before .before .before .pre in
     omega (arith, c .before .before .corner .ensures .1, p .1 .1 .0 .ports, p .0 .few)
 
 better-requires : tie.Need-better-requires Inv-loop μ-loop
-better-requires c κs = let s = c .before .before .before .before .before .before .before .before .before .before .before .before in let x = s .args in let p = s .pre in
+better-requires c κs = let s = c .before .before .before .before .before .before .before .before .before .before .before .before .before in let x = s .args in let p = s .pre in
     let l = c .before .loop in port-ready (p .0) (p .1 .0) (x .r) (x .a) (x .b) (p .1 .1 .0) (p .1 .1 .1 .0) (l .q) (l .inv .0) (c .loop-test .taken) _ _
     (in-row (x .a) (x .b) (l .q) (p .1 .1 .1 .1) (l .inv .0) (c .loop-test .taken) (omega (arith, p .1 .1 .0 .ports, p .0 .few)))
     (omega (arith, c .before .before .corner .ensures .0))
@@ -69,7 +69,7 @@ loop-less : tie.Need-loop-less Inv-loop μ-loop
 loop-less c = omega arith
 
 loop-again : tie.Need-loop-again Inv-loop μ-loop
-loop-again c = let s = c .before .before .before .before .before .before .before .before .before .before .before .before .before in let x = s .args in let p = s .pre in
+loop-again c = let s = c .before .before .before .before .before .before .before .before .before .before .before .before .before .before in let x = s .args in let p = s .pre in
     let l = c .before .before .loop in let k = c .before .before .before .corner in (
       omega arith,
       omega arith,
@@ -79,7 +79,7 @@ loop-again c = let s = c .before .before .before .before .before .before .before
     )
 
 returns : tie.Need-returns Inv-loop μ-loop
-returns c = let l = c .before .loop in let e : l .q ≡ c .before .before .before .before .before .before .before .before .before .before .before .before .args .b = omega
+returns c = let l = c .before .loop in let e : l .q ≡ c .before .before .before .before .before .before .before .before .before .before .before .before .before .args .b = omega
     arith in rw e at (l .inv .2)
 
 pub least-total-spec : {M : Type 1} → statement M

@@ -14,46 +14,46 @@ use Rattle.totals.proofs.next_port.Statement.{statement}
 use Rattle.totals.proofs.next_port.Tie as tie
 
 abbrev Inv-loop : tie.InvT-loop
-Inv-loop heads totals order cost lo hi r a b from row past base best below₀ q₀ below q = (from ≤ q) × (q ≤ b) × (below ≡ place a q) × ((i : ℕ) → from ≤ i → i < q
-    → Leads (gridOf order cost lo hi) order r a b i → ⊥)
+Inv-loop heads totals order cost bars lo hi r a b from row past base best below₀ q₀ below q = (from ≤ q) × (q ≤ b) × (below ≡ place a q) × ((i : ℕ) → from ≤ i → i < q
+    → Leads (gridOf order cost bars lo hi) order r a b i → ⊥)
 
 abbrev μ-loop : tie.MeasureT-loop
-μ-loop heads totals order cost lo hi r a b from row past base best below₀ q₀ below q = b - q
+μ-loop heads totals order cost bars lo hi r a b from row past base best below₀ q₀ below q = b - q
 
 shared-slice-read-row : tie.Need-shared-slice-read-row Inv-loop μ-loop
-shared-slice-read-row c = let p = c .before .before .before .before .before .before .before .pre in omega (arith, p .1 .1 .0 .listed)
+shared-slice-read-row c = let p = c .before .before .before .before .before .before .before .before .pre in omega (arith, p .1 .1 .0 .listed)
 
 cast-row : tie.Need-cast-row Inv-loop μ-loop
-cast-row c = let s = c .before .before .before .before .before .before .before in let x = s .args in let p = s .pre in
+cast-row c = let s = c .before .before .before .before .before .before .before .before in let x = s .args in let p = s .pre in
     omega (arith, p .0 .listed (x .r) (p .1 .1 .0 .listed), p .0 .few)
 
 mul-row : tie.Need-mul-row Inv-loop μ-loop
-mul-row c = let s = c .before .before .before .before .before .before .before in let x = s .args in let p = s .pre in
+mul-row c = let s = c .before .before .before .before .before .before .before .before in let x = s .args in let p = s .pre in
     omega (arith, row-small _ _ (p .0 .listed (x .r) (p .1 .1 .0 .listed)) (p .0 .few))
 
 add-past : tie.Need-add-past Inv-loop μ-loop
-add-past c = let p = c .before .before .before .before .before .before .before .pre in omega (arith, p .1 .1 .0 .listed, p .0 .few)
+add-past c = let p = c .before .before .before .before .before .before .before .before .pre in omega (arith, p .1 .1 .0 .listed, p .0 .few)
 
 cast-past : tie.Need-cast-past Inv-loop μ-loop
-cast-past c = let p = c .before .before .before .before .before .before .before .pre in omega (arith, p .1 .1 .0 .listed, p .0 .few)
+cast-past c = let p = c .before .before .before .before .before .before .before .before .pre in omega (arith, p .1 .1 .0 .listed, p .0 .few)
 
 corner-requires : tie.Need-corner-requires Inv-loop μ-loop
-corner-requires c κs = let p = c .before .before .before .before .before .before .before .pre in omega (arith, p .1 .1 .0 .ports, p .0 .few)
+corner-requires c κs = let p = c .before .before .before .before .before .before .before .before .pre in omega (arith, p .1 .1 .0 .ports, p .0 .few)
 
 add-best : tie.Need-add-best Inv-loop μ-loop
-add-best c = let p = c .before .before .before .before .before .before .before .before .pre in
+add-best c = let p = c .before .before .before .before .before .before .before .before .before .pre in
     omega (arith, c .corner .ensures .1, p .1 .1 .0 .ports, p .1 .1 .0 .full, p .0 .few)
 
 mul-best : tie.Need-mul-best Inv-loop μ-loop
-mul-best c = let p = c .before .before .before .before .before .before .before .before .pre in
+mul-best c = let p = c .before .before .before .before .before .before .before .before .before .pre in
     omega (arith, c .corner .ensures .1, p .1 .1 .0 .ports, p .1 .1 .0 .full, p .0 .few)
 
 shared-slice-read-best : tie.Need-shared-slice-read-best Inv-loop μ-loop
-shared-slice-read-best c = let p = c .before .before .before .before .before .before .before .before .before .pre in
+shared-slice-read-best c = let p = c .before .before .before .before .before .before .before .before .before .before .pre in
     omega (arith, c .before .corner .ensures .1, p .1 .1 .0 .ports, p .1 .1 .0 .full, p .0 .few, p .1 .0 .sizes .totals)
 
 returns : tie.Need-returns Inv-loop μ-loop
-returns c = let s = c .before .before .before .before .before .before .before .before .before .before in let x = s .args in let p = s .pre in
+returns c = let s = c .before .before .before .before .before .before .before .before .before .before .before in let x = s .args in let p = s .pre in
     let k = c .before .before .corner in
     record {
       start = omega arith;
@@ -64,10 +64,10 @@ returns c = let s = c .before .before .before .before .before .before .before .b
     }
 
 corner-requires-2 : tie.Need-corner-requires-2 Inv-loop μ-loop
-corner-requires-2 c κs = let p = c .before .before .before .before .before .before .before .before .before .before .pre in omega (arith, p .1 .1 .0 .ports, p .0 .few)
+corner-requires-2 c κs = let p = c .before .before .before .before .before .before .before .before .before .before .before .pre in omega (arith, p .1 .1 .0 .ports, p .0 .few)
 
 add-below : tie.Need-add-below Inv-loop μ-loop
-add-below c = let p = c .before .before .before .before .before .before .before .before .before .before .before .pre in
+add-below c = let p = c .before .before .before .before .before .before .before .before .before .before .before .before .pre in
     omega (arith, c .corner2 .ensures .1, p .1 .1 .0 .ports, p .1 .1 .0 .full, p .0 .few)
 
 loop-holds : tie.Need-loop-holds Inv-loop μ-loop
@@ -77,11 +77,11 @@ add-attains : tie.Need-add-attains Inv-loop μ-loop
 add-attains c = omega (arith, c .before .before .before .before .before .corner .ensures .1)
 
 add-attains-2 : tie.Need-add-attains-2 Inv-loop μ-loop
-add-attains-2 c = let p = c .before .before .before .before .before .before .before .before .before .before .before .before .before .pre in
+add-attains-2 c = let p = c .before .before .before .before .before .before .before .before .before .before .before .before .before .before .pre in
     omega (arith, c .before .before .before .before .before .corner .ensures .1, p .1 .1 .0 .ports, p .0 .few)
 
 attains-requires : tie.Need-attains-requires Inv-loop μ-loop
-attains-requires c κs = let s = c .before .before .before .before .before .before .before .before .before .before .before .before .before in let x = s .args in
+attains-requires c κs = let s = c .before .before .before .before .before .before .before .before .before .before .before .before .before .before in let x = s .args in
     let p = s .pre in let l = c .before .loop in (
       port-ready (p .0) (p .1 .0 .sizes) (x .r) (x .a) (x .b) (ready-strip (p .0) (p .1 .0) (x .r) (x .a) (x .b) (p .1 .1 .0))
           (table-parts (p .0) (p .1 .0) (x .r) (x .a) (x .b) (p .1 .1 .0)) (l .q) (omega (arith, l .inv .0, p .1 .1 .1 .0))
@@ -92,7 +92,7 @@ attains-requires c κs = let s = c .before .before .before .before .before .befo
     )
 
 returns-2 : tie.Need-returns-2 Inv-loop μ-loop
-returns-2 c = let s = c .before .before .before .before .before .before .before .before .before .before .before .before .before .before .before in let x = s .args in
+returns-2 c = let s = c .before .before .before .before .before .before .before .before .before .before .before .before .before .before .before .before in let x = s .args in
     let p = s .pre in let l = c .before .before .before .loop in let k = c .before .before .before .before .before .before .before .corner in
     let lead = attains-yes (p .0) (p .1 .0) (x .r) (x .a) (x .b) (p .1 .1 .0)
     (l .q) (omega (arith, l .inv .0, p .1 .1 .1 .0)) (c .before .before .loop-test .taken) (l .below) (k .result + 1 + l .q)
@@ -104,7 +104,7 @@ add-q : tie.Need-add-q Inv-loop μ-loop
 add-q c = omega arith
 
 add-below-2 : tie.Need-add-below-2 Inv-loop μ-loop
-add-below-2 c = let p = c .before .before .before .before .before .before .before .before .before .before .before .before .before .before .before .pre in
+add-below-2 c = let p = c .before .before .before .before .before .before .before .before .before .before .before .before .before .before .before .before .pre in
     let l = c .before .before .before .loop in
     omega (arith, l .inv .2, corner-top (l .q) (omega (arith, p .1 .1 .0 .ports, p .0 .few)), p .1 .1 .0 .ports, p .0 .few)
 
@@ -112,7 +112,7 @@ loop-less : tie.Need-loop-less Inv-loop μ-loop
 loop-less c = omega arith
 
 loop-again : tie.Need-loop-again Inv-loop μ-loop
-loop-again c = let s = c .before .before .before .before .before .before .before .before .before .before .before .before .before .before .before in let x = s .args in
+loop-again c = let s = c .before .before .before .before .before .before .before .before .before .before .before .before .before .before .before .before in let x = s .args in
     let p = s .pre in let l = c .before .before .before .loop in let k = c .before .before .before .before .before .before .before .corner in
     let blank = attains-no (p .0) (p .1 .0) (x .r) (x .a) (x .b) (p .1 .1 .0)
     (l .q) (omega (arith, l .inv .0, p .1 .1 .1 .0)) (c .before .before .loop-test .taken) (l .below) (k .result + 1 + l .q)

@@ -11,15 +11,15 @@ use Rattle.walks.proofs.turn.Statement.{statement}
 use Rattle.walks.proofs.turn.Tie as tie
 
 abbrev Inv-loop : tie.InvT-loop
-Inv-loop heads totals order cost lo hi p w₀ page₀ n known₀ at₀ k₀ w page known at k =
-    Turning order (source heads totals cost p) lo hi w₀ page₀ w page at k × Memory order (source heads totals cost p) lo hi w (length order) known
+Inv-loop heads totals order cost bars lo hi p w₀ page₀ n known₀ at₀ k₀ w page known at k =
+    Turning order (source heads totals cost bars p) lo hi w₀ page₀ w page at k × Memory order (source heads totals cost bars p) lo hi w (length order) known
 
 abbrev μ-loop : tie.MeasureT-loop
-μ-loop heads totals order cost lo hi p w₀ page₀ n known₀ at₀ k₀ w page known at k = length page - at
+μ-loop heads totals order cost bars lo hi p w₀ page₀ n known₀ at₀ k₀ w page known at k = length page - at
 
 -- the function's entry, from the loop's head; what is filled is on the page; at a turn there is room for a layout
 abbrev start : tie.At-loop Inv-loop μ-loop → tie.Start Inv-loop μ-loop
-start c = c .before .before .before .before .before .before .before .before .before
+start c = c .before .before .before .before .before .before .before .before .before .before
 
 inside : (c : tie.At-loop Inv-loop μ-loop) → c .loop .at ≤ length (c .loop .page)
 inside c = omega (arith, c .loop .inv .0 .inside, c .loop .inv .0 .wide)
@@ -28,7 +28,7 @@ room : (c : tie.In-loop Inv-loop μ-loop) → length (start (c .before) .args .o
 room c = omega (arith, c .loop-test .taken)
 
 loop-holds : tie.Need-loop-holds Inv-loop μ-loop
-loop-holds c = let s = c .before .before .before .before .before .before .before .before in
+loop-holds c = let s = c .before .before .before .before .before .before .before .before .before in
     (turning-none _ _ _ _ _ _ (s .pre .1), memory-none _ _ _ _ _ _ (s .pre .0 .1 .proper .pads .few))
 
 sub-loop : tie.Need-sub-loop Inv-loop μ-loop
@@ -52,14 +52,14 @@ add-at : tie.Need-add-at Inv-loop μ-loop
 add-at c =
     let t = c .before .before .before .before .before .before .before .before .before .before .before .before in
     let s = start (t .before) in
-    omega (arith, inside (t .before), room t, t .before .loop .inv .0 .wide, s .good .1 .1 .1 .1 .1 .1 .1 .0 .0)
+    omega (arith, inside (t .before), room t, t .before .loop .inv .0 .wide, s .good .1 .1 .1 .1 .1 .1 .1 .1 .0 .0)
 
 add-k : tie.Need-add-k Inv-loop μ-loop
 add-k c =
     let i = c .before .before .before .before .before .before .before .before .before .before .before .before .before in
     let s = start i in
     let few = turning-count _ _ _ _ _ _ _ _ _ _ (i .loop .inv .0) (s .pre .0 .0) in
-    omega (arith, inside i, few, i .loop .inv .0 .wide, s .good .1 .1 .1 .1 .1 .1 .1 .0 .1)
+    omega (arith, inside i, few, i .loop .inv .0 .wide, s .good .1 .1 .1 .1 .1 .1 .1 .1 .0 .1)
 
 loop-less : tie.Need-loop-less Inv-loop μ-loop
 loop-less c =

@@ -11,7 +11,7 @@ begin-requires c κs = search needs
 turn-requires : tie.Need-turn-requires
 turn-requires c κs =
     let g = c .before .before .before .before .before in
-    let s = g .before .before .before .before .before .before .before .before .before .before in
+    let s = g .before .before .before .before .before .before .before .before .before .before .before in
     let b = began (s .args .start) _ (s .pre .0 .1) (rw (c .before .before .if1 .taken) at (g .begin .ensures)) in
     ((s .pre .0 .0, b .0), b .1)
 
@@ -25,7 +25,7 @@ returns : tie.Need-returns
 returns c =
     let t = c .before .before .before .before in
     let g = t .before .before .before .before .before .before in
-    let s = g .before .before .before .before .before .before .before .before .before .before in
+    let s = g .before .before .before .before .before .before .before .before .before .before .before in
     let e = rw (t .before .before .before .if1 .taken) at (g .begin .ensures) in
     rw (t .before .before .before .if1 .taken) (record { from = _; begins = e; turns = t .turn .ensures; least = s .pre .1 .0 })
 
@@ -35,7 +35,7 @@ same-length-3 c = search needs
 returns-2 : tie.Need-returns-2
 returns-2 c =
     let g = c .before .before .before in
-    let s = g .before .before .before .before .before .before .before .before .before .before in
+    let s = g .before .before .before .before .before .before .before .before .before .before .before in
     rw (c .if1 .left) (record { from = _; begins = rw (c .if1 .left) at (g .begin .ensures); turns = (refl, refl, refl); least = s .pre .1 .0 })
 
 pub walk-spec : {M : Type 1} → statement M

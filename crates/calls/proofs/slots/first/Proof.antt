@@ -5,10 +5,10 @@ use lib.ListN.{length}
 use Rattle.paper.specs.declared.Work.the-variants.{Lent}
 use Rattle.paper.specs.Job.{Job, slots}
 use Rattle.paper.specs.Layouts.{Badness, byWeights}
-use Rattle.paper.specs.Refusals.{Passed, firstTrials}
-use Rattle.paper.specs.laws.Accepted.{first-accepted, first-working}
-use Rattle.checks.specs.Judged.{Judged, judged-sound, judged-refused, first-judged}
-use Rattle.calls.proofs.Facts.{first-answers}
+use Rattle.paper.specs.Refusals.{Passed, soundTrials}
+use Rattle.paper.specs.laws.Accepted.{sound-accepted, sound-working, sound-refused}
+use Rattle.checks.specs.Judged.{Judged, judged-sound, judged-refused, sound-judged}
+use Rattle.calls.proofs.Facts.{first-answers, work-open}
 use borrow.Author.Needs.{needs}
 use Rattle.calls.proofs.slots.first.Statement.{statement}
 use Rattle.calls.proofs.slots.first.Tie as tie
@@ -21,11 +21,11 @@ abbrev bad : tie.Start → Badness
 bad s = byWeights (s .args .lw) (s .args .bw)
 
 judged : (c : tie.After-of-first) → let s = c .before .before .before .before .before .before in
-    Judged (c .of-first .result) (firstTrials (job s) (bad s) (Lent (length (now (s .args .work)))) (length (now (s .args .list))))
+    Judged (c .of-first .result) (soundTrials (job s) (bad s) (Lent (length (now (s .args .work)))) (length (now (s .args .list))))
 judged c = let s = c .before .before .before .before .before .before in
-    rw (c .of-first .ensures, c .before .of-weights .ensures) (first-judged (job s) (bad s) (Lent (length (now (s .args .work)))) (length (now (s .args .list))))
+    rw (c .of-first .ensures, c .before .of-weights .ensures) (sound-judged (job s) (bad s) (Lent (length (now (s .args .work)))) (length (now (s .args .list))))
 
-passed : (c : tie.After-enum-told) → let s = c .before .before .before .before .before .before .before .before in Passed (firstTrials (job s) (bad s) (Lent (length (now (s .args .work)))) (length (now (s .args .list))))
+passed : (c : tie.After-enum-told) → let s = c .before .before .before .before .before .before .before .before in Passed (soundTrials (job s) (bad s) (Lent (length (now (s .args .work)))) (length (now (s .args .list))))
 passed c = judged-sound _ _ (judged (c .before .before)) (c .enum-told .given .1)
 
 of-weights-requires : tie.Need-of-weights-requires
@@ -43,8 +43,11 @@ first-on-requires c κs =
     let s = told .before .before .before .before .before .before .before .before in
     let numbers = length (now (s .args .work)) in
     let room = length (now (s .args .list)) in
-    let f = first-accepted (job s) (bad s) (Lent numbers) room (passed told) in
-    ((f .0, f .1 .0, f .1 .1, first-working (job s) (bad s) numbers room (passed told)), f .2)
+    let f = sound-accepted (job s) (bad s) (Lent numbers) room (passed told) in
+    ((f .0, f .1 .0, f .1 .1, sound-working (job s) (bad s) numbers room (passed told)), f .2)
+
+answer-of-requires : tie.Need-answer-of-requires
+answer-of-requires c κs = search needs
 
 enum-known-v : tie.Need-enum-known-v
 enum-known-v c = search needs
@@ -57,13 +60,18 @@ same-length-2 c = search needs
 
 returns : tie.Need-returns
 returns c =
-    let d = c .before .before .before .before in
+    let d = c .before .before .before .before .before in
     let told = d .before .before .before in
     let s = told .before .before .before .before .before .before .before .before in
-    (first-answers (job s) (bad s) (Lent (length (now (s .args .work)))) (now (s .args .list)) _ (d .first-on .result) (passed told) (d .first-on .ensures), tt)
+    rw (c .answer-of .ensures)
+    (first-answers (job s) (bad s) (Lent (length (now (s .args .work)))) (now (s .args .list)) _ (d .first-on .result) (passed told) (d .first-on .ensures), work-open (d .first-on .result) _ _)
 
 returns-2 : tie.Need-returns-2
-returns-2 c = ((judged-refused _ _ _ (judged (c .before .before .before)) (c .before .v .given .1), refl), λ _. refl)
+returns-2 c =
+    let v = c .before .before .before in
+    let s = v .before .before .before .before .before .before in
+    let refused = judged-refused _ _ _ (judged v) (c .before .v .given .1) in
+    ((sound-refused (job s) (bad s) (Lent (length (now (s .args .work)))) (length (now (s .args .list))) _ refused, refl), λ _ _. refl)
 
 pub first-spec : {M : Type 1} → statement M
 first-spec =
@@ -73,6 +81,7 @@ first-spec =
     of-first-requires
     enum-told
     first-on-requires
+    answer-of-requires
     enum-known-v
     same-length
     same-length-2

@@ -6,7 +6,7 @@ use Rattle.paper.specs.declared.Work.the-variants.{Lent}
 use Rattle.paper.specs.Job.{Job, slots}
 use Rattle.paper.specs.Layouts.{Badness, byWeights}
 use Rattle.paper.specs.Refusals.{Passed, measureTrials}
-use Rattle.paper.specs.laws.Accepted.{measure-accepted, measure-facts, measure-refused, first-working}
+use Rattle.paper.specs.laws.Accepted.{measure-accepted, measure-facts, measure-refused, sound-working}
 use Rattle.checks.specs.Judged.{Judged, judged-sound, judged-refused, measure-judged}
 use Rattle.calls.proofs.Facts.{next-answers, work-open}
 use borrow.Author.Needs.{needs}
@@ -45,7 +45,7 @@ next-on-requires c κs =
     let list = now (s .args .list) in
     let f = measure-facts (job s) (bad s) (Lent numbers) list (passed told) in
     let m = measure-accepted (job s) (bad s) (Lent numbers) list (passed told) in
-    ((f .0, f .1 .0, f .1 .1, first-working (job s) (bad s) numbers (length list) (m .0)), (f .2, m .1))
+    ((f .0, f .1 .0, f .1 .1, sound-working (job s) (bad s) numbers (length list) (m .0)), (f .2, m .1))
 
 answer-of-requires : tie.Need-answer-of-requires
 answer-of-requires c κs = search needs
@@ -75,7 +75,7 @@ returns-2 c =
     let v = c .before .before .before in
     let s = v .before .before .before .before .before .before .before in
     let refused = judged-refused _ _ _ (judged v) (c .before .v .given .1) in
-    ((measure-refused (job s) (bad s) (Lent (length (now (s .args .work)))) (now (s .args .list)) _ refused, refl), λ _. refl)
+    ((measure-refused (job s) (bad s) (Lent (length (now (s .args .work)))) (now (s .args .list)) _ refused, refl), λ _ _. refl)
 
 pub next-spec : {M : Type 1} → statement M
 next-spec =

@@ -9,14 +9,14 @@ use borrow.Author.Needs.{needs}
 use Rattle.paper.specs.Job.{records, count}
 use Rattle.paper.specs.declared.Work.the-variants.{Unlent}
 use Rattle.paper.specs.Layouts.{boardOf, byWeights}
-use Rattle.paper.specs.laws.Accepted.{AcceptedJob, Fair, first-accepted}
+use Rattle.paper.specs.laws.Accepted.{AcceptedJob, Fair, sound-accepted}
 use Rattle.calls.proofs.Weighed.{square-most, front-long, first-lent, first-back}
 use Rattle.calls.proofs.weighted.first.Statement.{statement}
 use Rattle.calls.proofs.weighted.first.Tie as tie
 
 -- what the trials tell
 facts : (s : tie.Start) → let a = s .args in AcceptedJob (records (now (a .job))) × Fair (boardOf (records (now (a .job)))) (byWeights (a .lw) (a .bw)) × (count (now (a .job)) ≤ length (now (a .list)))
-facts s = let a = s .args in first-accepted (records (now (a .job))) (byWeights (a .lw) (a .bw)) Unlent (length (now (a .list))) (s .pre)
+facts s = let a = s .args in sound-accepted (records (now (a .job))) (byWeights (a .lw) (a .bw)) Unlent (length (now (a .list))) (s .pre)
 
 mul-square : tie.Need-mul-square
 mul-square c = omega (arith, square-most (facts (c .before .before) .0))

@@ -1,7 +1,7 @@
 -- `checks::verdicts::of_first` meets its contract. Assumes nothing.
 use mathlib.Core.Path.{_≡_, sym, _∙_}
 use denote.Ref.{now}
-use Rattle.paper.specs.laws.Tests.{firstTests, roomTests}
+use Rattle.paper.specs.laws.Tests.{soundTests, roomTests}
 use Rattle.checks.specs.declared.Verdict.the-variants.{Sound}
 use Rattle.checks.specs.Verdicts.{givenTest, after-append, Few}
 use Rattle.checks.specs.Sound.{was-sound, after-sound, sizes-sound}
@@ -34,7 +34,7 @@ of-job-requires c κs =
     small (c .before) (after-sound (c .before .try-whole .result) tests (sym (c .of-room .ensures) ∙ sound)) .short
 
 returns : tie.Need-returns
-unfolding firstTests
+unfolding soundTests
 returns c =
     rw (after-append, after-append, c .of-job .ensures, c .before .of-room .ensures, c .before .before .try-whole .ensures, c .before .before .before .of-sizes .ensures)
 

@@ -6,18 +6,18 @@ use borrow.Author.Needs.{needs}
 use Rattle.find.specs.declared.Found.the-variants.{Nowhere}
 use Rattle.paper.specs.Layouts.{boardFrom, held}
 use Rattle.find.specs.Search.{firstWhere, none-below, none-more, none-end, pairs-more, pairs-end, pair-here}
-use Rattle.paper.specs.laws.Tests.{withEarlier, meetAt}
+use Rattle.paper.specs.laws.Tests.{withEarlier, recordsTouch}
 use Rattle.find.proofs.layout.first_touching.Statement.{statement}
 use Rattle.find.proofs.layout.first_touching.Tie as tie
 
 abbrev Inv-loop : tie.InvT-loop
-Inv-loop form job ports list n found₀ i j₀ found j = (j ≤ i) × (firstWhere (meetAt (boardFrom form job ports) (held list) i) j ≡ Nowhere) × (found ≡ found₀)
+Inv-loop form job ports list n found₀ i j₀ found j = (j ≤ i) × (firstWhere (recordsTouch (boardFrom form job ports) (held list) i) j ≡ Nowhere) × (found ≡ found₀)
 
 abbrev μ-loop : tie.MeasureT-loop
 μ-loop form job ports list n found₀ i j₀ found j = i - j
 
 abbrev Inv-records : tie.InvT-records
-Inv-records form job ports list n found₀ i₀ found i = (i ≤ n) × (firstWhere (withEarlier (meetAt (boardFrom form job ports) (held list))) i ≡ Nowhere) × (found ≡ Nowhere)
+Inv-records form job ports list n found₀ i₀ found i = (i ≤ n) × (firstWhere (withEarlier (recordsTouch (boardFrom form job ports) (held list))) i ≡ Nowhere) × (found ≡ Nowhere)
 
 abbrev μ-records : tie.MeasureT-records
 μ-records form job ports list n found₀ i₀ found i = n - i

@@ -17,6 +17,9 @@ slice-aggregate-walk c = search needs
 walk-requires : tie.Need-walk-requires
 walk-requires c κs = search needs
 
+first-of-requires : tie.Need-first-of-requires
+first-of-requires c κs = search needs
+
 same-length : tie.Need-same-length
 same-length c = search needs
 
@@ -25,11 +28,12 @@ same-length-2 c = search needs
 
 returns : tie.Need-returns
 returns c =
-    let w = c .before .before .before .before .before in
+    let w = c .before .before .before .before .before .before in
     let s = w .before .before .before .before .before .before .before .before in
     let a = s .args in
-    first-walked (labelingOf (slots (a .pads .now) (a .ports .now)) (byWeights (a .lw) (a .bw))) (s .pre .0 .0 .some) (a .layout .now) _ _ _ (w .walk .result) refl
-    (w .walk .ensures)
+    rw (c .first-of .ensures)
+    (first-walked (labelingOf (slots (a .pads .now) (a .ports .now)) (byWeights (a .lw) (a .bw))) (s .pre .0 .0 .some) (a .layout .now) _ _ _ (w .walk .result) refl
+    (w .walk .ensures))
 
 pub first-on-spec : {M : Type 1} → statement M
 first-on-spec =
@@ -38,6 +42,7 @@ first-on-spec =
     array-borrow-prefix-page
     slice-aggregate-walk
     walk-requires
+    first-of-requires
     same-length
     same-length-2
     returns)

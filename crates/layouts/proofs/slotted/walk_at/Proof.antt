@@ -11,16 +11,16 @@ use Rattle.layouts.proofs.slotted.walk_at.Tie as tie
 
 -- the function's entry, from where the table is made; and the board
 abbrev start : tie.After-fill → tie.Start
-start f = f .before .before .before .before .before .before .before .before .before .before .before .before .before
+start f = f .before .before .before .before .before .before .before .before .before .before .before .before .before .before .before
 
 abbrev board : tie.After-fill → Board
 board f = boardOf (slots (start f .args .pads .now) (start f .args .ports .now))
 
 fill-requires : tie.Need-fill-requires
-fill-requires c κs = search needs
+fill-requires c κs = let s = c .before .before .before .before .before .before .before .before .before .before .before .before .before .before in (s .pre .0, (s .pre .1 .0 .0, s .pre .1 .1))
 
 ports-requires : tie.Need-ports-requires
-ports-requires c κs = omega (arith, start (c .before .before .before .before .before .before .before .before) .pre .0 .0 .port-size)
+ports-requires c κs = omega (arith, start (c .before .before .before .before .before .before .before .before .before .before) .pre .0 .0 .port-size)
 
 cast-p : tie.Need-cast-p
 cast-p c = search needs
@@ -39,13 +39,14 @@ slice-aggregate-walk-2 c = search needs
 
 walk-requires : tie.Need-walk-requires
 walk-requires c κs =
-    let f = c .before .before .before .before .before .before .before .before .before .before .before .before .before .before .before .before .before in
+    let f = c .before .before .before .before .before .before .before .before .before .before .before .before .before .before .before .before .before .before .before .before in
     let s = start f in
     let M = f .fill .ensures in
-    let same = c .before .before .before .before .before .before .before .before .ports .ensures in
-    let costs = lent-costs (board f) M [] [] refl same in (
-      working-on (board f) (M .lists) costs (lent-right (board f) M [] [] refl same) (s .args .start) (s .args .w .now) (s .pre .0 .0 .some) (s .pre .1 .1),
-      (lent-least (board f) M [] [] refl same, startable-on (board f) (M .lists) costs (s .args .start) (s .args .w .now) (s .pre .1 .1)),
+    let bs = f .fill .last .1 .1 .1 .1 .1 .1 .1 .0 in
+    let same = c .before .before .before .before .before .before .before .before .before .ports .ensures in
+    let costs = lent-costs (board f) M [] [] bs refl same in (
+      working-on (board f) (M .lists) costs (lent-right (board f) M [] [] bs refl same) (s .args .start) (s .args .w .now) (s .pre .0 .0 .some) (s .pre .1 .0 .1),
+      (lent-least (board f) M [] [] bs refl same, startable-on (board f) (M .lists) costs (s .args .start) (s .args .w .now) (s .pre .1 .0 .1)),
     )
 
 same-length : tie.Need-same-length
@@ -66,13 +67,16 @@ same-length-5 c = search needs
 same-length-6 : tie.Need-same-length-6
 same-length-6 c = search needs
 
+same-length-7 : tie.Need-same-length-7
+same-length-7 c = search needs
+
 returns : tie.Need-returns
 returns c =
     let d = c .before .before .before .before in
-    let f = d .before .before .before .before .before .before .before .before .before .before .before .before .before .before .before .before .before .before in
+    let f = d .before .before .before .before .before .before .before .before .before .before .before .before .before .before .before .before .before .before .before .before .before in
     let a = start f .args in
     let M = f .fill .ensures in
-    walks-on (board f) (M .lists) (lent-costs (board f) M [] [] refl (d .before .before .before .before .before .before .before .before .before .ports .ensures)) (a .start) (a .w .now) (a .page .now) _ _ (d .walk .result) (d .walk .ensures)
+    walks-on (board f) (M .lists) (lent-costs (board f) M [] [] (f .fill .last .1 .1 .1 .1 .1 .1 .1 .0) refl (d .before .before .before .before .before .before .before .before .before .before .ports .ensures)) (a .start) (a .w .now) (a .page .now) _ _ (d .walk .result) (d .walk .ensures)
 
 pub walk-at-spec : {M : Type 1} → statement M
 walk-at-spec =
@@ -92,4 +96,5 @@ walk-at-spec =
     same-length-4
     same-length-5
     same-length-6
+    same-length-7
     returns)
