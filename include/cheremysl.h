@@ -125,9 +125,9 @@
  * Two records touch if their leaders share a point, or if the leader of one shares a point with the
  * square of the other; that two squares overlap is no touching. For pad A right of pad B leaders
  * share a point exactly if A's port height lies between B's own height and B's port height, ends
- * included. That of a pad (x, y) to a port of height q meets the square at (u, v) with half-side h
- * exactly if u - h <= x and q lies in v - h to v + h (the arm), or if x lies in u - h to u + h and
- * some height between y and q in v - h to v + h (the hand), ends included.
+ * included. The leader of a pad (x, y) to a port of height q meets the square at (u, v) with
+ * half-side h exactly if u - h <= x and q lies in v - h to v + h (the arm), or if x lies in u - h to
+ * u + h and some height between y and q in v - h to v + h (the hand), ends included.
  *
  * The total of a layout is length_weight times the sum of the lengths plus bend_weight times
  * the sum of the bends. By a table it is the sum of the figures of the pads with their ports. A

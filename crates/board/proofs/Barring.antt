@@ -17,11 +17,11 @@ use Rattle.numbers.specs.Filled.{place-in}
 use Rattle.pads.specs.Counts.{le-or-lt}
 use Rattle.paper.specs.Leaders.{Meets}
 use Rattle.paper.specs.Layouts.{Board, leader, square}
-use Rattle.paper.specs.laws.Squares.{UpTo, UnderTop, OverBottom, meets-cases}
+use Rattle.paper.specs.laws.Squares.{OpenTo, UpTo, UnderTop, OverBottom, meets-cases}
 use Rattle.slots.specs.Slots.{Shut}
 use Rattle.slots.specs.Marks.{mark-in, mark-out}
 use Rattle.board.specs.declared.bars.Square.{Square}
-use Rattle.board.specs.Bars.{BarsOf, BarsTo, OpenTo, Unbarred, Clear, SquareOf}
+use Rattle.board.specs.Bars.{BarsOf, BarsTo, Unbarred, Clear, SquareOf}
 
 -- ---- the ports that a square bars for a pad
 
@@ -92,7 +92,7 @@ module _ (b : Board) (i j : ℕ) (s : Square) (S : SquareOf b j s) where
           let high : ¬ UpTo (b .port c) (b .y j) (b .half j) = λ u. absurd (omega (arith, C .which c l .1 (inl u))) in
           absurd (omega arith)
 
-  -- LAW. Where the leader of pad i comes as far left as the square, the square bars the ports from `from` to the one before `to`; where the hand is beside it, from port 0
+  -- LAW. Where the leader of pad i comes as far right as the square, the square bars the ports from `from` to the one before `to`; where the hand is beside it, from port 0
   -- if the pad is no lower than its bottom, and to the last port if the pad is no higher than its top.
   pub run-is : (x : ℕ) (y : ℤ) (p : ℕ) {a c : ℕ} → x ≡ b .x i → y ≡ b .y i → p ≡ b .ports → s .x ≤ x + s .half
       → a ≡ cond (leb x (s .x + s .half) && leZ (s .bottom) y) 0 (s .from) → c ≡ cond (leb x (s .x + s .half) && leZ y (s .top)) p (s .to) → Run b i j a c

@@ -1,13 +1,12 @@
 -- The bars of a board: for each pad the ports to which its leader would meet the square of another pad, said of the paper's board.
 use mathlib.Core.Path.{_≡_}
-use mathlib.Core.Logic.{_≢_, _↔_}
+use mathlib.Core.Logic.{_↔_}
 use mathlib.Core.List.{List}
 use Prim.Native.Nat.{ℕ, _+_, _*_, _≤_, _<_}
 use lib.ListN.{length, getD}
 use lib.IntN.{pos, _+ℤ_, _-ℤ_}
-use Rattle.paper.specs.Leaders.{Meets}
-use Rattle.paper.specs.Layouts.{Board, leader, square}
-use Rattle.paper.specs.laws.Squares.{Open}
+use Rattle.paper.specs.Layouts.{Board}
+use Rattle.paper.specs.laws.Squares.{OpenTo, Open}
 use Rattle.board.specs.declared.bars.Square.{Square}
 use Rattle.board.specs.Lists.{Under, Upto}
 
@@ -19,10 +18,6 @@ Unbarred b bars i q = getD bars (i * b .ports + q) 0 ≡ 0
 pub record BarsOf (b : Board) (bars : List ℕ) : Type 0 where
   pub long : length bars ≡ b .pads * b .ports
   pub at : (i q : ℕ) → i < b .pads → q < b .ports → Unbarred b bars i q ↔ Open b i q
-
--- Of the squares of the pads before k the leader of pad i to port q meets none that is another pad's and more than a point.
-abbrev pub OpenTo : Board → ℕ → ℕ → ℕ → Type 0
-OpenTo b k i q = (j : ℕ) → j < k → j ≢ i → 0 < b .half j → ¬ Meets (leader b i q) (square b j)
 
 -- While they are worked out: the squares of the pads before k have been looked at for all pads, and that of pad k for the pads before m.
 pub record BarsTo (b : Board) (k m : ℕ) (bars : List ℕ) : Type 0 where

@@ -19,7 +19,7 @@ use Rattle.find.specs.declared.Found.the-variants.{At, Nowhere}
 use Rattle.find.specs.Search.{firstWhere, none-at, or-false-left, or-false-right}
 use Rattle.checks.specs.declared.Verdict.{Verdict}
 use Rattle.checks.specs.declared.Verdict.the-variants.{Sound, Refused}
-use Rattle.checks.specs.Verdicts.{foundBy, outcome, andThen, verdictAfter, after-append, Formed, Short, Few}
+use Rattle.checks.specs.Verdicts.{foundBy, outcome, andThen, verdictAfter, after-append, Formed, Few}
 
 outcome-sound : (r : ℕ) (f : Found) → outcome r f ≡ Sound → f ≡ Nowhere
 outcome-sound r (At i j) e = absurd (let z : _≡_ {A = ℕ} 0 1 = cc in omega arith)

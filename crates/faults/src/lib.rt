@@ -9,7 +9,7 @@ ghost use lib.Signed.{mag};
 ghost use Rattle.paper.specs.Job.{count, lastOf, portCount};
 ghost use Rattle.paper.specs.Layouts.{boardFrom, held};
 ghost use Rattle.paper.specs.Refusals.{workNeeded};
-ghost use Rattle.paper.specs.laws.Tests.{badSize, badWeight, badTable, outside, badLast, badField, badHeight, notAbove, tooClose, sameName, sameX, between, leadersMeet, meets, covers, recordsTouch, badNumber};
+ghost use Rattle.paper.specs.laws.Tests.{badSize, badWeight, badTable, outside, badLast, badField, badHeight, notAbove, tooClose, sameName, sameX, between, leadersTouch, meets, meetsLarge, recordsTouch, badNumber};
 
 // 1: the byte count, of records of so many bytes.
 pub fn bad_size(one: usize, most: usize, bytes: &[u8]) -> bool
@@ -138,7 +138,7 @@ fn lies_between(m: i64, a: i64, b: i64) -> bool
 
 // x says which arm passes the other pad: one test is enough.
 fn leaders_touch(x: u32, y: i64, port: i64, x2: u32, y2: i64, port2: i64) -> bool
-    ensures { λ r. ⌜ r ≡ leadersMeet (record { x = x; y = y; port = port }) (record { x = x2; y = y2; port = port2 }) ⌝ }
+    ensures { λ r. ⌜ r ≡ leadersTouch (record { x = x; y = y; port = port }) (record { x = x2; y = y2; port = port2 }) ⌝ }
 {
     if x2 < x {
         lies_between(port, y2, port2)
@@ -167,9 +167,9 @@ fn meets(x: u32, y: i64, port: i64, x2: u32, y2: i64, half: u16) -> bool
 }
 
 // The same where the square is more than a point.
-fn covers(x: u32, y: i64, port: i64, x2: u32, y2: i64, half: u16) -> bool
+fn meets_large(x: u32, y: i64, port: i64, x2: u32, y2: i64, half: u16) -> bool
     requires { ⌜ (mag y < 2147483648) × (mag port < 2147483648) × (mag y2 < 2147483648) ⌝ }
-    ensures { λ r. ⌜ r ≡ covers (record { x = x; y = y; port = port }) (record { x = x2; y = y2; half = half }) ⌝ }
+    ensures { λ r. ⌜ r ≡ meetsLarge (record { x = x; y = y; port = port }) (record { x = x2; y = y2; half = half }) ⌝ }
 {
     if half == 0 {
         false
@@ -193,10 +193,10 @@ pub fn touches(form: Form, job: &[u8], ports: &[u8], list: &[u16], i: u16, j: u1
     if leaders_touch(x, y, port, x2, y2, port2) {
         return true;
     }
-    if covers(x, y, port, x2, y2, job::half_side(job, j)) {
+    if meets_large(x, y, port, x2, y2, job::half_side(job, j)) {
         return true;
     }
-    covers(x2, y2, port2, x, y, job::half_side(job, i))
+    meets_large(x2, y2, port2, x, y, job::half_side(job, i))
 }
 
 // 11: Draw's record number and port number.

@@ -57,7 +57,7 @@ In s p = (distance (pos (p .x)) (pos (s .x)) ≤ s .half) × (distance (p .y) (s
 abbrev pub Meets : Leader → Square → Type 0
 Meets l s = (p : Spot) × On l p × In s p
 
--- Its length is x plus the distance of y and the port's height. It has 0 bends if these are the same, so that
+-- A leader's length is x plus the distance of y and the port's height. It has 0 bends if these are the same, so that
 -- their distance is 0, else 1 (`bends-iff`).
 unfoldable pub lengthOf : Leader → ℕ
 lengthOf l = l .x + distance (l .y) (l .port)

@@ -1,4 +1,4 @@
--- DEFINITIONS. Touching by any point of the plane: its coordinates are numbers of any line that holds the whole numbers in their order, such as the fractions
+-- DEFINITIONS. Touching and meeting by any point of the plane: its coordinates are numbers of any line that holds the whole numbers in their order, such as the fractions
 -- or the reals. (Leaders of pads with different x that share such a point share a whole one: `touch-plane`; so do a leader and a square: `meets-plane`.)
 use mathlib.Core.Path.{_≡_}
 use mathlib.Core.Logic.{_⊎_}

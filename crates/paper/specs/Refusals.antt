@@ -182,7 +182,8 @@ badnessTrial b (byTable figures) = ofWhole 13 (length figures ≢ b .pads * b .p
 abbrev pub roomTrials : Job → Work → ℕ → List Trial
 roomTrials job work room = ofWhole 3 (room < boardOf job .pads) ∷ enoughTrials job ++ workTrials (boardOf job) work
 
--- Of all of them, with such a work list and room for so many entries: 1, 2 or 13, the room's and the job's
+-- First, Measure and Next alike, with such a work list and room for so many entries: 1, 2 or 13, the room's (3, 14, 24) and the job's (4, 5, 12, 6, 7), in short
+-- "1 to 7"
 abbrev pub soundTrials : Job → Badness → Work → ℕ → List Trial
 soundTrials job bad work room = sizeTrials job ++ (badnessTrial (boardOf job) bad ∷ roomTrials job work room ++ jobTrials job)
 

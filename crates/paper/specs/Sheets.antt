@@ -200,7 +200,7 @@ sheets =
     sheet First (copper 6) 1 0 (9 ∷ 9 ∷ []) (refused 15 0) (9 ∷ 9 ∷ []) ∷  -- both arms meet it
     sheet Next (copper 6) 1 0 (1 ∷ 0 ∷ []) (refusedPair 1 0) (1 ∷ 0 ∷ []) ∷  -- 9, and no 15
     sheet Measure (copper 6) 1 0 (1 ∷ 1 ∷ []) (refused 8 1) (1 ∷ 1 ∷ []) ∷
-    sheet First (squareAndPort 101 4 10 16 10 ++ padAndPort 102 14 60 20) 1 0 (9 ∷ 9 ∷ []) (refused 15 0) (9 ∷ 9 ∷ []) ∷  -- the hand meets a corner or goes through
+    sheet First (squareAndPort 101 4 10 16 10 ++ padAndPort 102 14 60 20) 1 0 (9 ∷ 9 ∷ []) (refused 15 0) (9 ∷ 9 ∷ []) ∷  -- the hand runs along a side, or meets a corner
     sheet First (squareAndPort 101 4 10 16 10 ++ padAndPort 102 15 60 20) 1 0 (9 ∷ 9 ∷ []) (Total 79) (1 ∷ 0 ∷ []) ∷  -- and beside it
     sheet First (squareAndPort 101 10 12 16 10 ++ padAndPort 102 1 60 20) 1 0 (9 ∷ 9 ∷ []) (Total 59) (0 ∷ 1 ∷ []) ∷  -- a pad left of the square
     sheet First (squareAndPort 101 11 12 16 10 ++ padAndPort 102 1 20 20) 1 0 (9 ∷ 9 ∷ []) (refused 15 0) (9 ∷ 9 ∷ []) ∷  -- a pad in the square

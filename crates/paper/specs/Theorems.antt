@@ -21,7 +21,7 @@ use Rattle.paper.specs.declared.Form.the-variants.{Records, Slots}
 use Rattle.paper.specs.declared.Work.{Work}
 use Rattle.paper.specs.declared.Work.the-variants.{Unlent}
 use Rattle.paper.specs.Job.{Job, records, padsOf, count, twos, nameOf, halfOf, xOf, yOf, portOf, lastOf, portCount}
-use Rattle.paper.specs.Leaders.{Leader, Square, Between, Touch, Meets, lengthOf, bendsOf}
+use Rattle.paper.specs.Leaders.{Leader, Square, Between, Touch, Meets, distance, lengthOf, bendsOf}
 use Rattle.paper.specs.Plane.{Line, TouchIn, MeetsIn}
 use Rattle.paper.specs.Layouts.{Board, boardOf, held, leader, LeadersTouch, Touching, Layout, EachOnce, Untouching, sum, weighted, figure, Badness, byWeights, byTable, costOf, TableOf, total}
 use Rattle.paper.specs.Layouts.{Same, Differ, Proper}
@@ -106,7 +106,7 @@ pub first-none : (job : Job) (bad : Badness) (work : Work) (before : List ℕ) (
     → (m ≡ refusalNumber (refusal 15 0 0)) ↔ (Passed (soundTrials job bad work (length before)) × ((f : ℕ → ℕ) → ¬ Untouching (boardOf job) f))
 first-none job bad work before m after = by.Named.first-none job bad work before after m
 
--- Next gives no 15: where no layout is untouching 8 or 9 comes first. So it is with Page and Measure.
+-- Next needs no 15: where 1 to 7 are passed and no layout is untouching it refuses by 8 or 9. So do Page and Measure.
 pub next-none : (job : Job) (bad : Badness) (work : Work) (before : List ℕ) (m : ℤ) (after : List ℕ) → NextPromise job bad work before m after
     → Passed (soundTrials job bad work (length before)) → ((f : ℕ → ℕ) → ¬ Untouching (boardOf job) f) → (refusalIn m .reason ≡ 8) ⊎ (refusalIn m .reason ≡ 9)
 next-none job bad work before m after p sound none =
@@ -159,7 +159,8 @@ draw-names job i q before m after p l = by.Named.draw-named job i q (length befo
 pub alone-number : (r : Refusal) → Alone r → refusalNumber r ≡ negℤ (pos (65536 * r .reason + r .at))
 alone-number = by.Named.alone-number
 
--- ---- DEMAND 2: each pad has its own port, no two leaders share a point, and no such sheet has a smaller total; total and drawn points are exact
+-- ---- DEMAND 2: each pad has its own port, no leader shares a point with another one or with another pad's square, and no such sheet has a smaller total; total and
+-- drawn points are exact
 
 -- First answers t exactly if the input passes and the list then holds the earliest best layout, t its total, the other entries kept.
 pub first-answers : (job : Job) (bad : Badness) (work : Work) (before : List ℕ) (t : ℕ) (after : List ℕ)
@@ -235,9 +236,15 @@ touch-plane = by.Plane.touch-plane
 pub touch-criterion : (l m : Leader) → m .x < l .x → Touch l m ↔ Between (l .port) (m .y) (m .port)
 touch-criterion = by.Touching.touch-iff
 
--- A leader and a square that share any point of the plane share a whole one; and the code's test says whether they do.
+-- A leader and a square that share any point of the plane share a whole one. They do exactly if the arm comes as far right as the square, at a height of it, or the hand is
+-- at an x of it and has a height of it; and the code's test, `meets` of laws/Tests, says the same.
 pub meets-plane : (line : Line) (l : Leader) (s : Square) → MeetsIn line l s ↔ Meets l s
 meets-plane = by.Plane.meets-plane
+
+pub meets-criterion : (l : Leader) (s : Square) → Meets l s
+    ↔ (((s .x ≤ l .x + s .half) × (distance (l .port) (s .y) ≤ s .half))
+    ⊎ ((distance (pos (l .x)) (pos (s .x)) ≤ s .half) × ((z : ℤ) × Between z (l .y) (l .port) × (distance z (s .y) ≤ s .half))))
+meets-criterion = by.Squares.meets-criterion
 
 pub meets-iff : (l : Leader) (s : Square) → T (meets l s) ↔ Meets l s
 meets-iff = by.Squares.meets-iff

@@ -14,7 +14,7 @@ use Rattle.paper.specs.Refusals.{Passed, soundTrials, firstTrials}
 use Rattle.paper.specs.Promises.{Kept}
 use Rattle.paper.specs.laws.Totals.{totalOf}
 use Rattle.paper.specs.Sheets.{J5}
-use Rattle.paper.specs.laws.Tests.{somewhere, outside, between, leadersMeet, covers, jobTests, soundTests}
+use Rattle.paper.specs.laws.Tests.{somewhere, outside, between, leadersTouch, meetsLarge, jobTests, soundTests}
 use Rattle.paper.specs.laws.Decided.{tests-pass, soundTestsOf, sound-tests}
 use Rattle.paper.specs.laws.Accepted.{sound-accepted, first-passed}
 use Rattle.paper.specs.laws.Trying.{firstTest, bestTest, first-iff, labeling-searchable, heads, words, any, someWord, leastTest}
@@ -33,7 +33,7 @@ sound =
     (sound-tests (records J5) (byWeights 1 0) Unlent 64) tt
 
 earliest : FirstBest (labelingOf (records J5) (byWeights 1 0)) (held list)
-unfolding firstTest bestTest heads words any someWord leastTest misled untouchingTest differRight decidedAt beforeTest cheaper somewhere between leadersMeet covers
+unfolding firstTest bestTest heads words any someWord leastTest misled untouchingTest differRight decidedAt beforeTest cheaper somewhere between leadersTouch meetsLarge
     twos halfOf xOf yOf portOf lengthOf bendsOf sum weighted
 earliest = first-iff (labelingOf (records J5) (byWeights 1 0)) (labeling-searchable (boardOf (records J5)) (weighted (boardOf (records J5)) 1 0) (sound-accepted (records J5) (byWeights 1 0) Unlent 64 sound .0 .proper .differ)) (held list) .0 tt
 

@@ -104,19 +104,8 @@ pub fn step(
         );
         if next < 128 {
             out[j] = (next % 65536) as u16;
-            fill_on(
-                heads,
-                totals,
-                order,
-                cost,
-                bars,
-                lo,
-                hi,
-                p,
-                out,
-                known,
-                m + 1,
-            );
+            let k = m + 1;
+            fill_on(heads, totals, order, cost, bars, lo, hi, p, out, known, k);
             return true;
         }
     }

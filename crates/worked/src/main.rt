@@ -1,5 +1,6 @@
 // Runs the calls on the cases that standard input has as text, and prints each with its answer and the list that the call leaves. A case reads
 //     TITLE: A B [SIZE] | NAME X Y PORT, NAME X Y PORT, .. | ENTRY ENTRY ..;
+// NAME is the record's first word: the name, and 65,536 times the half-side.
 // The title's first letter tells the call: First, Next or Measure with the weights A and B; A page with these, of eight entries lent, each 9; Draw of
 // record A to port B, with eight numbers lent, each 99; or Print, the job's sheet. SIZE is the job's size in bytes where it is not 16 for each record.
 // With a small letter, first, next or measure is by a table, whose figures stand in place of A, B and SIZE; and slots, then and untouching are First,

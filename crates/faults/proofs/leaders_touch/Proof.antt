@@ -5,7 +5,7 @@ use borrow.Author.Tests.{lt-ltb, le-ltb}
 use mathlib.Core.Path.{_≡_, refl, sym}
 use mathlib.Core.Bool.{Bool, true, false, _||_}
 use mir.Facts.{toZ-ofZ}
-use Rattle.paper.specs.laws.Tests.{leadersMeet}
+use Rattle.paper.specs.laws.Tests.{leadersTouch}
 use Rattle.faults.proofs.leaders_touch.Statement.{statement}
 use Rattle.faults.proofs.leaders_touch.Tie as tie
 
@@ -21,7 +21,7 @@ lies-between-requires-2 c κs = search needs
 
 -- the first pad is to the right: the other way round nothing touches
 returns : tie.Need-returns
-unfolding leadersMeet
+unfolding leadersTouch
 returns c =
     let s = c .before .before in
     rw (
@@ -36,7 +36,7 @@ returns c =
 
 -- it is to the left: the first way round nothing touches
 returns-2 : tie.Need-returns-2
-unfolding leadersMeet
+unfolding leadersTouch
 returns-2 c =
     let s = c .before .before .before in
     rw (
@@ -49,7 +49,7 @@ returns-2 c =
     )
 
 returns-3 : tie.Need-returns-3
-unfolding leadersMeet
+unfolding leadersTouch
 returns-3 c =
     let s = c .before .before in
     rw (le-ltb (s .args .x2) (s .args .x) (c .before .if1 .left), le-ltb (s .args .x) (s .args .x2) (c .if2 .left))

@@ -7,7 +7,7 @@ use lib.Signed.{leZ}
 use borrow.Author.Needs.{needs}
 use borrow.Author.Tests.{lt-leb, le-leb}
 use Rattle.numbers.specs.Bits.{read-back}
-use Rattle.paper.specs.laws.Tests.{reaches, beside, underTop, overBottom, meets}
+use Rattle.paper.specs.laws.Tests.{reaches, notRight, underTop, overBottom, meets}
 use Rattle.faults.proofs.meets.Statement.{statement}
 use Rattle.faults.proofs.meets.Tie as tie
 
@@ -33,7 +33,7 @@ add-if2 : tie.Need-add-if2
 add-if2 c = search needs
 
 returns-2 : tie.Need-returns-2
-unfolding meets reaches beside underTop overBottom
+unfolding meets reaches notRight underTop overBottom
 returns-2 c =
     let bottom = c .before .lowered in
     let top = c .before .before .raised in
@@ -52,7 +52,7 @@ returns-2 c =
     (or-none (leZ (a .port) (a .y2 +ℤ pos (a .half))) (leZ (a .y2 -ℤ pos (a .half)) (a .port)))
 
 returns-3 : tie.Need-returns-3
-unfolding meets reaches beside underTop overBottom
+unfolding meets reaches notRight underTop overBottom
 returns-3 c =
     let bottom = c .before .lowered in
     let top = c .before .before .raised in

@@ -2,7 +2,7 @@
 use mathlib.Core.Path.{_≡_, sym, _∙_, refl}
 use Rattle.numbers.specs.Bits.{read-back}
 use Rattle.paper.specs.Layouts.{Board, boardFrom, held, leader, square}
-use Rattle.paper.specs.laws.Tests.{leadersMeet, covers}
+use Rattle.paper.specs.laws.Tests.{leadersTouch, meetsLarge}
 use Prim.Native.Nat.{ℕ}
 use borrow.Author.Needs.{needs}
 use Rattle.faults.proofs.touches.Statement.{statement}
@@ -19,7 +19,7 @@ abbrev port-of : tie.Start → ℕ → ℕ
 port-of s = held (s .args .list .now)
 
 leaders : (c : tie.After-leaders-touch) → let s = start c in let b = board s in let i = s .args .i in let j = s .args .j in
-    c .leaders-touch .result ≡ leadersMeet (leader b i (port-of s i)) (leader b j (port-of s j))
+    c .leaders-touch .result ≡ leadersTouch (leader b i (port-of s i)) (leader b j (port-of s j))
 leaders c =
     let port2 = c .before .port2 in
     let y2 = c .before .before .before .y2 in
@@ -38,8 +38,8 @@ leaders c =
       c .before .before .before .before .before .before .before .before .x .ensures,
     ) at (c .leaders-touch .ensures)
 
-first : (c : tie.After-covers) → let s = start (c .before .before .before) in let b = board s in let i = s .args .i in
-    c .covers .result ≡ covers (leader b i (port-of s i)) (square b (s .args .j))
+first : (c : tie.After-meets-large) → let s = start (c .before .before .before) in let b = board s in let i = s .args .i in
+    c .meets-large .result ≡ meetsLarge (leader b i (port-of s i)) (square b (s .args .j))
 first c =
     let l = c .before .before .before in
     let y2 = l .before .before .before .y2 in
@@ -55,10 +55,10 @@ first c =
       port .ensures .0,
       y .ensures .0,
       l .before .before .before .before .before .before .before .before .x .ensures,
-    ) at (c .covers .ensures)
+    ) at (c .meets-large .ensures)
 
-second : (c : tie.After-covers2) → let s = start (c .before .before .before .before .before .before) in let b = board s in let j = s .args .j in
-    c .covers2 .result ≡ covers (leader b j (port-of s j)) (square b (s .args .i))
+second : (c : tie.After-meets-large2) → let s = start (c .before .before .before .before .before .before) in let b = board s in let j = s .args .j in
+    c .meets-large2 .result ≡ meetsLarge (leader b j (port-of s j)) (square b (s .args .i))
 second c =
     let l = c .before .before .before .before .before .before in
     let port2 = l .before .port2 in
@@ -74,7 +74,7 @@ second c =
       l .before .before .before .before .x2 .ensures,
       y .ensures .0,
       l .before .before .before .before .before .before .before .before .x .ensures,
-    ) at (c .covers2 .ensures)
+    ) at (c .meets-large2 .ensures)
 
 x-requires : tie.Need-x-requires
 x-requires c κs = search needs
@@ -115,8 +115,8 @@ returns c = rw (sym (leaders (c .before)) ∙ c .if1 .taken) refl
 half-side-requires : tie.Need-half-side-requires
 half-side-requires c κs = search needs
 
-covers-requires : tie.Need-covers-requires
-covers-requires c κs = search needs
+meets-large-requires : tie.Need-meets-large-requires
+meets-large-requires c κs = search needs
 
 returns-2 : tie.Need-returns-2
 returns-2 c = rw (sym (leaders (c .before .before .before .before)) ∙ c .before .before .before .if1 .left, sym (first (c .before)) ∙ c .if2 .taken) refl
@@ -124,8 +124,8 @@ returns-2 c = rw (sym (leaders (c .before .before .before .before)) ∙ c .befor
 half-side-requires-2 : tie.Need-half-side-requires-2
 half-side-requires-2 c κs = search needs
 
-covers-requires-2 : tie.Need-covers-requires-2
-covers-requires-2 c κs = search needs
+meets-large-requires-2 : tie.Need-meets-large-requires-2
+meets-large-requires-2 c κs = search needs
 
 returns-3 : tie.Need-returns-3
 returns-3 c = rw (sym (leaders (c .before .before .before .before .before .before)) ∙ c .before .before .before .before .before .if1 .left, sym (first (c .before .before .before)) ∙ c .before .before .if2 .left) (second c)
@@ -147,8 +147,8 @@ touches-spec =
     leaders-touch-requires
     returns
     half-side-requires
-    covers-requires
+    meets-large-requires
     returns-2
     half-side-requires-2
-    covers-requires-2
+    meets-large-requires-2
     returns-3)

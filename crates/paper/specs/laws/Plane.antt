@@ -11,8 +11,8 @@ use native.Mathlib.Omega.{arith}
 use lib.IntN.{ℤ, pos, _+ℤ_, _-ℤ_, _*ℤ_}
 use lib.Signed.{_≤ℤ_, ≤ℤ-refl}
 use Rattle.numbers.specs.Whole.{whole, up, dn, plus-num, minus-num, apart-num, antisym, ≤ℤ-trans, times-up, times-dn}
-use Rattle.paper.specs.Leaders.{Spot, Leader, Square, Between, On, Touch, In, Meets, distance}
-use Rattle.paper.specs.Plane.{Line, BetweenIn, OnIn, TouchIn, Near, InIn, MeetsIn}
+use Rattle.paper.specs.Leaders.{Spot, Leader, Square, Between, On, Touch, Meets, distance}
+use Rattle.paper.specs.Plane.{Line, BetweenIn, OnIn, TouchIn, Near, MeetsIn}
 use Rattle.paper.specs.laws.Touching.{between-end, touch-sym, touch-iff}
 use Rattle.paper.specs.laws.Squares.{UpTo, Reaches, UnderTop, OverBottom, meets-cases}
 

@@ -1,5 +1,5 @@
 -- A leader meets a square exactly as the test says; and records touch exactly if leaders touch, or a leader by itself is not open.
---     meets-iff: the test decides;  point-square: a square of half-side 0 is a point of its pad's leader;  records-iff: the test of two records
+--     meets-criterion: by arm or hand;  meets-iff: the test decides;  point-square: a square of half-side 0 is a point of its pad's leader;  records-iff: the test of two records
 --     open-iff: untouching is leaders apart, and each leader open;  points-apart: where pads are points, leaders apart
 use mathlib.Core.Path.{_≡_, refl}
 use mathlib.Core.Logic.{_≢_, _⊎_, inl, inr, ⊎-elim, _↔_, Iff·trans}
@@ -15,8 +15,8 @@ use Rattle.numbers.specs.Tests.{le-iff, leb-iff, ltb-iff, and-iff, or-iff}
 use Rattle.paper.specs.Leaders.{Leader, Square, Between, Touch, Meets, distance}
 use Rattle.paper.specs.Layouts.{Board, leader, square, LeadersTouch, Touching, Untouching}
 use Rattle.paper.specs.Points.{Points, LeadersApart}
-use Rattle.paper.specs.laws.Tests.{leadersMeet, reaches, beside, topOf, bottomOf, underTop, overBottom, meets, covers, recordsTouch}
-use Rattle.paper.specs.laws.Touching.{between-start, between-end, touch-sym, meet-iff}
+use Rattle.paper.specs.laws.Tests.{leadersTouch, reaches, notRight, topOf, bottomOf, underTop, overBottom, meets, meetsLarge, recordsTouch}
+use Rattle.paper.specs.laws.Touching.{between-start, between-end, touch-sym, touch-test-iff}
 
 -- ---- the test
 
@@ -30,19 +30,19 @@ top-iff z w n = Iff·trans (le-iff z (w +ℤ pos n)) ((λ h. omega (whole, plus-
 bottom-iff : (z w : ℤ) (n : ℕ) → T (leZ (z -ℤ pos n) w) ↔ UpTo z w n
 bottom-iff z w n = Iff·trans (le-iff (z -ℤ pos n) w) ((λ h. omega (whole, minus-num z n)), (λ h. omega (whole, minus-num z n)))
 
--- The leader comes as far left as the square; its hand is at an x of it.
+-- The leader comes as far right as the square; its hand is not right of it.
 abbrev pub Reaches : Leader → Square → Type 0
 Reaches l s = s .x ≤ l .x + s .half
 
-abbrev pub Beside : Leader → Square → Type 0
-Beside l s = l .x ≤ s .x + s .half
+abbrev pub NotRight : Leader → Square → Type 0
+NotRight l s = l .x ≤ s .x + s .half
 
 -- At an x of the square it has a height that is no higher than its top; that is no lower than its bottom.
 abbrev pub UnderTop : Leader → Square → Type 0
-UnderTop l s = UpTo (l .port) (s .y) (s .half) ⊎ (Beside l s × UpTo (l .y) (s .y) (s .half))
+UnderTop l s = UpTo (l .port) (s .y) (s .half) ⊎ (NotRight l s × UpTo (l .y) (s .y) (s .half))
 
 abbrev pub OverBottom : Leader → Square → Type 0
-OverBottom l s = UpTo (s .y) (l .port) (s .half) ⊎ (Beside l s × UpTo (s .y) (l .y) (s .half))
+OverBottom l s = UpTo (s .y) (l .port) (s .half) ⊎ (NotRight l s × UpTo (s .y) (l .y) (s .half))
 
 -- No more than n apart.
 near : (z w : ℤ) (n : ℕ) → distance z w ≤ n → UpTo z w n × UpTo w z n
@@ -95,7 +95,7 @@ module _ (l : Leader) (s : Square) where
     (far (pos (min (s .x) (l .x))) (pos (s .x)) (s .half) (omega arith) (omega arith), far (l .port) (s .y) (s .half) b c),
   )
 
-  hand-point : Reaches l s → Beside l s → UpTo (l .y) (s .y) (s .half) ⊎ UpTo (l .port) (s .y) (s .half) → UpTo (s .y) (l .y) (s .half) ⊎ UpTo (s .y) (l .port) (s .half)
+  hand-point : Reaches l s → NotRight l s → UpTo (l .y) (s .y) (s .half) ⊎ UpTo (l .port) (s .y) (s .half) → UpTo (s .y) (l .y) (s .half) ⊎ UpTo (s .y) (l .port) (s .half)
       → Meets l s
   hand-point a b c d =
       let z = some-height (l .y) (l .port) (s .y) (s .half) c d in
@@ -110,9 +110,25 @@ module _ (l : Leader) (s : Square) where
   pub meets-cases : Meets l s ↔ (Reaches l s × (UnderTop l s × OverBottom l s))
   meets-cases = (found, λ (a, (b, c)). back a b c)
 
+  -- THEOREM. The arm meets it, at a height of the square, or the hand does, at an x of it.
+  pub meets-criterion : Meets l s
+      ↔ (((s .x ≤ l .x + s .half) × (distance (l .port) (s .y) ≤ s .half))
+      ⊎ ((distance (pos (l .x)) (pos (s .x)) ≤ s .half) × ((z : ℤ) × Between z (l .y) (l .port) × (distance z (s .y) ≤ s .half))))
+  meets-criterion = (there, again)
+    where
+      there : Meets l s → ((s .x ≤ l .x + s .half) × (distance (l .port) (s .y) ≤ s .half))
+          ⊎ ((distance (pos (l .x)) (pos (s .x)) ≤ s .half) × Height (l .y) (l .port) (s .y) (s .half))
+      there (p, inl (e, b), (h, k)) = inr (rw e at h, (p .y, b, k))
+      there (p, inr (e, a), (h, k)) = inl (omega (arith, near (pos (p .x)) (pos (s .x)) (s .half) h), rw e at k)
+
+      again : ((s .x ≤ l .x + s .half) × (distance (l .port) (s .y) ≤ s .half))
+          ⊎ ((distance (pos (l .x)) (pos (s .x)) ≤ s .half) × Height (l .y) (l .port) (s .y) (s .half)) → Meets l s
+      again (inl (a, k)) = let (u, v) = near (l .port) (s .y) (s .half) k in arm-point a u v
+      again (inr (h, (z, b, k))) = (record { x = l .x; y = z }, inl (refl, b), (h, k))
+
   -- THEOREM. The test decides whether the leader meets the square.
   pub meets-iff : T (meets l s) ↔ Meets l s
-  unfolding meets reaches underTop overBottom beside
+  unfolding meets reaches underTop overBottom notRight
   meets-iff =
       let side = leb (l .x) (s .x + s .half) in
       let by = leb-iff (l .x) (s .x + s .half) in
@@ -133,47 +149,51 @@ point-square b f i j q z (p, a, (h, k)) =
     let d : p .y ≡ b .y j = omega (whole, apart-num (p .y) (b .y j)) in
     (p, a, inl (e, rw d (between-start (b .y j) (b .port (f j)))))
 
--- The leader of pad i to port q is open: it meets no square of another pad that is more than a point.
+-- Of the squares of the pads before k the leader of pad i to port q meets none that is another pad's and more than a point.
+abbrev pub OpenTo : Board → ℕ → ℕ → ℕ → Type 0
+OpenTo b k i q = (j : ℕ) → j < k → j ≢ i → 0 < b .half j → ¬ Meets (leader b i q) (square b j)
+
+-- It is open: it meets none of all of them.
 abbrev pub Open : Board → ℕ → ℕ → Type 0
-Open b i q = (j : ℕ) → j < b .pads → j ≢ i → 0 < b .half j → ¬ Meets (leader b i q) (square b j)
+Open b i q = OpenTo b (b .pads) i q
 
 -- Two records touch by the leader of i on the square of j, where that is more than a point.
-abbrev Covers : Board → (ℕ → ℕ) → ℕ → ℕ → Type 0
-Covers b f i j = (0 < b .half j) × Meets (leader b i (f i)) (square b j)
+abbrev MeetsLarge : Board → (ℕ → ℕ) → ℕ → ℕ → Type 0
+MeetsLarge b f i j = (0 < b .half j) × Meets (leader b i (f i)) (square b j)
 
 module _ (b : Board) (f : ℕ → ℕ) where
   -- A point is met only where leaders touch.
-  covered : (i j : ℕ) → Meets (leader b i (f i)) (square b j) → LeadersTouch b f i j ⊎ Covers b f i j
-  covered i j m = go (decLt 0 (b .half j))
+  large-or-touch : (i j : ℕ) → Meets (leader b i (f i)) (square b j) → LeadersTouch b f i j ⊎ MeetsLarge b f i j
+  large-or-touch i j m = go (decLt 0 (b .half j))
     where
-      go : Dec (0 < b .half j) → LeadersTouch b f i j ⊎ Covers b f i j
+      go : Dec (0 < b .half j) → LeadersTouch b f i j ⊎ MeetsLarge b f i j
       go (yes h) = inr (h, m)
       go (no h) = inl (point-square b f i j (f i) (omega arith) m)
 
-  pub touching-cases : (i j : ℕ) → Touching b f i j ↔ (LeadersTouch b f i j ⊎ (Covers b f i j ⊎ Covers b f j i))
+  pub touching-cases : (i j : ℕ) → Touching b f i j ↔ (LeadersTouch b f i j ⊎ (MeetsLarge b f i j ⊎ MeetsLarge b f j i))
   touching-cases i j = (there, back)
     where
-      there : Touching b f i j → LeadersTouch b f i j ⊎ (Covers b f i j ⊎ Covers b f j i)
+      there : Touching b f i j → LeadersTouch b f i j ⊎ (MeetsLarge b f i j ⊎ MeetsLarge b f j i)
       there (inl t) = inl t
-      there (inr (inl m)) = ⊎-elim inl (λ c. inr (inl c)) (covered i j m)
-      there (inr (inr m)) = ⊎-elim (λ t. inl (touch-sym (leader b j (f j)) (leader b i (f i)) t)) (λ c. inr (inr c)) (covered j i m)
+      there (inr (inl m)) = ⊎-elim inl (λ c. inr (inl c)) (large-or-touch i j m)
+      there (inr (inr m)) = ⊎-elim (λ t. inl (touch-sym (leader b j (f j)) (leader b i (f i)) t)) (λ c. inr (inr c)) (large-or-touch j i m)
 
-      back : LeadersTouch b f i j ⊎ (Covers b f i j ⊎ Covers b f j i) → Touching b f i j
+      back : LeadersTouch b f i j ⊎ (MeetsLarge b f i j ⊎ MeetsLarge b f j i) → Touching b f i j
       back (inl t) = inl t
       back (inr (inl c)) = inr (inl (c .1))
       back (inr (inr c)) = inr (inr (c .1))
 
-  covers-iff : (i j : ℕ) → T (covers (leader b i (f i)) (square b j)) ↔ Covers b f i j
-  unfolding covers
-  covers-iff i j =
+  meets-large-iff : (i j : ℕ) → T (meetsLarge (leader b i (f i)) (square b j)) ↔ MeetsLarge b f i j
+  unfolding meetsLarge
+  meets-large-iff i j =
       and-iff (ltb 0 (b .half j)) (meets (leader b i (f i)) (square b j)) (ltb-iff 0 (b .half j)) (meets-iff (leader b i (f i)) (square b j))
 
   -- THEOREM. The test decides whether two records touch, for pads of different x.
   pub records-iff : (i j : ℕ) → b .x i ≢ b .x j → T (recordsTouch b f i j) ↔ Touching b f i j
   records-iff i j d =
-      let tests = or-iff (leadersMeet (leader b i (f i)) (leader b j (f j))) (covers (leader b i (f i)) (square b j) || covers (leader b j (f j)) (square b i))
-      (meet-iff (leader b i (f i)) (leader b j (f j)) d)
-      (or-iff (covers (leader b i (f i)) (square b j)) (covers (leader b j (f j)) (square b i)) (covers-iff i j) (covers-iff j i)) in
+      let tests = or-iff (leadersTouch (leader b i (f i)) (leader b j (f j))) (meetsLarge (leader b i (f i)) (square b j) || meetsLarge (leader b j (f j)) (square b i))
+      (touch-test-iff (leader b i (f i)) (leader b j (f j)) d)
+      (or-iff (meetsLarge (leader b i (f i)) (square b j)) (meetsLarge (leader b j (f j)) (square b i)) (meets-large-iff i j) (meets-large-iff j i)) in
       ((λ t. touching-cases i j .1 (tests .0 t)), (λ t. tests .1 (touching-cases i j .0 t)))
 
   -- THEOREM. Where both half-sides are 0 records touch exactly if their leaders do.

@@ -80,16 +80,16 @@ badEntry n list i = leb n (held list i) || withEarlier (sameEntry list) i
 unfoldable pub between : ℤ → ℤ → ℤ → Bool
 between m a b = leZ a m && leZ m b || leZ b m && leZ m a
 
-unfoldable pub leadersMeet : Leader → Leader → Bool
-leadersMeet l m = ltb (m .x) (l .x) && between (l .port) (m .y) (m .port) || ltb (l .x) (m .x) && between (m .port) (l .y) (l .port)
+unfoldable pub leadersTouch : Leader → Leader → Bool
+leadersTouch l m = ltb (m .x) (l .x) && between (l .port) (m .y) (m .port) || ltb (l .x) (m .x) && between (m .port) (l .y) (l .port)
 
--- .. and of a leader and a square: the leader comes as far left as the square; its hand is at an x of it; of the leader's heights at these x one is no
--- higher than the square's top, and one no lower than its bottom
+-- .. and of a leader and a square: the leader comes as far right as the square; its hand is not right of it; of the leader's heights at the square's x one is
+-- no higher than its top, and one no lower than its bottom
 unfoldable pub reaches : Leader → Square → Bool
 reaches l s = leb (s .x) (l .x + s .half)
 
-unfoldable pub beside : Leader → Square → Bool
-beside l s = leb (l .x) (s .x + s .half)
+unfoldable pub notRight : Leader → Square → Bool
+notRight l s = leb (l .x) (s .x + s .half)
 
 abbrev pub topOf : Square → ℤ
 topOf s = s .y +ℤ pos (s .half)
@@ -98,21 +98,21 @@ abbrev pub bottomOf : Square → ℤ
 bottomOf s = s .y -ℤ pos (s .half)
 
 unfoldable pub underTop : Leader → Square → Bool
-underTop l s = leZ (l .port) (topOf s) || beside l s && leZ (l .y) (topOf s)
+underTop l s = leZ (l .port) (topOf s) || notRight l s && leZ (l .y) (topOf s)
 
 unfoldable pub overBottom : Leader → Square → Bool
-overBottom l s = leZ (bottomOf s) (l .port) || beside l s && leZ (bottomOf s) (l .y)
+overBottom l s = leZ (bottomOf s) (l .port) || notRight l s && leZ (bottomOf s) (l .y)
 
 unfoldable pub meets : Leader → Square → Bool
 meets l s = reaches l s && (underTop l s && overBottom l s)
 
 -- a square of half-side 0 is on its pad's own leader: only larger ones are looked at
-unfoldable pub covers : Leader → Square → Bool
-covers l s = ltb 0 (s .half) && meets l s
+unfoldable pub meetsLarge : Leader → Square → Bool
+meetsLarge l s = ltb 0 (s .half) && meets l s
 
 abbrev pub recordsTouch : Board → (ℕ → ℕ) → ℕ → ℕ → Bool
 recordsTouch b f i j =
-    leadersMeet (leader b i (f i)) (leader b j (f j)) || (covers (leader b i (f i)) (square b j) || covers (leader b j (f j)) (square b i))
+    leadersTouch (leader b i (f i)) (leader b j (f j)) || (meetsLarge (leader b i (f i)) (square b j) || meetsLarge (leader b j (f j)) (square b i))
 
 -- 11
 abbrev pub badNumber : ℕ → ℕ → ℕ → Bool

@@ -1,5 +1,5 @@
 -- Leaders touch exactly as 01's criterion says.
---     touch-iff: 01's criterion;  meet-iff: the test decides touching
+--     touch-iff: 01's criterion;  touch-test-iff: the test decides touching
 use mathlib.Core.Path.{refl, sym, _∙_, subst}
 use mathlib.Core.Logic.{_≢_, _⊎_, inl, inr, ⊎-elim, _↔_}
 use mathlib.Core.Bool.{_&&_}
@@ -12,7 +12,7 @@ use lib.Signed.{leZ, ≤ℤ-refl}
 use Rattle.numbers.specs.Whole.{le-or-le}
 use Rattle.numbers.specs.Tests.{le-iff, ltb-iff, and-iff, or-iff}
 use Rattle.paper.specs.Leaders.{Leader, Between, Touch}
-use Rattle.paper.specs.laws.Tests.{between, leadersMeet}
+use Rattle.paper.specs.laws.Tests.{between, leadersTouch}
 
 -- The test decides whether m lies between a and b.
 pub between-iff : (m a b : ℤ) → T (between m a b) ↔ Between m a b
@@ -45,12 +45,12 @@ touch-iff l m right = (there, λ b. (record { x = m .x; y = l .port }, inr (refl
     there (p, inr (e, b), inr (d, c)) = subst (λ (z : ℤ). Between z (m .y) (m .port)) (sym d ∙ e) (between-end (m .y) (m .port))
 
 -- THEOREM: the test decides touching, for two pads of different x.
-pub meet-iff : (l m : Leader) → l .x ≢ m .x → T (leadersMeet l m) ↔ Touch l m
-unfolding leadersMeet
-meet-iff l m n =
+pub touch-test-iff : (l m : Leader) → l .x ≢ m .x → T (leadersTouch l m) ↔ Touch l m
+unfolding leadersTouch
+touch-test-iff l m n =
     ((λ t. ⊎-elim (λ (h, b). touch-iff l m h .1 b) (λ (h, b). touch-sym m l (touch-iff m l h .1 b)) (tests .0 t)), (λ t. tests .1 (go t (decLt (m .x) (l .x)))))
   where
-    tests : T (leadersMeet l m) ↔ (((m .x < l .x) × Between (l .port) (m .y) (m .port)) ⊎ ((l .x < m .x) × Between (m .port) (l .y) (l .port)))
+    tests : T (leadersTouch l m) ↔ (((m .x < l .x) × Between (l .port) (m .y) (m .port)) ⊎ ((l .x < m .x) × Between (m .port) (l .y) (l .port)))
     tests =
         or-iff (ltb (m .x) (l .x) && between (l .port) (m .y) (m .port)) (ltb (l .x) (m .x) && between (m .port) (l .y) (l .port))
         (and-iff (ltb (m .x) (l .x)) (between (l .port) (m .y) (m .port)) (ltb-iff (m .x) (l .x)) (between-iff (l .port) (m .y) (m .port)))

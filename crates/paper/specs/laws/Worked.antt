@@ -23,7 +23,7 @@ use Rattle.paper.specs.Refusals.{firstTrials, measureTrials, nextTrials}
 use Rattle.paper.specs.Promises.{Kept, inTurn, Following, FirstAnswers, NextAnswers, PageAnswers, MeasureAnswers}
 use Rattle.paper.specs.laws.Totals.{totalOf}
 use Rattle.paper.specs.Sheets.{copper, sheet, sheets, Each, Call, First, Next, Measure, Sheet, AllowedBy, Allowed, pages, PageSheet, PageAllowed}
-use Rattle.paper.specs.laws.Tests.{somewhere, outside, between, leadersMeet, reaches, beside, underTop, overBottom, meets, covers, jobTests, layoutTests, soundTests, measureTests}
+use Rattle.paper.specs.laws.Tests.{somewhere, outside, between, leadersTouch, reaches, notRight, underTop, overBottom, meets, meetsLarge, jobTests, layoutTests, soundTests, measureTests}
 use Rattle.paper.specs.Leaders.{lengthOf, bendsOf}
 use Rattle.paper.specs.laws.Order.{below-suc}
 use Rattle.paper.specs.laws.Decided.{passes, refuses, tests-pass, tests-refuse, measureTestsOf, measure-tests}
@@ -220,7 +220,7 @@ all-allowed test P says (s ∷ ss) h = let u = both (test s) (allHold test ss) .
 -- Each passes its test; and so does the example of squares that cost length.
 all-hold : T (allHold holds sheets) × T (allHold pageSheetHolds pages) × T (holds (sheet First (copper 4) 1 0 (9 ∷ 9 ∷ []) (Total 84) (1 ∷ 0 ∷ [])))
 unfolding heads words any someWord leastTest misled untouchingTest differRight decidedAt beforeTest cheaper bestTest firstTest laterTest nextTest lastTest
-    somewhere outside between leadersMeet reaches beside underTop overBottom meets covers jobTests layoutTests soundTests firstTests measureTests nextTests
+    somewhere outside between leadersTouch reaches notRight underTop overBottom meets meetsLarge jobTests layoutTests soundTests firstTests measureTests nextTests
     twos nameOf halfOf xOf yOf lastOf portOf lengthOf bendsOf sum weighted
 all-hold = (tt, tt, tt)
 

@@ -88,8 +88,8 @@ slice-write-out c = let l = c .before .before .before .before .before .before .b
     let t : 0 < l .m = omega (arith, c .before .before .before .before .before .before .before .before .before .before .loop-test .taken) in
     places (l .inv .0 .working) (l .m - 1) (looking-inside (l .m) (l .inv .0) t)
 
-add-fill-on : tie.Need-add-fill-on Inv-loop μ-loop
-add-fill-on c = omega arith
+add-k : tie.Need-add-k Inv-loop μ-loop
+add-k c = omega arith
 
 fill-on-requires : tie.Need-fill-on-requires Inv-loop μ-loop
 fill-on-requires c κs =
@@ -190,7 +190,7 @@ step-spec =
     cast-out
     mul-out
     slice-write-out
-    add-fill-on
+    add-k
     fill-on-requires
     same-length
     same-length-2

@@ -43,7 +43,7 @@ cast-if2 c = search needs
 add-if2 : tie.Need-add-if2
 add-if2 c = omega (arith, pad-width (c .before), square-width (begin (c .before)))
 
--- its leader does not come as far left
+-- its leader does not come as far right
 returns-2 : tie.Need-returns-2
 returns-2 c =
     let x = c .before .before .before in

@@ -1,21 +1,21 @@
--- `faults::covers` meets its contract. Assumes nothing.
+-- `faults::meets_large` meets its contract. Assumes nothing.
 use native.Mathlib.Omega.{arith}
 use borrow.Author.Tests.{lt-ltb, le-ltb}
 use Rattle.numbers.specs.Bits.{read-back}
-use Rattle.paper.specs.laws.Tests.{covers}
+use Rattle.paper.specs.laws.Tests.{meetsLarge}
 use borrow.Author.Needs.{needs}
-use Rattle.faults.proofs.covers.Statement.{statement}
-use Rattle.faults.proofs.covers.Tie as tie
+use Rattle.faults.proofs.meets_large.Statement.{statement}
+use Rattle.faults.proofs.meets_large.Tie as tie
 
 meets-requires : tie.Need-meets-requires
 meets-requires c κs = search needs
 
 returns : tie.Need-returns
-unfolding covers
+unfolding meetsLarge
 returns c = let a = c .before .args in rw (le-ltb 0 (a .half) (omega (arith, c .if1 .taken)))
 
 returns-2 : tie.Need-returns-2
-unfolding covers
+unfolding meetsLarge
 returns-2 c =
     let s = c .before .before in
     let a = s .args in
@@ -27,5 +27,5 @@ returns-2 c =
       read-back (a .y2) (s .fits .y2 .sfits),
     )
 
-pub covers-spec : {M : Type 1} → statement M
-covers-spec = tie.close (tie.spec meets-requires returns returns-2)
+pub meets-large-spec : {M : Type 1} → statement M
+meets-large-spec = tie.close (tie.spec meets-requires returns returns-2)
