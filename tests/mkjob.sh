@@ -87,7 +87,8 @@ prints 0 "$back" of $job --list -
 prints 0 "$back" of $job --list - -
 prints 0 "$(echo "$back" | sed 's/  # rec/  half=513&/')" of '\002\001\001\002\003\002\001\000\376\377\377\377\007\000\000\000' --list
 prints 1 'mkjob: standard input has 15 bytes, not whole records of 16' of '123456789012345' --list
-prints 1 'mkjob: README.md has '"$(($(wc -c <README.md)))"' bytes, not whole records of 16' $mkjob --list README.md
+printf '12345678901234567' >"$room/odd"
+prints 1 "mkjob: $room/odd has 17 bytes, not whole records of 16" $mkjob --list "$room/odd"
 again() { $mkjob $1 --list "$2" | $mkjob $1 - "$room/again" && cmp "$room/again" "$2"; }
 check "listed and made again" again --job examples/matrix.job
 check "listed and made again, with half-sides" again --job examples/copper.job
