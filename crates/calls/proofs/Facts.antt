@@ -7,7 +7,7 @@ use lib.ListN.{length}
 use Rattle.walks.specs.declared.Walked.{Walked}
 use Rattle.layouts.specs.declared.Step.{Step}
 use Rattle.layouts.specs.declared.Step.the-variants.{Total, End, NotBest, NoLayout}
-use Rattle.paper.specs.declared.Paged.the-variants.{Wrote, Refused as NotPaged}
+use Rattle.paper.specs.declared.Counted.the-variants.{Many, Refused as NotCounted}
 use Rattle.paper.specs.declared.Work.{Work}
 use Rattle.paper.specs.Job.{Job}
 use Rattle.paper.specs.Layouts.{held, Badness}
@@ -34,10 +34,10 @@ module _ (job : Job) (bad : Badness) (work : Work) (before : List ℕ) where
     next-answers after NoLayout n = absurd n
 
     module _ (lent after : List ℕ) (r : Walked) (n : PageOn (labelingOf job bad) before lent after r) where
-      pub page-answers : r .best ≡ true → PageAnswers job bad work before lent (Wrote (r .count)) after
+      pub page-answers : r .best ≡ true → PageAnswers job bad work before lent (Many (r .count)) after
       page-answers e = (best-passed job bad work before p (n .0 e .0), n .0 e .1)
 
-      pub not-paged-answers : r .best ≡ false → PageAnswers job bad work before lent (NotPaged (refusal 10 0 0)) after
+      pub not-paged-answers : r .best ≡ false → PageAnswers job bad work before lent (NotCounted (refusal 10 0 0)) after
       not-paged-answers e = (not-best-refused job bad work before p (n .1 e .0), n .1 e .1)
 
 -- 10 and 15 leave the work list open, as a total and the end do.

@@ -7,7 +7,7 @@ use native.Mathlib.Omega.{arith}
 use lib.ListN.{length, take, length-append}
 use lib.Seq.{take-at}
 use Rattle.paper.specs.declared.Answer.{Answer}
-use Rattle.paper.specs.declared.Paged.{Paged}
+use Rattle.paper.specs.declared.Counted.{Counted}
 use Rattle.paper.specs.declared.Work.the-variants.{Unlent}
 use Rattle.paper.specs.Job.{records, count}
 use Rattle.paper.specs.Layouts.{boardOf, weighted, byWeights, byTable, TableOf}
@@ -45,6 +45,6 @@ module _ (job : List ℕ) (lw bw : ℕ) (fair : Fair (boardOf (records job)) (by
       → NextAnswers (records job) (byWeights lw bw) Unlent before a after
   next-back before a after f = next-on (records job) (byTable figures) (byWeights lw bw) (T .long) fair (T .at) Unlent before a after (rw front at f)
 
-  pub page-back : (list before : List ℕ) (a : Paged) (after : List ℕ) → PageAnswers (records job) (byTable (take (square job) (figures ++ rest))) Unlent list before a after
+  pub page-back : (list before : List ℕ) (a : Counted) (after : List ℕ) → PageAnswers (records job) (byTable (take (square job) (figures ++ rest))) Unlent list before a after
       → PageAnswers (records job) (byWeights lw bw) Unlent list before a after
   page-back list before a after f = page-on (records job) (byTable figures) (byWeights lw bw) (T .long) fair (T .at) Unlent list before a after (rw front at f)

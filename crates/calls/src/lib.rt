@@ -9,9 +9,9 @@ use checks::Verdict;
 use checks::verdicts;
 use measure::Badness;
 use paper::Answer;
+use paper::Counted;
 use paper::Drawn;
 use paper::Form;
-use paper::Paged;
 use paper::Work;
 ghost use mathlib.Core.Path.{_≡_};
 ghost use Rattle.paper.specs.Job.{records};
@@ -57,7 +57,7 @@ pub fn next(job: &[u8], lw: u32, bw: u32, list: &mut [u16]) -> Answer
 }
 
 // Page: the best layouts after the one in `list`, one after the other in `page`.
-pub fn page(job: &[u8], lw: u32, bw: u32, list: &[u16], page: &mut [u16]) -> Paged
+pub fn page(job: &[u8], lw: u32, bw: u32, list: &[u16], page: &mut [u16]) -> Counted
     ensures { λ r. ⌜ PageAnswers (records (now (job .entry))) (byWeights lw bw) Work.Unlent (now (list .entry)) (now (page .entry)) r (now (page .exit)) ⌝ }
 {
     let v = verdicts::of_measure(
@@ -70,7 +70,7 @@ pub fn page(job: &[u8], lw: u32, bw: u32, list: &[u16], page: &mut [u16]) -> Pag
     );
     match v {
         Verdict::Sound => weighted::page(job, lw, bw, list, page),
-        Verdict::Refused(r) => Paged::Refused(r),
+        Verdict::Refused(r) => Counted::Refused(r),
     }
 }
 

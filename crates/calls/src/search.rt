@@ -1,7 +1,7 @@
 // The search by a table, once the checks are passed. It reads the table where it is lent.
 use layouts::Step;
 use paper::Answer;
-use paper::Paged;
+use paper::Counted;
 use paper::Refusal;
 use paper::Work;
 ghost use mathlib.Core.Path.{_≡_};
@@ -60,14 +60,14 @@ pub fn next(job: &[u8], figures: &[u32], list: &mut [u16]) -> Answer
     answer_of(layouts::next_on(job, figures, list))
 }
 
-pub fn page(job: &[u8], figures: &[u32], list: &[u16], page: &mut [u16]) -> Paged
+pub fn page(job: &[u8], figures: &[u32], list: &[u16], page: &mut [u16]) -> Counted
     requires { ⌜ Passed (measureTrials (records (now job)) (byTable (now figures)) Work.Unlent (now list)) ⌝ }
     ensures { λ r. ⌜ PageAnswers (records (now (job .entry))) (byTable (now (figures .entry))) Work.Unlent (now (list .entry)) (now (page .entry)) r (now (page .exit)) ⌝ }
 {
     let s = layouts::page_on(job, figures, list, page);
     if s.best {
-        Paged::Wrote(s.count)
+        Counted::Many(s.count)
     } else {
-        Paged::Refused(not_best())
+        Counted::Refused(not_best())
     }
 }

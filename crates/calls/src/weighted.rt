@@ -1,8 +1,8 @@
 // The search by weights, once the checks are passed: by the table of weighted lengths and bends.
 use crate::search;
 use paper::Answer;
+use paper::Counted;
 use paper::Form;
-use paper::Paged;
 use paper::Work;
 ghost use lib.ListN.{length};
 ghost use Rattle.paper.specs.Job.{records};
@@ -32,7 +32,7 @@ pub fn next(job: &[u8], lw: u32, bw: u32, list: &mut [u16]) -> Answer
     search::next(job, &figures[..square], list)
 }
 
-pub fn page(job: &[u8], lw: u32, bw: u32, list: &[u16], page: &mut [u16]) -> Paged
+pub fn page(job: &[u8], lw: u32, bw: u32, list: &[u16], page: &mut [u16]) -> Counted
     requires { ⌜ Passed (measureTrials (records (now job)) (byWeights lw bw) Work.Unlent (now list)) ⌝ }
     ensures { λ r. ⌜ PageAnswers (records (now (job .entry))) (byWeights lw bw) Work.Unlent (now (list .entry)) (now (page .entry)) r (now (page .exit)) ⌝ }
 {

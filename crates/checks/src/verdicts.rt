@@ -15,7 +15,7 @@ ghost use Rattle.paper.specs.Job.{count, portCount};
 ghost use Rattle.paper.specs.Layouts.{boardFrom, held};
 ghost use Rattle.paper.specs.Refusals.{workNeeded};
 ghost use Rattle.paper.specs.laws.Tests.{badWeight, badTable, badEntry, recordsTouch, atEach, atPairs, atWhole};
-ghost use Rattle.paper.specs.laws.Tests.{sizeTests, enoughTests, workTests, roomTests, fieldTests, placeTests, jobTests, layoutTests, soundTests, measureTests, drawTests};
+ghost use Rattle.paper.specs.laws.Tests.{sizeTests, enoughTests, workTests, roomTests, fieldTests, boardTests, jobTests, layoutTests, soundTests, measureTests, drawTests};
 ghost use Rattle.find.specs.Dispatch.{testOf, numberOf, Led};
 ghost use Rattle.checks.specs.Verdicts.{outcome, andThen, verdictAfter, givenTest, Formed, Short, Few};
 
@@ -158,9 +158,9 @@ fn of_fields(v: Verdict, form: Form, job: &[u8], ports: &[u8]) -> Verdict
 }
 
 // 5 and 12 of the ports, 6 and 7 of the pads.
-fn of_places(v: Verdict, form: Form, job: &[u8], ports: &[u8]) -> Verdict
+fn of_board(v: Verdict, form: Form, job: &[u8], ports: &[u8]) -> Verdict
     requires { ⌜ (v ≡ Verdict.Sound → Short (now job) (now ports)) ⌝ }
-    ensures { λ r. ⌜ r ≡ verdictAfter v (placeTests form (now (job .entry)) (now (ports .entry))) ⌝ }
+    ensures { λ r. ⌜ r ≡ verdictAfter v (boardTests form (now (job .entry)) (now (ports .entry))) ⌝ }
 {
     let v5 = try_records(v, 5, Check::Rise, form, job, ports);
     let v12 = try_records(v5, 12, Check::Space, form, job, ports);
@@ -174,7 +174,7 @@ pub fn of_job(v: Verdict, form: Form, job: &[u8], ports: &[u8]) -> Verdict
     ensures { λ r. ⌜ r ≡ verdictAfter v (jobTests form (now (job .entry)) (now (ports .entry))) ⌝ }
 {
     let v4 = of_fields(v, form, job, ports);
-    of_places(v4, form, job, ports)
+    of_board(v4, form, job, ports)
 }
 
 // 8 and 9: the layout.

@@ -1,17 +1,17 @@
 // The calls for C. A slice is a pointer and a count of elements. include/cheremysl.h is the manual; what each call promises, for every
 // input, is the promise of its name in paper's Promises.antt.
 use paper::Answer;
+use paper::Counted;
 use paper::Drawn;
-use paper::Paged;
 use paper::Refusal;
 use paper::Work;
 ghost use mathlib.Core.Path.{_≡_};
 ghost use lib.ListN.{length};
 ghost use Rattle.paper.specs.Job.{records, slots};
 ghost use Rattle.paper.specs.Layouts.{byWeights, byTable};
-ghost use Rattle.paper.specs.Promises.{refusalNumber, number, pagedNumber, drawnNumber};
+ghost use Rattle.paper.specs.Promises.{refusalNumber, number, countedNumber, drawnNumber};
 ghost use Rattle.paper.specs.Promises.{FirstPromise, NextPromise, PagePromise, MeasurePromise, DrawPromise, WorkPromise};
-ghost use Rattle.paper.specs.laws.Bounds.{Bounded, Counted};
+ghost use Rattle.paper.specs.laws.Bounds.{Bounded, BoundedCount};
 
 // C's number of a refusal, of an answer, of a page and of a drawn leader.
 fn of_refusal(f: Refusal) -> i64
@@ -32,13 +32,13 @@ fn of_answer(a: Answer) -> i64
     }
 }
 
-fn of_paged(a: Paged) -> i64
-    requires { ⌜ Counted a ⌝ }
-    ensures { λ r. ⌜ r ≡ pagedNumber a ⌝ }
+fn of_counted(a: Counted) -> i64
+    requires { ⌜ BoundedCount a ⌝ }
+    ensures { λ r. ⌜ r ≡ countedNumber a ⌝ }
 {
     match a {
-        Paged::Wrote(k) => k as i64,
-        Paged::Refused(f) => of_refusal(f),
+        Counted::Many(k) => k as i64,
+        Counted::Refused(f) => of_refusal(f),
     }
 }
 
@@ -86,7 +86,7 @@ pub extern "C" fn cheremysl_page(
 ) -> i64
     ensures { λ r. ⌜ PagePromise (records (now (job .entry))) (byWeights «length_weight» «bend_weight») Work.Unlent (now (layout .entry)) (now (page .entry)) r (now (page .exit)) ⌝ }
 {
-    of_paged(calls::page(job, length_weight, bend_weight, layout, page))
+    of_counted(calls::page(job, length_weight, bend_weight, layout, page))
 }
 
 #[no_mangle]

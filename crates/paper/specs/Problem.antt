@@ -1,7 +1,7 @@
 -- DEFINITIONS. One problem, of which all calls that seek layouts are instances: a board, which layouts count, and the value of a layout. That of 01, and of
 -- 02's tables, slots and squares, is Benkert's one-sided labeling: a layout counts if no two records touch, and its value is its total.
 use mathlib.Core.Path.{_≡_}
-use Prim.Native.Nat.{ℕ, _≤_, _<_}
+use Prim.Native.Nat.{ℕ, zero, suc, _+_, _≤_, _<_}
 use Rattle.paper.specs.Job.{Job}
 use Rattle.paper.specs.Layouts.{Board, boardOf, Untouching, Badness, costOf, total}
 
@@ -34,6 +34,19 @@ pub record NextBest (p : Problem) (l f : ℕ → ℕ) : Type 0 where
 
 abbrev pub LastBest : Problem → (ℕ → ℕ) → Type 0
 LastBest p l = (g : ℕ → ℕ) → Best p g → ¬ Before (p .board) l g
+
+-- 02: "Place k must equal First followed by k calls of Next, and the count must be one more than the last place". The layout f at place k, counted from 0; and
+-- there are c best layouts.
+abbrev pub PlaceBest : Problem → ℕ → (ℕ → ℕ) → Type 0
+PlaceBest p zero f = FirstBest p f
+PlaceBest p (suc k) f = (g : ℕ → ℕ) × PlaceBest p k g × NextBest p g f
+
+pub record CountBest (p : Problem) (c : ℕ) : Type 0 where
+  pub last : ℕ
+  pub layout : ℕ → ℕ
+  pub at : PlaceBest p last layout
+  pub end : LastBest p layout
+  pub more : c ≡ last + 1
 
 -- One-sided labeling, for any cost of leading a pad to a port: a best layout has no touching pair, and no layout without a touching pair has a smaller total.
 abbrev pub labeling : Board → (ℕ → ℕ → ℕ) → Problem

@@ -1,6 +1,6 @@
 -- DEFINITIONS. 01, "The calls": what each call promises for every input, by cases of its answer, and the number that C gets.
 -- A call is given a job, numbers or a table, and a lent list that holds `before` at entry and `after` at exit. Page is given a layout besides, which is only read.
--- Of the work list that First and Next may be lent, a promise knows the length alone: what it holds on entry changes no answer.
+-- Of the work list that First and Next may be lent, and of the buffer of Count and Place, a promise knows the length alone: what it holds on entry changes no answer.
 use mathlib.Core.Path.{_≡_}
 use mathlib.Core.Logic.{_≢_, _⊎_, _↔_}
 use mathlib.Core.List.{List, [], _∷_, _++_}
@@ -12,16 +12,16 @@ use lib.Ieee.{Float}
 use Rattle.paper.specs.declared.Refusal.{Refusal}
 use Rattle.paper.specs.declared.Answer.{Answer}
 use Rattle.paper.specs.declared.Answer.the-variants.{Total, End, Refused}
-use Rattle.paper.specs.declared.Paged.{Paged}
-use Rattle.paper.specs.declared.Paged.the-variants.{Wrote, Refused as NotPaged}
+use Rattle.paper.specs.declared.Counted.{Counted}
+use Rattle.paper.specs.declared.Counted.the-variants.{Many, Refused as NotCounted}
 use Rattle.paper.specs.declared.Drawn.{Drawn}
 use Rattle.paper.specs.declared.Drawn.the-variants.{Straight, Bent, Refused as NotDrawn}
 use Rattle.paper.specs.declared.Work.{Work}
 use Rattle.paper.specs.declared.Work.the-variants.{Unlent}
 use Rattle.paper.specs.Job.{Job, records}
 use Rattle.paper.specs.Layouts.{boardOf, held, leader, Badness}
-use Rattle.paper.specs.Problem.{Problem, FirstBest, NextBest, LastBest}
-use Rattle.paper.specs.Refusals.{Trial, Passed, RefusedBy, refusal, drawTrials, Calls, entries, callsOf}
+use Rattle.paper.specs.Problem.{Problem, FirstBest, NextBest, LastBest, PlaceBest, CountBest}
+use Rattle.paper.specs.Refusals.{Trial, Passed, RefusedBy, refusal, drawTrials, Calls, entries, callsOf, countTrials, placeTrials}
 use Rattle.paper.specs.Canvas.{DrawnStraight, DrawnBent}
 
 -- ---- C's number for each answer
@@ -40,10 +40,10 @@ number (Total t) = pos t
 number End = negsuc 0
 number (Refused r) = refusalNumber r
 
--- Page's: how many layouts it wrote as itself, or the refusal's
-abbrev pub pagedNumber : Paged → ℤ
-pagedNumber (Wrote k) = pos k
-pagedNumber (NotPaged r) = refusalNumber r
+-- Page's and Count's: how many layouts as itself, or the refusal's
+abbrev pub countedNumber : Counted → ℤ
+countedNumber (Many k) = pos k
+countedNumber (NotCounted r) = refusalNumber r
 
 -- Draw's: its number of points as itself, or the refusal's
 abbrev pub drawnNumber : Drawn → ℤ
@@ -101,15 +101,27 @@ pub record Following (p : Problem) (given before : List ℕ) (k : ℕ) (after : 
   pub kept : Kept (k * p .board .pads) before after
 
 -- Its trials are Next's, of the given layout: none speaks of the page.
-abbrev pub PageOver : Calls → List ℕ → List ℕ → Paged → List ℕ → Type 0
-PageOver c given before (Wrote k) after = Passed (c .next given) × Following (c .problem) given before k after
-PageOver c given before (NotPaged r) after = RefusedBy (c .next given) r × (after ≡ before)
+abbrev pub PageOver : Calls → List ℕ → List ℕ → Counted → List ℕ → Type 0
+PageOver c given before (Many k) after = Passed (c .next given) × Following (c .problem) given before k after
+PageOver c given before (NotCounted r) after = RefusedBy (c .next given) r × (after ≡ before)
 
 -- MEASURE: the value of a layout that counts, best or not. Its list is only read.
 abbrev pub MeasureOver : Calls → List ℕ → Answer → Type 0
 MeasureOver c list (Total t) = Passed (c .measure list) × (t ≡ c .problem .value (held list))
 MeasureOver c list End = ⊥
 MeasureOver c list (Refused r) = RefusedBy (c .measure list) r
+
+-- COUNT, with a buffer of so many numbers: how many best layouts there are.
+abbrev pub CountOver : Calls → ℕ → Counted → Type 0
+CountOver c numbers (Many k) = Passed (countTrials c numbers) × CountBest (c .problem) k
+CountOver c numbers (NotCounted r) = RefusedBy (countTrials c numbers) r
+
+-- PLACE: the layout at that place fills the first n entries, and the answer is its value.
+abbrev pub PlaceOver : Calls → ℕ → ℕ → List ℕ → Answer → List ℕ → Type 0
+PlaceOver c numbers place before (Total t) after =
+    Passed (placeTrials c numbers place (length before)) × PlaceBest (c .problem) place (held after) × (t ≡ c .problem .value (held after)) × Kept (entries c) before after
+PlaceOver c numbers place before End after = ⊥
+PlaceOver c numbers place before (Refused r) after = RefusedBy (placeTrials c numbers place (length before)) r × (after ≡ before)
 
 -- ---- what C sees: the number m of such an answer, and the list
 
@@ -120,19 +132,32 @@ abbrev pub NextReplies : Calls → List ℕ → ℤ → List ℕ → Type 0
 NextReplies c before m after = (a : Answer) × NextOver c before a after × (m ≡ number a)
 
 abbrev pub PageReplies : Calls → List ℕ → List ℕ → ℤ → List ℕ → Type 0
-PageReplies c given before m after = (a : Paged) × PageOver c given before a after × (m ≡ pagedNumber a)
+PageReplies c given before m after = (a : Counted) × PageOver c given before a after × (m ≡ countedNumber a)
 
 abbrev pub MeasureReplies : Calls → List ℕ → ℤ → Type 0
 MeasureReplies c list m = (a : Answer) × MeasureOver c list a × (m ≡ number a)
 
--- A work list holds what it held after every refusal but 10 and 15. After these, an end or a total its content is left open (docs/OPEN-REPLIES.md).
+abbrev pub CountReplies : Calls → ℕ → ℤ → Type 0
+CountReplies c numbers m = (a : Counted) × CountOver c numbers a × (m ≡ countedNumber a)
+
+abbrev pub PlaceReplies : Calls → ℕ → ℕ → List ℕ → ℤ → List ℕ → Type 0
+PlaceReplies c numbers place before m after = (a : Answer) × PlaceOver c numbers place before a after × (m ≡ number a)
+
+-- What is lent for work holds what it held after every refusal but two. After these, an end, a total or a count its content is left open (docs/OPEN-REPLIES.md).
+abbrev pub OpenAfter : ℕ → ℕ → ℤ → List ℕ → List ℕ → Type 0
+OpenAfter r s m before after = m ≤ℤ negℤ (pos 65536) → (refusalIn m .reason ≢ r) → (refusalIn m .reason ≢ s) → after ≡ before
+
+-- A work list: 10 and 15; and the buffer of Count and Place: 16 and 17.
 abbrev pub WorkAfter : Answer → List ℕ → List ℕ → Type 0
 WorkAfter (Total t) before after = Unit {0}
 WorkAfter End before after = Unit {0}
 WorkAfter (Refused r) before after = (r .reason ≢ 10) → (r .reason ≢ 15) → after ≡ before
 
 abbrev pub WorkPromise : ℤ → List ℕ → List ℕ → Type 0
-WorkPromise m before after = m ≤ℤ negℤ (pos 65536) → (refusalIn m .reason ≢ 10) → (refusalIn m .reason ≢ 15) → after ≡ before
+WorkPromise = OpenAfter 10 15
+
+abbrev pub BufferPromise : ℤ → List ℕ → List ℕ → Type 0
+BufferPromise = OpenAfter 16 17
 
 -- ---- the calls on a job, by weights and by tables: their answers in the language, and their promises to C
 
@@ -142,11 +167,17 @@ FirstAnswers job bad work = FirstOver (callsOf job bad work)
 abbrev pub NextAnswers : Job → Badness → Work → List ℕ → Answer → List ℕ → Type 0
 NextAnswers job bad work = NextOver (callsOf job bad work)
 
-abbrev pub PageAnswers : Job → Badness → Work → List ℕ → List ℕ → Paged → List ℕ → Type 0
+abbrev pub PageAnswers : Job → Badness → Work → List ℕ → List ℕ → Counted → List ℕ → Type 0
 PageAnswers job bad work = PageOver (callsOf job bad work)
 
 abbrev pub MeasureAnswers : Job → Badness → List ℕ → Answer → Type 0
 MeasureAnswers job bad = MeasureOver (callsOf job bad Unlent)
+
+abbrev pub CountAnswers : Job → Badness → ℕ → Counted → Type 0
+CountAnswers job bad = CountOver (callsOf job bad Unlent)
+
+abbrev pub PlaceAnswers : Job → Badness → ℕ → ℕ → List ℕ → Answer → List ℕ → Type 0
+PlaceAnswers job bad = PlaceOver (callsOf job bad Unlent)
 
 abbrev pub FirstPromise : Job → Badness → Work → List ℕ → ℤ → List ℕ → Type 0
 FirstPromise job bad work = FirstReplies (callsOf job bad work)
@@ -159,6 +190,12 @@ PagePromise job bad work = PageReplies (callsOf job bad work)
 
 abbrev pub MeasurePromise : Job → Badness → List ℕ → ℤ → Type 0
 MeasurePromise job bad = MeasureReplies (callsOf job bad Unlent)
+
+abbrev pub CountPromise : Job → Badness → ℕ → ℤ → Type 0
+CountPromise job bad = CountReplies (callsOf job bad Unlent)
+
+abbrev pub PlacePromise : Job → Badness → ℕ → ℕ → List ℕ → ℤ → List ℕ → Type 0
+PlacePromise job bad = PlaceReplies (callsOf job bad Unlent)
 
 -- DRAW: the leader of the pad of record i to port q.
 abbrev pub DrawAnswers : List ℕ → ℕ → ℕ → List Float → Drawn → List Float → Type 0

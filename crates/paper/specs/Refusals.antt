@@ -1,4 +1,4 @@
--- DEFINITIONS. 01, "Refusal numbers", and of 02, 12, 13, 14, 15, 24 and both records of 9: what is at fault for each number, and each call's trials, in their order.
+-- DEFINITIONS. 01, "Refusal numbers", and of 02, 12 to 18, 24 and both records of 9: what is at fault for each number, and each call's trials, in their order.
 use mathlib.Core.Path.{_≡_}
 use mathlib.Core.Logic.{_≢_, _⊎_}
 use mathlib.Core.List.{List, [], _∷_, _++_}
@@ -13,7 +13,7 @@ use Rattle.paper.specs.declared.Work.{Work}
 use Rattle.paper.specs.declared.Work.the-variants.{Unlent, Lent}
 use Rattle.paper.specs.Job.{Job, records, slots, padsOf, twos, count, nameOf, halfOf, xOf, yOf, lastOf, portCount, portOf}
 use Rattle.paper.specs.Layouts.{Board, boardOf, held, Touching, Badness, byWeights, byTable}
-use Rattle.paper.specs.Problem.{Problem, Best, labelingOf}
+use Rattle.paper.specs.Problem.{Problem, Best, CountBest, labelingOf}
 
 -- ---- trials
 
@@ -136,8 +136,8 @@ fieldTrials (slots pads ports) =
     ofEach 4 (count pads) (BadField Slots pads) ∷ ofEach 4 (portCount Slots ports) (λ q. Outside (portOf Slots ports q)) ∷ []
 
 -- 5 and 12 of the ports, and 6 and 7 of the pads
-abbrev pub placeTrials : Job → List Trial
-placeTrials job =
+abbrev pub boardTrials : Job → List Trial
+boardTrials job =
     ofEach 5 (boardOf job .ports) (NotAbove (boardOf job .port)) ∷
     ofEach 12 (boardOf job .ports) (TooClose (boardOf job .port)) ∷
     ofEach 6 (boardOf job .pads) (Earlier (SameName (padsOf job))) ∷
@@ -146,7 +146,7 @@ placeTrials job =
 
 -- 4 to 7, and 12 directly after 5
 abbrev pub jobTrials : Job → List Trial
-jobTrials job = fieldTrials job ++ placeTrials job
+jobTrials job = fieldTrials job ++ boardTrials job
 
 -- 8 and 9: the layout that the list holds. 9: a record touches an earlier one; both are named (02)
 abbrev pub pairTrials : Board → (ℕ → ℕ → Type 0) → List ℕ → List Trial
@@ -224,6 +224,32 @@ callsOf job bad work = record {
   measure = measureTrials job bad Unlent;
   next = nextTrials job bad work;
 }
+
+-- ---- counting and placing (02)
+
+-- 16: there are more best layouts than 1,000,000,000,000,000,000; 17: the place is at or past their number; 18: the buffer has fewer than 2(n + 2)² numbers
+abbrev pub limit : ℕ
+limit = 1000000000000000000
+
+abbrev pub bufferNeeded : ℕ → ℕ
+bufferNeeded n = 2 * ((n + 2) * (n + 2))
+
+abbrev pub TooMany : Problem → Type 0
+TooMany p = (c : ℕ) × CountBest p c × (limit < c)
+
+abbrev pub PastCount : Problem → ℕ → Type 0
+PastCount p place = (c : ℕ) × CountBest p c × (c ≤ place)
+
+abbrev pub numberTrials : Problem → ℕ → List Trial
+numberTrials p numbers = ofWhole 18 (numbers < bufferNeeded (p .board .pads)) ∷ ofWhole 16 (TooMany p) ∷ []
+
+-- Place, with a buffer of so many numbers and room for so many entries: First's, 18, 16 and 17. Count takes no list and no place: First's where there is room for a
+-- layout, 18 and 16.
+abbrev pub placeTrials : Calls → ℕ → ℕ → ℕ → List Trial
+placeTrials c numbers place room = c .first room ++ (numberTrials (c .problem) numbers ++ (ofWhole 17 (PastCount (c .problem) place) ∷ []))
+
+abbrev pub countTrials : Calls → ℕ → List Trial
+countTrials c numbers = c .first (entries c) ++ numberTrials (c .problem) numbers
 
 -- ---- which records a refusal names
 

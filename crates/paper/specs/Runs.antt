@@ -3,7 +3,7 @@
 use mathlib.Core.Path.{_≡_}
 use mathlib.Core.Logic.{_⊎_}
 use mathlib.Core.List.{List, [], _∷_, _++_}
-use Prim.Native.Nat.{ℕ, suc, _+_, _*_, _≤_, _<_}
+use Prim.Native.Nat.{ℕ, zero, suc, _+_, _*_, _≤_, _<_}
 use lib.ListN.{length, getD}
 use lib.IntN.{ℤ, pos, negsuc, negℤ}
 use lib.Signed.{_≤ℤ_}
@@ -30,6 +30,11 @@ NextSoFar c list (l ∷ ls) = (t : ℕ) × NextReplies c list (pos t) l × NextS
 abbrev pub SoFar : Calls → List ℕ → List (List ℕ) → Type 0
 SoFar c list [] = Unit {0}
 SoFar c list (l ∷ ls) = (t : ℕ) × FirstReplies c list (pos t) l × NextSoFar c l ls
+
+-- First, and then k times Next: the number that the last of these calls answers, and the list that it leaves.
+abbrev pub AskedTo : Calls → List ℕ → ℕ → ℤ → List ℕ → Type 0
+AskedTo c list zero m l = FirstReplies c list m l
+AskedTo c list (suc k) m l = (t : ℕ) × (g : List ℕ) × AskedTo c list k (pos t) g × NextReplies c g m l
 
 -- One of these lists holds the layout f, and no other does.
 pub record Once (b : Board) (f : ℕ → ℕ) (ls : List (List ℕ)) : Type 0 where

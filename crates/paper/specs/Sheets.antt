@@ -11,9 +11,9 @@ use Rattle.paper.specs.Layouts.{Badness, byWeights, byTable}
 use Rattle.paper.specs.Refusals.{refusal}
 use Rattle.paper.specs.declared.Answer.{Answer}
 use Rattle.paper.specs.declared.Answer.the-variants.{Total, End, Refused}
-use Rattle.paper.specs.declared.Paged.{Paged}
-use Rattle.paper.specs.declared.Paged.the-variants.{Wrote, Refused as NotPaged}
-use Rattle.paper.specs.Promises.{number, pagedNumber, FirstPromise, NextPromise, PagePromise, MeasurePromise}
+use Rattle.paper.specs.declared.Counted.{Counted}
+use Rattle.paper.specs.declared.Counted.the-variants.{Many, Refused as NotCounted}
+use Rattle.paper.specs.Promises.{number, countedNumber, FirstPromise, NextPromise, PagePromise, MeasurePromise}
 
 -- 4 bytes, lowest first; a record of a name and a half-side, a pad (x, y) and a port height; and one whose pad is a point
 abbrev pub bytes4 : ℕ → List ℕ
@@ -221,29 +221,29 @@ pub record PageSheet : Type 0 where
   pub bad : Badness
   pub given : List ℕ
   pub before : List ℕ
-  pub answer : Paged
+  pub answer : Counted
   pub after : List ℕ
 
 abbrev pub PageAllowed : PageSheet → Type 0
-PageAllowed s = PagePromise (s .job) (s .bad) Unlent (s .given) (s .before) (pagedNumber (s .answer)) (s .after)
+PageAllowed s = PagePromise (s .job) (s .bad) Unlent (s .given) (s .before) (countedNumber (s .answer)) (s .after)
 
-abbrev pub pageSheet : List ℕ → ℕ → ℕ → List ℕ → List ℕ → Paged → List ℕ → PageSheet
+abbrev pub pageSheet : List ℕ → ℕ → ℕ → List ℕ → List ℕ → Counted → List ℕ → PageSheet
 pageSheet bytes lw bw given before answer after = record { job = records bytes; bad = byWeights lw bw; given = given; before = before; answer = answer; after = after }
 
-abbrev pub pageRefused : ℕ → ℕ → Paged
-pageRefused r i = NotPaged (refusal r i 0)
+abbrev pub pageRefused : ℕ → ℕ → Counted
+pageRefused r i = NotCounted (refusal r i 0)
 
 -- In this order: fewer than fit, where the end comes; none after the last; no room for one; as many as fit; two; a refusal; a refusal without room;
 -- both records of 9; a square that is met.
 abbrev pub pages : List PageSheet
 pages =
-    pageSheet J3 1 0 (1 ∷ 0 ∷ []) (9 ∷ 9 ∷ 9 ∷ 9 ∷ 9 ∷ []) (Wrote 1) (0 ∷ 1 ∷ 9 ∷ 9 ∷ 9 ∷ []) ∷
-    pageSheet J3 1 0 (0 ∷ 1 ∷ []) (9 ∷ 9 ∷ 9 ∷ 9 ∷ 9 ∷ []) (Wrote 0) (9 ∷ 9 ∷ 9 ∷ 9 ∷ 9 ∷ []) ∷
-    pageSheet J3 1 0 (1 ∷ 0 ∷ []) (9 ∷ []) (Wrote 0) (9 ∷ []) ∷
-    pageSheet J3plus 1 0 (1 ∷ 2 ∷ 0 ∷ []) (9 ∷ 9 ∷ 9 ∷ 9 ∷ 9 ∷ []) (Wrote 1) (1 ∷ 0 ∷ 2 ∷ 9 ∷ 9 ∷ []) ∷
-    pageSheet J3plus 1 0 (1 ∷ 2 ∷ 0 ∷ []) (9 ∷ 9 ∷ 9 ∷ 9 ∷ 9 ∷ 9 ∷ 9 ∷ []) (Wrote 2) (1 ∷ 0 ∷ 2 ∷ 0 ∷ 1 ∷ 2 ∷ 9 ∷ []) ∷
+    pageSheet J3 1 0 (1 ∷ 0 ∷ []) (9 ∷ 9 ∷ 9 ∷ 9 ∷ 9 ∷ []) (Many 1) (0 ∷ 1 ∷ 9 ∷ 9 ∷ 9 ∷ []) ∷
+    pageSheet J3 1 0 (0 ∷ 1 ∷ []) (9 ∷ 9 ∷ 9 ∷ 9 ∷ 9 ∷ []) (Many 0) (9 ∷ 9 ∷ 9 ∷ 9 ∷ 9 ∷ []) ∷
+    pageSheet J3 1 0 (1 ∷ 0 ∷ []) (9 ∷ []) (Many 0) (9 ∷ []) ∷
+    pageSheet J3plus 1 0 (1 ∷ 2 ∷ 0 ∷ []) (9 ∷ 9 ∷ 9 ∷ 9 ∷ 9 ∷ []) (Many 1) (1 ∷ 0 ∷ 2 ∷ 9 ∷ 9 ∷ []) ∷
+    pageSheet J3plus 1 0 (1 ∷ 2 ∷ 0 ∷ []) (9 ∷ 9 ∷ 9 ∷ 9 ∷ 9 ∷ 9 ∷ 9 ∷ []) (Many 2) (1 ∷ 0 ∷ 2 ∷ 0 ∷ 1 ∷ 2 ∷ 9 ∷ []) ∷
     pageSheet J3 1 0 (0 ∷ 0 ∷ []) (9 ∷ 9 ∷ 9 ∷ 9 ∷ 9 ∷ []) (pageRefused 8 1) (9 ∷ 9 ∷ 9 ∷ 9 ∷ 9 ∷ []) ∷
     pageSheet J4 1 0 (1 ∷ 0 ∷ []) [] (pageRefused 10 0) [] ∷
-    pageSheet J5 1 0 (1 ∷ 0 ∷ 2 ∷ []) (9 ∷ 9 ∷ 9 ∷ []) (NotPaged (refusal 9 2 1)) (9 ∷ 9 ∷ 9 ∷ []) ∷
-    pageSheet (copper 4) 1 0 (0 ∷ 1 ∷ []) (9 ∷ 9 ∷ []) (NotPaged (refusal 9 1 0)) (9 ∷ 9 ∷ []) ∷
+    pageSheet J5 1 0 (1 ∷ 0 ∷ 2 ∷ []) (9 ∷ 9 ∷ 9 ∷ []) (NotCounted (refusal 9 2 1)) (9 ∷ 9 ∷ 9 ∷ []) ∷
+    pageSheet (copper 4) 1 0 (0 ∷ 1 ∷ []) (9 ∷ 9 ∷ []) (NotCounted (refusal 9 1 0)) (9 ∷ 9 ∷ []) ∷
     []

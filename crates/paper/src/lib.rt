@@ -26,9 +26,9 @@ pub enum Answer {
     Refused(Refusal),
 }
 
-// What Page answers: how many layouts it wrote.
-pub enum Paged {
-    Wrote(u64),
+// What Page and Count answer: how many layouts it wrote, and how many best ones there are.
+pub enum Counted {
+    Many(u64),
     Refused(Refusal),
 }
 

@@ -14,7 +14,7 @@ use Rattle.pads.specs.Pads.{Sides, fits, bit, padsIn, sidesOf, Pads}
 use Rattle.totals.specs.Strip.{bestWithin}
 use Rattle.totals.specs.Cell.{figures, gridOf, cornerOf, place, coded, Sizes, Cell, Rows, Parts, CopiedRow, Table}
 use Rattle.pads.specs.Counts.{le-or-lt, spans-by}
-use Rattle.totals.proofs.Corners.{corner-top, place-start, place-end}
+use Rattle.totals.proofs.Corners.{corner-mono, corner-top, place-listed, place-start, place-end}
 use Rattle.totals.proofs.Cells.{cell-right}
 
 -- the rows after a are right, and the row of a is right before b
@@ -22,8 +22,14 @@ pub record Row (S : Sides) (C : ℕ → ℕ → Least) (order hs ts : List ℕ) 
   pub after : Rows S C order hs ts (a + 1)
   pub done : (b′ : ℕ) → a ≤ b′ → b′ < b → Cell S C order a b′ (getD hs (place a b′) 0) (getD ts (place a b′) 0)
 
+-- tables for 64 ports are long enough
+pub long-enough : (n l : ℕ) → n ≤ 64 → l ≡ 2145 → cornerOf (n + 1) ≤ l
+unfolding cornerOf
+long-enough n l few e = omega (arith, corner-mono (n + 1) 65 (omega arith))
+
 -- other tables of the same length
-pub sizes-with : {hs ts hs′ ts′ order cs bs : List ℕ} → Sizes hs ts order cs bs → length hs′ ≡ 2145 → length ts′ ≡ 2145 → Sizes hs′ ts′ order cs bs
+pub sizes-with : {hs ts hs′ ts′ order cs bs : List ℕ} → Sizes hs ts order cs bs → length hs′ ≡ 2145 → cornerOf (length order + 1) ≤ length ts′
+    → Sizes hs′ ts′ order cs bs
 sizes-with Z h t = record { heads = h; totals = t; square = Z .square; bars = Z .bars; cheap = Z .cheap }
 
 module _ (S : Sides) (C : ℕ → ℕ → Least) (order : List ℕ) where
@@ -38,14 +44,15 @@ module _ (S : Sides) (C : ℕ → ℕ → Least) (order : List ℕ) where
       → Cell S C order a b (getD (set hs p h) (place a b) 0) (getD (set ts p v) (place a b) 0)
   cell-kept hs ts p h v a b ne L = rw (getD-set-other hs p (place a b) h 0 ne, getD-set-other ts p (place a b) v 0 ne) L
 
-  pub row-step : (hs ts : List ℕ) (a b h v p : ℕ) → p ≡ place a b → length order ≤ 64 → a ≤ b → b ≤ length order → length hs ≡ 2145 → length ts ≡ 2145
-      → Cell S C order a b h v → Row S C order hs ts a b → Row S C order (set hs p h) (set ts p v) a (b + 1)
+  pub row-step : (hs ts : List ℕ) (a b h v p : ℕ) → p ≡ place a b → length order ≤ 64 → a ≤ b → b ≤ length order → length hs ≡ 2145
+      → cornerOf (length order + 1) ≤ length ts → Cell S C order a b h v → Row S C order hs ts a b → Row S C order (set hs p h) (set ts p v) a (b + 1)
   row-step hs ts a b h v p e few ab bn lh lt L R = rw e (record {
     after = λ a′ b′ u w x. cell-kept hs ts (place a b) h v a′ b′ (λ e. let s = place-start a′ b′ a b w ab e in absurd (omega arith)) (R .after a′ b′ u w x);
     done = λ b′ u w. ⊎-elim
         (λ (x : b ≤ b′). let e : b ≡ b′ = omega arith in
         subst (λ (k : ℕ). Cell S C order a k (getD (set hs (place a b) h) (place a k) 0) (getD (set ts (place a b) v) (place a k) 0)) e
-        (let t = corner-top b (omega arith) in rw (getD-set-same hs (place a b) h 0 (omega arith), getD-set-same ts (place a b) v 0 (omega arith)) L))
+        (let t = corner-top b (omega arith) in let l = place-listed a b (length order) ab bn in
+        rw (getD-set-same hs (place a b) h 0 (omega arith), getD-set-same ts (place a b) v 0 (omega arith)) L))
         (λ (x : b′ < b). cell-kept hs ts (place a b) h v a b′ (λ e. let s = place-end a b′ a b u ab e in absurd (omega arith)) (R .done b′ u x))
         (le-or-lt b b′);
   })
@@ -62,16 +69,16 @@ module _ (S : Sides) (C : ℕ → ℕ → Least) (order : List ℕ) where
 pub copied-start : (rh rt hs ts : List ℕ) (a : ℕ) → length rh ≡ 65 → length rt ≡ 65 → CopiedRow rh rt hs ts a a
 copied-start rh rt hs ts a lh lt = record { heads = lh; totals = lt; same = λ q u v. absurd (omega arith) }
 
-same-after : (rs hs : List ℕ) (a b h p q : ℕ) → p ≡ place a b → length rs ≡ 65 → length hs ≡ 2145 → a ≤ b → b ≤ 64 → a ≤ q → q < b + 1
+same-after : (rs hs : List ℕ) (a b h p q : ℕ) → p ≡ place a b → length rs ≡ 65 → place a b < length hs → a ≤ b → b ≤ 64 → a ≤ q → q < b + 1
     → (q < b → getD rs q 0 ≡ getD hs (place a q) 0) → getD (set rs b h) q 0 ≡ getD (set hs p h) (place a q) 0
 same-after rs hs a b h p q e lr lh ab b64 aq qb was = rw e (⊎-elim
     (λ (x : b ≤ q). let s : b ≡ q = omega arith in subst (λ (k : ℕ). getD (set rs b h) k 0 ≡ getD (set hs (place a b) h) (place a k) 0) s
-    (let t = corner-top b b64 in getD-set-same rs b h 0 (omega arith) ∙ sym (getD-set-same hs (place a b) h 0 (omega arith))))
+    (getD-set-same rs b h 0 (omega arith) ∙ sym (getD-set-same hs (place a b) h 0 lh)))
     (λ (x : q < b). getD-set-other rs b q h 0 (λ n. absurd (omega arith)) ∙ was x
     ∙ sym (getD-set-other hs (place a b) (place a q) h 0 (λ n. let s = place-end a q a b aq ab n in absurd (omega arith))))
     (le-or-lt b q))
 
-pub copied-step : (rh rt hs ts : List ℕ) (a b h v p : ℕ) → p ≡ place a b → a ≤ b → b ≤ 64 → length hs ≡ 2145 → length ts ≡ 2145
+pub copied-step : (rh rt hs ts : List ℕ) (a b h v p : ℕ) → p ≡ place a b → a ≤ b → b ≤ 64 → place a b < length hs → place a b < length ts
     → CopiedRow rh rt hs ts a b → CopiedRow (set rh b h) (set rt b v) (set hs p h) (set ts p v) a (b + 1)
 copied-step rh rt hs ts a b h v p e ab b64 lh lt K = record {
   heads = length-set rh b h ∙ K .heads;

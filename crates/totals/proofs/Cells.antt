@@ -17,7 +17,7 @@ use Rattle.totals.specs.Strip.{partedWithin, bestWithin, localWithin}
 use Rattle.totals.specs.Cell.{noTotal, figures, choice, place, coded, Sizes, Strip, Valued, Cell, Parts, Port, sumAt, portTotal}
 use Rattle.pads.specs.Counts.{le-or-lt, bit-le, bit-true, count-step, count-drop, count-end}
 use Rattle.totals.specs.Parted.{parted-least, parts-most, parted-less}
-use Rattle.totals.proofs.Corners.{corner-top}
+use Rattle.totals.proofs.Corners.{corner-top, place-listed}
 use Rattle.totals.specs.Masks.{add, best-in, local-parted}
 use Rattle.totals.proofs.Ports.{Lower}
 use Rattle.totals.specs.Totals.{local-none, crowded, same-from, idle, Capped, most-best, coded-none, coded-some, local-most, coded-least}
@@ -174,7 +174,7 @@ module _ {hs ts order cs bs lo hi : List ℕ} (P : Pads order lo hi (length orde
       low-head = L .head-listed;
       low-total = L .total-listed;
       high-head = let t = corner-top b b64 in omega (arith, b64, Z .heads);
-      high-total = let t = corner-top b b64 in omega (arith, b64, Z .totals);
+      high-total = omega (arith, Z .totals, place-listed (q + 1) b (length order) (omega arith) (T .ports));
       listed = let f = place-in (length order) (length order) (getD order r 0) q (P .listed r (T .listed)) (omega (arith, T .ports)) in omega (arith, Z .square);
       bar-listed = let f = place-in (length order) (length order) (getD order r 0) q (P .listed r (T .listed)) (omega (arith, T .ports)) in omega (arith, Z .bars);
       small = rw (L .head, L .total, ea) (λ u v. small-parts (sidesOf lo hi) (figures cs bs (length order)) (P .level) (figures-cheap Z) order r a b q (T .listed) b64 aq qb

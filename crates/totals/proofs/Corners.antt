@@ -17,7 +17,7 @@ unfolding cornerOf
 corner-twice zero = refl
 corner-twice (suc b) = let m = corner-twice b in let p = suc-mul b (suc b + 1) in omega (arith, m, p)
 
-corner-mono : (a b : ℕ) → a ≤ b → cornerOf a ≤ cornerOf b
+pub corner-mono : (a b : ℕ) → a ≤ b → cornerOf a ≤ cornerOf b
 unfolding cornerOf
 corner-mono a zero h = let e : a ≡ 0 = omega arith in rw e zero-le
 corner-mono a (suc b) h =
@@ -29,6 +29,10 @@ corner-top b h = corner-mono b 64 h
 
 corner-next : (b b′ : ℕ) → b < b′ → cornerOf b + b < cornerOf b′
 corner-next b b′ h = let m = corner-mono (b + 1) b′ (omega arith) in let s = corner-step b in omega arith
+
+-- the strips of n ports have their places before those that end after them
+pub place-listed : (a b n : ℕ) → a ≤ b → b ≤ n → place a b < cornerOf (n + 1)
+place-listed a b n h l = let m = corner-next b (n + 1) (omega arith) in omega arith
 
 -- two strips with one place end together, and so start together
 pub place-end : (a b a′ b′ : ℕ) → a ≤ b → a′ ≤ b′ → place a b ≡ place a′ b′ → b ≡ b′

@@ -66,7 +66,7 @@ module _ {hs ts order cs bs lo hi : List ℕ} (P : Pads order lo hi (length orde
     portSum = portTotal hs ts hs ts cs bs (r + 1) (getD order r 0 * length order) q below above
 
     right : portSum ≡ coded (choice order cs bs lo hi r a b q)
-    right = port-right P (T .sizes) r a b ready-strip table-parts q aq qb below above (in-table (T .sizes) a q below aq (omega (arith, O .ports, P .few)) eb) ea
+    right = port-right P (T .sizes) r a b ready-strip table-parts q aq qb below above (in-table (T .sizes) a q below aq (omega (arith, O .ports)) (omega (arith, O .ports, P .few)) eb) ea
 
     pub attains-yes : x ≡ true → Leads (gridOf order cs bs lo hi) order r a b q
     attains-yes e = leads-yes S C order r a b (O .listed) (O .here) noTotal q portSum least right (el ∙ table-best) has aq qb (eqb-true portSum least (sym is ∙ e))

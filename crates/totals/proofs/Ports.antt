@@ -10,7 +10,7 @@ use lib.ListN.{length, getD}
 use borrow.Author.Tests.{ltb-true, eqb-true, eqb-false, eq-eqb, ne-eqb}
 use Rattle.strips.specs.Lists.{both}
 use Rattle.totals.specs.Cell.{noTotal, place, Sizes, CopiedRow, Port, opens, sumAt, portTotal}
-use Rattle.totals.proofs.Corners.{corner-top}
+use Rattle.totals.proofs.Corners.{corner-top, place-listed}
 
 -- the lists hb and tb have at `below` what the tables have of the strip a .. q - 1
 pub record Lower (hb tb hs ts : List ℕ) (a q below : ℕ) : Type 0 where
@@ -19,10 +19,11 @@ pub record Lower (hb tb hs ts : List ℕ) (a q below : ℕ) : Type 0 where
   pub head : getD hb below 0 ≡ getD hs (place a q) 0
   pub total : getD tb below 0 ≡ getD ts (place a q) 0
 
-pub in-table : {hs ts order cs bs : List ℕ} → Sizes hs ts order cs bs → (a q below : ℕ) → a ≤ q → q ≤ 64 → below ≡ place a q → Lower hs ts hs ts a q below
-in-table {hs} {ts} Z a q below aq q64 e = let t = corner-top q q64 in record {
+pub in-table : {hs ts order cs bs : List ℕ} → Sizes hs ts order cs bs → (a q below : ℕ) → a ≤ q → q ≤ length order → q ≤ 64 → below ≡ place a q
+    → Lower hs ts hs ts a q below
+in-table {hs} {ts} {order} Z a q below aq qn q64 e = let t = corner-top q q64 in record {
   head-listed = omega (arith, Z .heads);
-  total-listed = omega (arith, Z .totals);
+  total-listed = omega (arith, Z .totals, place-listed a q (length order) aq qn);
   head = ap (λ (k : ℕ). getD hs k 0) e;
   total = ap (λ (k : ℕ). getD ts k 0) e;
 }

@@ -55,10 +55,19 @@ pub record Cell (S : Sides) (C : ℕ → ℕ → Least) (order : List ℕ) (a b 
   pub value : (s : ℕ) → h ≡ s + 1 → bestWithin S C (drop s order) a b ≡ some v
   pub nothing : h ≡ 0 → v ≡ noTotal
 
--- the tables have a place for each strip of 64 ports, and figures and bars are those of each pad with each port
+-- how many strips end before port b, those of no ports too: 1 + 2 + .. + b
+unfoldable pub cornerOf : ℕ → ℕ
+cornerOf zero = 0
+cornerOf (suc b) = cornerOf b + suc b
+
+-- the place of the strip a .. b - 1 in a table
+abbrev pub place : ℕ → ℕ → ℕ
+place a b = cornerOf b + a
+
+-- the heads have a place for each strip of 64 ports, the totals one for each of the board's, and figures and bars are those of each pad with each port
 pub record Sizes (hs ts order cs bs : List ℕ) : Type 0 where
   pub heads : length hs ≡ 2145
-  pub totals : length ts ≡ 2145
+  pub totals : cornerOf (length order + 1) ≤ length ts
   pub square : length cs ≡ length order * length order
   pub bars : length bs ≡ length order * length order
   pub cheap : (i : ℕ) → getD cs i 0 < 2 ^ 32
@@ -68,15 +77,6 @@ pub record Strip (S : Sides) (order : List ℕ) (a b r : ℕ) : Type 0 where
   pub ports : b ≤ length order
   pub listed : r < length order
   pub rest : padsIn S a b (drop (r + 1) order) + 1 ≡ b - a
-
--- how many strips end before port b, those of no ports too: 1 + 2 + .. + b
-unfoldable pub cornerOf : ℕ → ℕ
-cornerOf zero = 0
-cornerOf (suc b) = cornerOf b + suc b
-
--- the place of the strip a .. b - 1 in a table
-abbrev pub place : ℕ → ℕ → ℕ
-place a b = cornerOf b + a
 
 -- what a port's total is read from: the places of the strips below (in hb and tb) and above it (in hs and ts), `past` the least head that they may not have, and
 -- the start of the pad's row of figures and of bars

@@ -8,8 +8,8 @@
 use libc::STDIN_FILENO;
 use libc::STDOUT_FILENO;
 use paper::Answer;
+use paper::Counted;
 use paper::Drawn;
-use paper::Paged;
 use paper::Refusal;
 ghost use mathlib.Core.Path.{_≡_};
 ghost use Prim.Native.Nat.{_*_, _≤_, _<_};
@@ -179,8 +179,8 @@ fn paged(job: &[u8], a: u32, b: u32, list: &[u16]) {
     let mut page = [9u16; 8];
     let p = calls::page(job, a, b, list, &mut page);
     match p {
-        Paged::Wrote(k) => say_number(b" = layouts ", k),
-        Paged::Refused(f) => say_refusal(f),
+        Counted::Many(k) => say_number(b" = layouts ", k),
+        Counted::Refused(f) => say_refusal(f),
     }
     say_list(&page);
 }

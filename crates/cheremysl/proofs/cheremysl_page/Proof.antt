@@ -14,8 +14,8 @@ use Rattle.cheremysl.proofs.cheremysl_page.Tie as tie
 page-requires : tie.Need-page-requires
 page-requires c κs = search needs
 
-of-paged-requires : tie.Need-of-paged-requires
-of-paged-requires c κs =
+of-counted-requires : tie.Need-of-counted-requires
+of-counted-requires c κs =
     let d = c .before .before in
     let s = d .before .before .before .before .before in
     let a = s .args in
@@ -28,7 +28,7 @@ same-length c = search needs
 returns : tie.Need-returns
 returns c =
     let d = c .before .before .before in
-    (d .page .result, d .page .ensures, toZ-ofZ (sfits-of (c .of-paged .ok)) ∙ c .of-paged .ensures)
+    (d .page .result, d .page .ensures, toZ-ofZ (sfits-of (c .of-counted .ok)) ∙ c .of-counted .ensures)
 
 pub cheremysl-page-spec : {M : Type 1} → statement M
-cheremysl-page-spec = tie.close (tie.spec page-requires of-paged-requires same-length returns)
+cheremysl-page-spec = tie.close (tie.spec page-requires of-counted-requires same-length returns)

@@ -20,7 +20,7 @@ use Rattle.paper.specs.Job.{Job, records, slots, formOf, padsOf, portsOf
 use Rattle.paper.specs.Layouts.{Board, boardFrom, boardOf, held, Badness, byWeights, byTable, weighted, costOf, total, Layout, Untouching}
 use Rattle.paper.specs.Problem.{Best, labelingOf}
 use Rattle.paper.specs.Refusals.{BadSize, BadField, BadEntry, workNeeded, Clean, Passed, RefusedBy, refusal}
-use Rattle.paper.specs.Refusals.{sizeTrials, enoughTrials, workTrials, fieldTrials, placeTrials, jobTrials, badnessTrial, soundTrials, firstTrials, measureTrials, nextTrials, drawTrials, layoutTrials, bestTrial, NoLayout, noneTrial, numberTrial}
+use Rattle.paper.specs.Refusals.{sizeTrials, enoughTrials, workTrials, fieldTrials, boardTrials, jobTrials, badnessTrial, soundTrials, firstTrials, measureTrials, nextTrials, drawTrials, layoutTrials, bestTrial, NoLayout, noneTrial, numberTrial}
 use Rattle.paper.specs.Layouts.{Differ, Rising, Proper}
 use Rattle.paper.specs.laws.Trials.{alone, passed-append, append-passed, refused-left, refused-right}
 use Rattle.paper.specs.laws.Decided.{passed-differ, sound-parts}
@@ -89,7 +89,7 @@ height-in (records bytes) p q l = not-lt (λ h. p .0 q l (inr (inr (inr (inr (in
 height-in (slots pads ports) p q l = not-lt (p .1 .0 q l)
 
 -- 12 is passed: a port is at least 8 above every one before.
-passed-spaced : (job : Job) → Passed (placeTrials job) → (a c : ℕ) → a < c → c < boardOf job .ports → (boardOf job .port a +ℤ pos 8) ≤ℤ boardOf job .port c
+passed-spaced : (job : Job) → Passed (boardTrials job) → (a c : ℕ) → a < c → c < boardOf job .ports → (boardOf job .port a +ℤ pos 8) ≤ℤ boardOf job .port c
 passed-spaced job passed a zero l k = absurd (not-suc-le-zero l)
 passed-spaced job passed a (suc c) l k =
     let port = boardOf job .port in
@@ -103,14 +103,14 @@ passed-spaced job passed a (suc c) l k =
     (eq-or-lt-of-le (le-of-suc-le-suc l))
 
 -- So port heights rise.
-passed-rising : (job : Job) → Passed (placeTrials job) → Rising (boardOf job)
+passed-rising : (job : Job) → Passed (boardTrials job) → Rising (boardOf job)
 passed-rising job passed a c l k = omega (whole, plus-num (boardOf job .port a) 8, passed-spaced job passed a c l k)
 
 pub job-accepted : (job : Job) → Passed (sizeTrials job) → Passed (enoughTrials job) → Passed (jobTrials job) → AcceptedJob job
 job-accepted job sizes enough passed =
     let pads = padsOf job in
     let size = pads-sized job sizes in
-    let (fields, places) = append-passed (fieldTrials job) (placeTrials job) passed in
+    let (fields, places) = append-passed (fieldTrials job) (boardTrials job) passed in
     let in-range = field-in job fields in
     record {
       size = size .long;

@@ -15,8 +15,8 @@ use Rattle.numbers.specs.Filled.{place-in}
 use Rattle.paper.specs.declared.Refusal.{Refusal}
 use Rattle.paper.specs.declared.Answer.{Answer}
 use Rattle.paper.specs.declared.Answer.the-variants.{Total, End, Refused}
-use Rattle.paper.specs.declared.Paged.{Paged}
-use Rattle.paper.specs.declared.Paged.the-variants.{Wrote, Refused as NotPaged}
+use Rattle.paper.specs.declared.Counted.{Counted}
+use Rattle.paper.specs.declared.Counted.the-variants.{Many, Refused as NotCounted}
 use Rattle.paper.specs.declared.Work.{Work}
 use Rattle.paper.specs.declared.Work.the-variants.{Unlent}
 use Rattle.paper.specs.Job.{Job}
@@ -144,9 +144,9 @@ module _ (b : Board) {C D : (ℕ → ℕ) → Type 0} {v w : (ℕ → ℕ) → �
   next-over follows before (Refused r) after (a, e) = (follows before .1 r a, e)
 
   pub page-over : ((list : List ℕ) → Follows (next list) (other-next list))
-      → (list before : List ℕ) (a : Paged) (after : List ℕ) → PageOver these list before a after → PageOver those list before a after
-  page-over follows list before (Wrote k) after (p, f) = (follows list .0 p, following-alike b same list before k after f)
-  page-over follows list before (NotPaged r) after (a, e) = (follows list .1 r a, e)
+      → (list before : List ℕ) (a : Counted) (after : List ℕ) → PageOver these list before a after → PageOver those list before a after
+  page-over follows list before (Many k) after (p, f) = (follows list .0 p, following-alike b same list before k after f)
+  page-over follows list before (NotCounted r) after (a, e) = (follows list .1 r a, e)
 
   pub measure-over : ((list : List ℕ) → Follows (measure list) (other-measure list)) → ((list : List ℕ) → Passed (measure list) → C (held list))
       → (list : List ℕ) (a : Answer) → MeasureOver these list a → MeasureOver those list a
@@ -199,7 +199,7 @@ module _ (job : Job) where
         next-over b (same-worth bad other same) (firstTrials job bad work) (firstTrials job other work) (measureTrials job bad Unlent) (measureTrials job other Unlent)
         (nextTrials job bad work) (nextTrials job other work) (next-follows work)
 
-    pub page-on : (work : Work) (list before : List ℕ) (a : Paged) (after : List ℕ) → PageAnswers job bad work list before a after → PageAnswers job other work list before a after
+    pub page-on : (work : Work) (list before : List ℕ) (a : Counted) (after : List ℕ) → PageAnswers job bad work list before a after → PageAnswers job other work list before a after
     page-on work =
         page-over b (same-worth bad other same) (firstTrials job bad work) (firstTrials job other work) (measureTrials job bad Unlent) (measureTrials job other Unlent)
         (nextTrials job bad work) (nextTrials job other work) (next-follows work)

@@ -8,8 +8,8 @@ use native.Mathlib.Omega.{arith}
 use lib.ListN.{length}
 use Rattle.paper.specs.declared.Answer.{Answer}
 use Rattle.paper.specs.declared.Answer.the-variants.{Total, End, Refused}
-use Rattle.paper.specs.declared.Paged.{Paged}
-use Rattle.paper.specs.declared.Paged.the-variants.{Wrote, Refused as NotPaged}
+use Rattle.paper.specs.declared.Counted.{Counted}
+use Rattle.paper.specs.declared.Counted.the-variants.{Many, Refused as NotCounted}
 use Rattle.paper.specs.declared.Work.{Work}
 use Rattle.paper.specs.declared.Work.the-variants.{Unlent}
 use Rattle.paper.specs.Job.{Job}
@@ -48,14 +48,14 @@ module _ (job : Job) (bad : Badness) (work : Work) (narrow : Narrow bad) (before
   measure-bounded End m = tt
   measure-bounded (Refused r) m = tt
 
-abbrev pub Counted : Paged → Type 0
-Counted (Wrote k) = k < 2 ^ 63
-Counted (NotPaged r) = Unit {0}
+abbrev pub BoundedCount : Counted → Type 0
+BoundedCount (Many k) = k < 2 ^ 63
+BoundedCount (NotCounted r) = Unit {0}
 
 -- A layout has an entry at least: a page that is in memory has no more layouts than entries.
-pub page-counted : (job : Job) (bad : Badness) (work : Work) (given before : List ℕ) (a : Paged) (after : List ℕ) → length before < 2 ^ 63
-    → PageAnswers job bad work given before a after → Counted a
-page-counted job bad work given before (Wrote k) after h n =
+pub page-counted : (job : Job) (bad : Badness) (work : Work) (given before : List ℕ) (a : Counted) (after : List ℕ) → length before < 2 ^ 63
+    → PageAnswers job bad work given before a after → BoundedCount a
+page-counted job bad work given before (Many k) after h n =
     let some = measure-facts job bad work given (next-measured job bad work given (n .0)) .0 .some in
     omega (arith, n .1 .fit, mul-le-mul-left {m = 1} {n = boardOf job .pads} k some)
-page-counted job bad work given before (NotPaged r) after h n = tt
+page-counted job bad work given before (NotCounted r) after h n = tt

@@ -10,7 +10,7 @@ use lib.ListN.{length, getD}
 use lib.IntN.{ℤ, pos, negsuc}
 use Rattle.numbers.specs.Whole.{whole, neg-nums}
 use Rattle.paper.specs.declared.Answer.the-variants.{Total, End, Refused}
-use Rattle.paper.specs.declared.Paged.the-variants.{Wrote, Refused as NotPaged}
+use Rattle.paper.specs.declared.Counted.the-variants.{Many, Refused as NotCounted}
 use Rattle.paper.specs.Layouts.{Board, held, Same}
 use Rattle.paper.specs.Problem.{Best, LastBest}
 use Rattle.paper.specs.Refusals.{Passed, Calls, entries}
@@ -154,17 +154,17 @@ module _ (c : Calls) (R : Regular c) where
             inr (last-of-same (c .problem) (held l) (turn after k) (same k (omega arith)) (end-told c (R .numbered) l l e .1))
 
     to-next : (m : ℤ) (after : List ℕ) → PageReplies c given before m after → PageByNext c given before m after
-    to-next m after (Wrote k, (p, F), e) =
+    to-next m after (Many k, (p, F), e) =
         let r = asks k given (turn after) p (λ i h. refl) (F .follow) in
         inl (k, e, page-lists k after (r .0) p F (r .1) (r .2))
-    to-next m after (NotPaged r, (q, same), e) =
+    to-next m after (NotCounted r, (q, same), e) =
         inr (rw e (refusal-low r (R .numbered .next given r q)), (Refused r, (q, refl), e), same)
 
     from-next : (m : ℤ) (after : List ℕ) → PageByNext c given before m after → PageReplies c given before m after
-    from-next m after (inl (k, e, B)) = (Wrote k, (accepts-given (B .accepted), lists-page k after B), e)
+    from-next m after (inl (k, e, B)) = (Many k, (accepts-given (B .accepted), lists-page k after B), e)
     from-next m after (inr (low, (Total t, n, e), same)) = absurd (omega (whole, neg-nums (pos 65536), low, e))
     from-next m after (inr (low, (End, n, e), same)) = absurd (omega (whole, neg-nums (pos 65536), low, e))
-    from-next m after (inr (low, (Refused r, n, e), same)) = (NotPaged r, (n .0, same), e)
+    from-next m after (inr (low, (Refused r, n, e), same)) = (NotCounted r, (n .0, same), e)
 
     -- THEOREM. What Page replies is what that many calls of Next give, or Next's refusal.
     pub page-by-next : (m : ℤ) (after : List ℕ) → PageReplies c given before m after ↔ PageByNext c given before m after

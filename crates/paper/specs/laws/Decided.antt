@@ -18,13 +18,13 @@ use Rattle.paper.specs.Job.{Job, records, slots, formOf, padsOf, portsOf
 use Rattle.paper.specs.Layouts.{Board, boardOf, held, Touching, Badness, byWeights, byTable}
 use Rattle.paper.specs.Refusals.{Trial, Smallest, Clean, FirstFault, Passed, RefusedBy, ofEach, ofWhole, ofPairs}
 use Rattle.paper.specs.Refusals.{BadSize, BadWeight, BadField, Outside, SameName, SameX, workNeeded}
-use Rattle.paper.specs.Refusals.{sizeTrials, enoughTrials, workTrials, roomTrials, fieldTrials, placeTrials, jobTrials, layoutTrials, badnessTrial, soundTrials, measureTrials, drawTrials}
+use Rattle.paper.specs.Refusals.{sizeTrials, enoughTrials, workTrials, roomTrials, fieldTrials, boardTrials, jobTrials, layoutTrials, badnessTrial, soundTrials, measureTrials, drawTrials}
 use Rattle.paper.specs.Layouts.{Differ}
 use Rattle.paper.specs.laws.Tests.{Test, atEach, atPairs, atWhole, somewhere, withEarlier, somewhere-iff, with-earlier-iff}
 use Rattle.paper.specs.laws.Tests.{badSize, badWeight, badTable, badField, badHeight, notAbove, tooClose, sameName, sameX, badEntry, recordsTouch, badNumber}
 use Rattle.paper.specs.laws.Tests.{bad-size-iff, bad-weight-iff, bad-table-iff, outside-iff, bad-field-iff, not-above-iff, too-close-iff}
 use Rattle.paper.specs.laws.Tests.{same-name-iff, same-x-iff, bad-entry-iff, bad-number-iff}
-use Rattle.paper.specs.laws.Tests.{sizeTests, enoughTests, workTests, roomTests, fieldTests, placeTests, jobTests, layoutTests, badnessTest, soundTests, measureTests, drawTests}
+use Rattle.paper.specs.laws.Tests.{sizeTests, enoughTests, workTests, roomTests, fieldTests, boardTests, jobTests, layoutTests, badnessTest, soundTests, measureTests, drawTests}
 use Rattle.paper.specs.laws.Squares.{records-iff}
 use Rattle.paper.specs.laws.Trials.{append-passed, passed-append}
 
@@ -217,8 +217,8 @@ field-tests (slots pads ports) = (
   λ _. (each-test 4 _ (λ q. Outside (portOf Slots ports q)) (badHeight Slots ports) (λ q l. outside-iff (portOf Slots ports q)), λ _. tt),
 )
 
-place-tests : (job : Job) → TestsOf (placeTests (formOf job) (padsOf job) (portsOf job)) (placeTrials job)
-place-tests job = (
+board-tests : (job : Job) → TestsOf (boardTests (formOf job) (padsOf job) (portsOf job)) (boardTrials job)
+board-tests job = (
   each-test 5 _ _ (notAbove (formOf job) (portsOf job)) (λ q l. not-above-iff (formOf job) (portsOf job) q),
   λ _. (
     each-test 12 _ _ (tooClose (formOf job) (portsOf job)) (λ q l. too-close-iff (formOf job) (portsOf job) q),
@@ -232,8 +232,8 @@ place-tests job = (
 job-tests : (job : Job) → TestsOf (jobTests (formOf job) (padsOf job) (portsOf job)) (jobTrials job)
 unfolding jobTests
 job-tests job =
-    tests-append (fieldTests (formOf job) (padsOf job) (portsOf job)) (placeTests (formOf job) (padsOf job) (portsOf job)) (fieldTrials job) (placeTrials job)
-    (field-tests job) (λ _. place-tests job)
+    tests-append (fieldTests (formOf job) (padsOf job) (portsOf job)) (boardTests (formOf job) (padsOf job) (portsOf job)) (fieldTrials job) (boardTrials job)
+    (field-tests job) (λ _. board-tests job)
 
 room-tests : (job : Job) (work : Work) (room : ℕ) → TestsOf (roomTests (formOf job) (padsOf job) (portsOf job) work room) (roomTrials job work room)
 room-tests job work room = (
@@ -268,7 +268,7 @@ sound-tests job bad work room =
 
 -- 7 is passed: the x of all pads differ.
 pub passed-differ : (job : Job) → Passed (jobTrials job) → Differ (boardOf job)
-passed-differ job passed i j k l e = append-passed (fieldTrials job) (placeTrials job) passed .1 .1 .1 .1 .0 i l (j, k, e)
+passed-differ job passed i j k l e = append-passed (fieldTrials job) (boardTrials job) passed .1 .1 .1 .1 .0 i l (j, k, e)
 
 -- These trials are passed exactly if their parts are.
 pub sound-parts : (job : Job) (bad : Badness) (work : Work) (room : ℕ) → Passed (soundTrials job bad work room)

@@ -8,14 +8,14 @@ use lib.IntN.{ℤ}
 use lib.Ieee.{Float}
 use Rattle.paper.specs.declared.Answer.{Answer}
 use Rattle.paper.specs.declared.Answer.the-variants.{Total, End, Refused}
-use Rattle.paper.specs.declared.Paged.{Paged}
-use Rattle.paper.specs.declared.Paged.the-variants.{Wrote, Refused as NotPaged}
+use Rattle.paper.specs.declared.Counted.{Counted}
+use Rattle.paper.specs.declared.Counted.the-variants.{Many, Refused as NotCounted}
 use Rattle.paper.specs.declared.Drawn.{Drawn}
 use Rattle.paper.specs.declared.Drawn.the-variants.{Straight, Bent, Refused as NotDrawn}
 use Rattle.paper.specs.Job.{records}
 use Rattle.paper.specs.Layouts.{boardOf, held, leader}
 use Rattle.paper.specs.Refusals.{Calls, entries, drawTrials}
-use Rattle.paper.specs.Promises.{number, pagedNumber, drawnNumber, coordinates, overwritten}
+use Rattle.paper.specs.Promises.{number, countedNumber, drawnNumber, coordinates, overwritten}
 use Rattle.paper.specs.Promises.{FirstOver, NextOver, PageOver, MeasureOver, FirstReplies, NextReplies, PageReplies, MeasureReplies, DrawAnswers, DrawPromise}
 use Rattle.paper.specs.laws.Trials.{refused-one, not-both}
 use Rattle.paper.specs.laws.Order.{first-best-one, next-best-one, next-not-last}
@@ -70,14 +70,14 @@ module _ (c : Calls) (before : List ℕ) where
   measure-determined n m p q = p .2 ∙ ap number (measure-answer (p .0) (q .0) (p .1) (q .1)) ∙ sym (q .2)
 
 module _ (c : Calls) (given before : List ℕ) where
-  pub page-answer : (a d : Paged) (l m : List ℕ) → PageOver c given before a l → PageOver c given before d m → (a ≡ d) × (l ≡ m)
-  page-answer (Wrote k) (Wrote j) l m p q = let e = following-one (c .problem) given before k j l m (p .1) (q .1) in (ap Wrote (e .0), e .1)
-  page-answer (Wrote k) (NotPaged r) l m p q = absurd (not-both (c .next given) r (p .0) (q .0))
-  page-answer (NotPaged r) (Wrote k) l m p q = absurd (not-both (c .next given) r (q .0) (p .0))
-  page-answer (NotPaged r) (NotPaged s) l m p q = (ap NotPaged (refused-one (c .next given) r s (p .0) (q .0)), p .1 ∙ sym (q .1))
+  pub page-answer : (a d : Counted) (l m : List ℕ) → PageOver c given before a l → PageOver c given before d m → (a ≡ d) × (l ≡ m)
+  page-answer (Many k) (Many j) l m p q = let e = following-one (c .problem) given before k j l m (p .1) (q .1) in (ap Many (e .0), e .1)
+  page-answer (Many k) (NotCounted r) l m p q = absurd (not-both (c .next given) r (p .0) (q .0))
+  page-answer (NotCounted r) (Many k) l m p q = absurd (not-both (c .next given) r (q .0) (p .0))
+  page-answer (NotCounted r) (NotCounted s) l m p q = (ap NotCounted (refused-one (c .next given) r s (p .0) (q .0)), p .1 ∙ sym (q .1))
 
   pub page-determined : (n m : ℤ) (l k : List ℕ) → PageReplies c given before n l → PageReplies c given before m k → (n ≡ m) × (l ≡ k)
-  page-determined n m l k p q = let e = page-answer (p .0) (q .0) l k (p .1) (q .1) in (p .2 ∙ ap pagedNumber (e .0) ∙ sym (q .2), e .1)
+  page-determined n m l k p q = let e = page-answer (p .0) (q .0) l k (p .1) (q .1) in (p .2 ∙ ap countedNumber (e .0) ∙ sym (q .2), e .1)
 
 -- ---- Draw
 

@@ -8,13 +8,13 @@ use lib.ListN.{length}
 use lib.IntN.{ℤ}
 use lib.Ieee.{Float}
 use Rattle.paper.specs.declared.Answer.the-variants.{Total, End, Refused}
-use Rattle.paper.specs.declared.Paged.the-variants.{Wrote, Refused as NotPaged}
+use Rattle.paper.specs.declared.Counted.the-variants.{Many, Refused as NotCounted}
 use Rattle.paper.specs.declared.Drawn.the-variants.{Refused as NotDrawn}
 use Rattle.paper.specs.Job.{records}
 use Rattle.paper.specs.Layouts.{boardOf, held, leader}
 use Rattle.paper.specs.Problem.{Best, NextBest, LastBest}
 use Rattle.paper.specs.Refusals.{Passed, drawTrials, Calls, entries}
-use Rattle.paper.specs.Promises.{number, pagedNumber, drawnNumber, coordinates, overwritten, FirstOver, NextOver}
+use Rattle.paper.specs.Promises.{number, countedNumber, drawnNumber, coordinates, overwritten, FirstOver, NextOver}
 use Rattle.paper.specs.Promises.{FirstReplies, NextReplies, PageReplies, MeasureReplies, DrawPromise}
 use Rattle.paper.specs.laws.Order.{first-best-same, next-best-same}
 use Rattle.paper.specs.laws.Earliest.{first-exists, next-or-last}
@@ -85,8 +85,8 @@ module _ (c : Calls) (R : Regular c) (given before : List ℕ) where
       go (inl p) =
           let (q, best) = R .next-is given .0 p in
           let f = page-filled (c .problem) given before (R .searchable (length given) q) (R .some (length given) q) best in
-          (pagedNumber (Wrote (f .0)), f .1, (Wrote (f .0), (p, f .2), refl))
-      go (inr (r, a)) = (pagedNumber (NotPaged r), before, (NotPaged r, (a, refl), refl))
+          (countedNumber (Many (f .0)), f .1, (Many (f .0), (p, f .2), refl))
+      go (inr (r, a)) = (countedNumber (NotCounted r), before, (NotCounted r, (a, refl), refl))
 
 module _ (job : List ℕ) (i q : ℕ) (before : List Float) where
   pub draw-met : (m : ℤ) × (after : List Float) × DrawPromise job i q before m after

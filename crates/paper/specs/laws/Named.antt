@@ -15,7 +15,7 @@ use Rattle.paper.specs.declared.Work.the-variants.{Unlent, Lent}
 use Rattle.paper.specs.Job.{Job, records, slots}
 use Rattle.paper.specs.Layouts.{Board, boardOf, held, Touching, Badness, byWeights, byTable}
 use Rattle.paper.specs.Problem.{labelingOf}
-use Rattle.paper.specs.Refusals.{Trial, FirstFault, Passed, RefusedBy, refusal, ofEach, ofPairs, sizeTrials, enoughTrials, workTrials, roomTrials, fieldTrials, placeTrials, jobTrials, layoutTrials, bestTrial, numberTrial}
+use Rattle.paper.specs.Refusals.{Trial, FirstFault, Passed, RefusedBy, refusal, ofEach, ofPairs, sizeTrials, enoughTrials, workTrials, roomTrials, fieldTrials, boardTrials, jobTrials, layoutTrials, bestTrial, numberTrial}
 use Rattle.paper.specs.Refusals.{badnessTrial, NoLayout, noneTrial, soundTrials, firstTrials, measureTrials, nextTrials, drawTrials, callsOf, Alone, FirstPair, Named}
 use Rattle.paper.specs.Promises.{refusalNumber, FirstReplies}
 use Rattle.paper.specs.laws.Trials.{not-both, refused-one, refused-append}
@@ -70,7 +70,7 @@ module _ (P : Refusal → Type 0) (says : (r : Refusal) → Alone r → Checked 
 
   of-job : (job : Job) → OfEach P (jobTrials job)
   of-job job =
-      each-append P (fieldTrials job) (placeTrials job) (of-field job) (
+      each-append P (fieldTrials job) (boardTrials job) (of-field job) (
         one 5 _ _ (omega arith),
         (
           one 12 _ _ (omega arith),

@@ -14,8 +14,8 @@ use Rattle.numbers.specs.Whole.{whole, eq-num, neg-nums}
 use Rattle.paper.specs.declared.Refusal.{Refusal}
 use Rattle.paper.specs.declared.Answer.{Answer}
 use Rattle.paper.specs.declared.Answer.the-variants.{Total, End, Refused}
-use Rattle.paper.specs.declared.Paged.{Paged}
-use Rattle.paper.specs.declared.Paged.the-variants.{Wrote, Refused as NotPaged}
+use Rattle.paper.specs.declared.Counted.{Counted}
+use Rattle.paper.specs.declared.Counted.the-variants.{Many, Refused as NotCounted}
 use Rattle.paper.specs.declared.Two.{Two}
 use Rattle.paper.specs.declared.Three.{Three}
 use Rattle.paper.specs.declared.Drawn.{Drawn}
@@ -25,9 +25,9 @@ use Rattle.paper.specs.declared.Work.the-variants.{Unlent, Lent}
 use Rattle.paper.specs.Job.{Job, records, slots}
 use Rattle.paper.specs.Layouts.{Board, boardOf, Badness, byWeights, byTable}
 use Rattle.paper.specs.Problem.{labelingOf}
-use Rattle.paper.specs.Refusals.{sizeTrials, enoughTrials, workTrials, roomTrials, fieldTrials, placeTrials, jobTrials, layoutTrials, numberTrial}
+use Rattle.paper.specs.Refusals.{sizeTrials, enoughTrials, workTrials, roomTrials, fieldTrials, boardTrials, jobTrials, layoutTrials, numberTrial}
 use Rattle.paper.specs.Refusals.{Trial, Clean, Passed, RefusedBy, soundTrials, firstTrials, measureTrials, nextTrials, drawTrials, badnessTrial, bestTrial, noneTrial, Calls, callsOf}
-use Rattle.paper.specs.Promises.{refusalNumber, refusalIn, number, pagedNumber, drawnNumber, FirstOver, NextOver, PageOver, MeasureOver, DrawAnswers}
+use Rattle.paper.specs.Promises.{refusalNumber, refusalIn, number, countedNumber, drawnNumber, FirstOver, NextOver, PageOver, MeasureOver, DrawAnswers}
 use Rattle.paper.specs.Promises.{WorkAfter, WorkPromise, FirstReplies, NextReplies, PageReplies, MeasureReplies, DrawPromise, RefusesBy}
 use Rattle.paper.specs.laws.Trials.{not-both, refused-left}
 use Rattle.paper.specs.laws.Decided.{sound-parts}
@@ -178,16 +178,16 @@ module _ (c : Calls) (N : Numbered c) where
 
   -- Page: a number of 0 or more is that of the layouts written.
   module _ (given before after : List ℕ) where
-    pub wrote-told : (k : ℕ) → PageReplies c given before (pos k) after → PageOver c given before (Wrote k) after
-    wrote-told k (Wrote m, p, e) = let n : m ≡ k = cc in rw n at p
-    wrote-told k (NotPaged r, p, e) = absurd (refusal-apart r k (N .next given r (p .0)) e)
+    pub wrote-told : (k : ℕ) → PageReplies c given before (pos k) after → PageOver c given before (Many k) after
+    wrote-told k (Many m, p, e) = let n : m ≡ k = cc in rw n at p
+    wrote-told k (NotCounted r, p, e) = absurd (refusal-apart r k (N .next given r (p .0)) e)
 
     pub page-refuses : (m : ℤ) → PageReplies c given before m after → RefusesBy (c .next given) m (after ≡ before)
     page-refuses m (a, p, e) = answered-refuses (c .next given) (after ≡ before) m (N .next given) (rw e (says a p))
       where
-        says : (a : Paged) → PageOver c given before a after → Answered (c .next given) (after ≡ before) (pagedNumber a)
-        says (Wrote k) p = inr (p .0, omega whole)
-        says (NotPaged r) p = inl (r, p .0, p .1, refl)
+        says : (a : Counted) → PageOver c given before a after → Answered (c .next given) (after ≡ before) (countedNumber a)
+        says (Many k) p = inr (p .0, omega whole)
+        says (NotCounted r) p = inl (r, p .0, p .1, refl)
 
 -- ---- those on a job
 
@@ -216,7 +216,7 @@ room-small job work room = (omega arith, omega arith, omega arith, λ _. numberi
     lent (Lent numbers) = omega arith
 
 job-small : (job : Job) → boardOf job .pads ≤ 64 → boardOf job .ports ≤ 128 → Numbering (jobTrials job)
-job-small job few slots-few = numbering-append (fieldTrials job) (placeTrials job) (fields job few slots-few) (λ _. omega arith)
+job-small job few slots-few = numbering-append (fieldTrials job) (boardTrials job) (fields job few slots-few) (λ _. omega arith)
   where
     fields : (job : Job) → boardOf job .pads ≤ 64 → boardOf job .ports ≤ 128 → Numbering (fieldTrials job)
     fields (records bytes) h k = omega arith

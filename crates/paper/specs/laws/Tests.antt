@@ -231,15 +231,15 @@ abbrev pub fieldTests : Form → List ℕ → List ℕ → List Test
 fieldTests Records pads ports = atEach 4 (count pads) (badField Records pads) ∷ []
 fieldTests Slots pads ports = atEach 4 (count pads) (badField Slots pads) ∷ atEach 4 (portCount Slots ports) (badHeight Slots ports) ∷ []
 
-abbrev pub placeTests : Form → List ℕ → List ℕ → List Test
-placeTests form pads ports =
+abbrev pub boardTests : Form → List ℕ → List ℕ → List Test
+boardTests form pads ports =
     atEach 5 (portCount form ports) (notAbove form ports) ∷
     atEach 12 (portCount form ports) (tooClose form ports) ∷
     atEach 6 (count pads) (withEarlier (sameName pads)) ∷
     atEach 7 (count pads) (withEarlier (sameX pads)) ∷ []
 
 unfoldable pub jobTests : Form → List ℕ → List ℕ → List Test
-jobTests form pads ports = fieldTests form pads ports ++ placeTests form pads ports
+jobTests form pads ports = fieldTests form pads ports ++ boardTests form pads ports
 
 unfoldable pub layoutTests : Board → List ℕ → List Test
 layoutTests b list = atEach 8 (b .pads) (badEntry (b .ports) list) ∷ atPairs 9 (b .pads) (recordsTouch b (held list)) ∷ []

@@ -12,8 +12,8 @@ use lib.Seq.{getD-drop}
 use Rattle.numbers.specs.Tests.{both, or-iff, ltb-iff}
 use Rattle.paper.specs.declared.Answer.{Answer}
 use Rattle.paper.specs.declared.Answer.the-variants.{Total, End, Refused}
-use Rattle.paper.specs.declared.Paged.{Paged}
-use Rattle.paper.specs.declared.Paged.the-variants.{Wrote, Refused as NotPaged}
+use Rattle.paper.specs.declared.Counted.{Counted}
+use Rattle.paper.specs.declared.Counted.the-variants.{Many, Refused as NotCounted}
 use Rattle.paper.specs.declared.Work.{Work}
 use Rattle.paper.specs.declared.Work.the-variants.{Unlent}
 use Rattle.paper.specs.Job.{Job, records, twos, nameOf, halfOf, xOf, yOf, lastOf, portOf}
@@ -76,10 +76,10 @@ pageTest p counts given l k m =
     (leb (k * p .board .pads) (length l) && followTest p counts (inTurn (p .board .pads) given m) k)
     && ((ltb (length l) (suc k * p .board .pads) || lastTest p counts (inTurn (p .board .pads) given m k)) && sameRest (k * p .board .pads) l m)
 
-abbrev pageHolds : Job → Badness → Work → List ℕ → List ℕ → Paged → List ℕ → Bool
-pageHolds job bad work given l (Wrote k) m =
+abbrev pageHolds : Job → Badness → Work → List ℕ → List ℕ → Counted → List ℕ → Bool
+pageHolds job bad work given l (Many k) m =
     passes (nextTests job bad work given) && pageTest (labelingOf job bad) (untouchingTest (boardOf job)) given l k m
-pageHolds job bad work given l (NotPaged r) m = refuses (nextTests job bad work given) r && sameList m l
+pageHolds job bad work given l (NotCounted r) m = refuses (nextTests job bad work given) r && sameList m l
 
 abbrev holdsFor : Call → Sheet → Bool
 holdsFor First s = firstHolds (s .job) (s .bad) (s .work) (s .before) (s .answer) (s .after)
@@ -186,12 +186,12 @@ module _ (job : Job) (bad : Badness) (work : Work) (l : List ℕ) where
           kept = same-rest (k * boardOf job .pads) before m (x .1);
         }
 
-  page-holds : (before : List ℕ) (a : Paged) (m : List ℕ) → T (pageHolds job bad work l before a m) → PageAnswers job bad work l before a m
-  page-holds before (Wrote k) m h =
+  page-holds : (before : List ℕ) (a : Counted) (m : List ℕ) → T (pageHolds job bad work l before a m) → PageAnswers job bad work l before a m
+  page-holds before (Many k) m h =
       let u = both (passes (nextTests job bad work l)) (pageTest p counts l before k m) .0 h in
       let q = tests-pass (nextTests job bad work l) (nextTrials job bad work l) (next-tests job bad work l) (u .0) in
       (q, page-told (next-differ job bad work l q) before k m (u .1))
-  page-holds before (NotPaged r) m h =
+  page-holds before (NotCounted r) m h =
       let u = both (refuses (nextTests job bad work l) r) (sameList m before) .0 h in
       (tests-refuse (nextTests job bad work l) (nextTrials job bad work l) r (next-tests job bad work l) (u .0), same-list m before (u .1))
 

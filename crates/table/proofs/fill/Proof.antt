@@ -7,7 +7,7 @@ use Rattle.pads.specs.Pads.{sidesOf}
 use Rattle.totals.specs.Cell.{figures, Rows, Table}
 use Rattle.heads.specs.Heads.{Rooms, Tallies}
 use Rattle.heads.proofs.Tallies.{tallies-none}
-use Rattle.table.proofs.Rows.{whole-best}
+use Rattle.table.proofs.Rows.{long-enough, whole-best}
 use native.Mathlib.Omega.{arith}
 use Rattle.table.proofs.fill.Statement.{statement}
 use Rattle.table.proofs.fill.Tie as tie
@@ -72,10 +72,10 @@ slice-aggregate-fill-row-5 c = let n = c .before .before .before .before .before
 fill-row-requires : tie.Need-fill-row-requires Inv-loop μ-loop
 fill-row-requires c κs =
     let n = c .before .before .before .before .before .before .before .before .before in let t = n .before .before .before .before .before in let i = t .loop .inv in
-    let p = t .before .before .before .before .before .before .before .before .pre in let e : t .loop .a - 1 + 1 ≡ t .loop .a = omega arith in (
+    let s = t .before .before .before .before .before .before .before .before in let p = s .pre in let e : t .loop .a - 1 + 1 ≡ t .loop .a = omega arith in (
       p .0,
       (
-        record { heads = i .1; totals = i .2; square = p .1 .2; bars = p .1 .3; cheap = λ k. omega (arith, t .before .before .before .before .shared-slice-known2 .given k) },
+        record { heads = i .1; totals = long-enough (length (s .args .order .now)) (length (t .loop .totals)) (p .0 .few) (i .2); square = p .1 .2; bars = p .1 .3; cheap = λ k. omega (arith, t .before .before .before .before .shared-slice-known2 .given k) },
         (
           record { places = i .3 .places; counts = n .enter .kept .1 .0 ∙ i .3 .counts; wholes = n .enter .kept .1 .1 .0 ∙ i .3 .wholes },
           (
@@ -143,7 +143,7 @@ returns c = let l = c .before .before .before in let i = l .loop .inv in let s =
     record {
       sizes = record {
         heads = i .1;
-        totals = i .2;
+        totals = long-enough (length (x .order .now)) (length (l .loop .totals)) (p .0 .few) (i .2);
         square = p .1 .2;
         bars = p .1 .3;
         cheap = λ k. omega

@@ -1,11 +1,12 @@
 -- `table::fill_row` meets its contract. The loop's invariant: the row is right before b (`Rows.Row`), the short lists have it (`CopiedRow`), what is kept for the next
 -- row is right, and the lists keep their lengths. Assumes nothing.
-use mathlib.Core.Path.{_≡_, _∙_}
+use mathlib.Core.Path.{_≡_, refl, _∙_}
 use Prim.Native.Nat.{_+_, _-_, _≤_}
 use lib.ListN.{length, length-set}
 use Rattle.pads.specs.Pads.{sidesOf}
 use Rattle.totals.specs.Cell.{figures, CopiedRow}
 use Rattle.heads.specs.Heads.{Tallies}
+use Rattle.totals.proofs.Corners.{corner-top, place-listed}
 use Rattle.totals.proofs.Cells.{figures-cheap, kept-cell}
 use Rattle.table.proofs.Rows.{Row, row-start, row-parts, row-step, row-end, copied-start, copied-step, sizes-with}
 use borrow.Author.Needs.{needs}
@@ -15,7 +16,7 @@ use Rattle.table.proofs.fill_row.Tie as tie
 
 abbrev Inv-loop : tie.InvT-loop
 Inv-loop lows₀ sums₀ heads₀ totals₀ at₀ seen₀ all order cost bars lo hi a n b₀ lows sums heads totals at seen b = (a ≤ b) × (b ≤ length order + 1)
-    × (length heads ≡ 2145) × (length totals ≡ 2145) × (length at ≡ 65) × (length seen ≡ 65) × Tallies (sidesOf lo hi) order at seen all a
+    × (length heads ≡ 2145) × (length totals ≡ length totals₀) × (length at ≡ 65) × (length seen ≡ 65) × Tallies (sidesOf lo hi) order at seen all a
     × Row (sidesOf lo hi) (figures cost bars (length order)) order heads totals a b × CopiedRow lows sums heads totals a b
 
 abbrev μ-loop : tie.MeasureT-loop
@@ -26,7 +27,7 @@ loop-holds c = let p = c .before .before .before .before .before .before .before
   omega arith,
   omega (arith, p .1 .1 .1 .0 .2),
   p .1 .0 .heads,
-  p .1 .0 .totals,
+  refl,
   p .1 .1 .0 .places,
   p .1 .1 .0 .counts,
   p .1 .1 .1 .1 .0,
@@ -44,7 +45,7 @@ strip-total-requires c κs =
     let p = s .before .before .before .before .before .before .before .before .before .before .before .before .before .pre in let i = s .loop .inv in (
       p .0,
       (
-        sizes-with (p .1 .0) (i .2) (i .3),
+        sizes-with (p .1 .0) (i .2) (omega (arith, i .3, p .1 .0 .totals)),
         ((i .0, omega arith, c .before .before .before .before .before .before .before .before .head .ensures .0), (row-parts _ _ _ _ _ _ _ (omega arith) (i .7), i .8)),
       ),
     )
@@ -93,12 +94,18 @@ mul-totals c = omega (
 )
 
 slice-write-totals : tie.Need-slice-write-totals Inv-loop μ-loop
-slice-write-totals c = omega (
-  arith,
-  c .before .corner .ensures .1,
-  c .before .before .before .before .before .before .before .before .before .before .before .before
-      .before .before .before .before .before .before .before .before .before .before .before .before .before .before .before .before .pre .0 .few,
-)
+slice-write-totals c =
+    let l = c .before .before .before .before .before .before .before .before .before .before .before .before .before .before .before .loop in
+    let s = c .before .before .before .before .before .before .before .before .before .before .before .before .before .before .before .before .before .before .before .before
+    .before .before .before .before .before .before .before .before in
+    omega (
+      arith,
+      c .before .corner .ensures .0,
+      l .inv .3,
+      s .pre .1 .0 .totals,
+      place-listed (s .args .a) (l .b) (length (s .args .order .now)) (l .inv .0)
+          (omega (arith, c .before .before .before .before .before .before .before .before .before .before .before .before .before .before .loop-test .taken)),
+    )
 
 slice-write-lows : tie.Need-slice-write-lows Inv-loop μ-loop
 slice-write-lows c = omega (
@@ -143,6 +150,7 @@ loop-again : tie.Need-loop-again Inv-loop μ-loop
 loop-again c =
     let f = c .before .before .before .before .before .before .before .before .before .before .before .head in
     let s = c .before .before .before .before .before .before .before .before .before .before .before .before .before .before .before in
+    let x = s .before .before .before .before .before .before .before .before .before .before .before .before .before .args in
     let p = s .before .before .before .before .before .before .before .before .before .before .before .before .before .pre in let l = s .loop in let i = l .inv in let t = c
     .before .before .before .before .before .before .before .before .before .before .before .before .before .before .loop-test .taken in (
       omega arith,
@@ -152,10 +160,11 @@ loop-again c =
       f .kept .0 ∙ i .4,
       f .kept .1 .0 ∙ i .5,
       f .ensures .1,
-      row-step _ _ _ _ _ _ (l .b) _ _ _ (omega (arith, c .before .corner .ensures .0)) (p .0 .few) (i .0) (omega arith) (i .2) (i .3)
+      row-step _ _ _ _ _ _ (l .b) _ _ _ (omega (arith, c .before .corner .ensures .0)) (p .0 .few) (i .0) (omega arith) (i .2) (omega (arith, i .3, p .1 .0 .totals))
           (kept-cell _ _ (p .0 .level) (figures-cheap (p .1 .0)) _ _ _ _ _ _ (omega (arith, p .0 .few)) (c .before .before .strip-total .ensures) (c .kept .ensures .0))
           (i .7),
-      copied-step _ _ _ _ _ (l .b) _ _ _ (omega (arith, c .before .corner .ensures .0)) (i .0) (omega (arith, p .0 .few)) (i .2) (i .3) (i .8),
+      copied-step _ _ _ _ _ (l .b) _ _ _ (omega (arith, c .before .corner .ensures .0)) (i .0) (omega (arith, p .0 .few))
+          (omega (arith, i .2, corner-top (l .b) (omega (arith, p .0 .few)))) (omega (arith, i .3, p .1 .0 .totals, place-listed (x .a) (l .b) (length (x .order .now)) (i .0) (omega arith))) (i .8),
     )
 
 same-length : tie.Need-same-length Inv-loop μ-loop

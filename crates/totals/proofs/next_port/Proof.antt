@@ -2,10 +2,10 @@
 use mathlib.Core.Path.{_≡_, sym, ap, _∙_}
 use Prim.Native.Nat.{ℕ, _+_, _-_, _≤_, _<_}
 use mathlib.Core.Logic.{⊎-elim}
-use lib.ListN.{getD}
+use lib.ListN.{length, getD}
 use Rattle.totals.specs.Cell.{gridOf, Leads, place}
 use Rattle.pads.specs.Counts.{le-or-lt}
-use Rattle.totals.proofs.Corners.{corner-step, corner-top}
+use Rattle.totals.proofs.Corners.{corner-step, corner-top, place-listed}
 use Rattle.totals.proofs.Ports.{row-small, in-table}
 use Rattle.totals.proofs.Cells.{port-ready}
 use Rattle.totals.proofs.Leading.{ready-strip, table-parts, none-leads, attains-yes, attains-no}
@@ -49,8 +49,13 @@ mul-best c = let p = c .before .before .before .before .before .before .before .
     omega (arith, c .corner .ensures .1, p .1 .1 .0 .ports, p .1 .1 .0 .full, p .0 .few)
 
 shared-slice-read-best : tie.Need-shared-slice-read-best Inv-loop μ-loop
-shared-slice-read-best c = let p = c .before .before .before .before .before .before .before .before .before .before .pre in
-    omega (arith, c .before .corner .ensures .1, p .1 .1 .0 .ports, p .1 .1 .0 .full, p .0 .few, p .1 .0 .sizes .totals)
+shared-slice-read-best c = let s = c .before .before .before .before .before .before .before .before .before .before in let x = s .args in let p = s .pre in
+    omega (
+      arith,
+      c .before .corner .ensures .0,
+      p .1 .0 .sizes .totals,
+      place-listed (x .a) (x .b) (length (x .order .now)) (omega (arith, p .1 .1 .1 .0, p .1 .1 .1 .1)) (p .1 .1 .0 .ports),
+    )
 
 returns : tie.Need-returns Inv-loop μ-loop
 returns c = let s = c .before .before .before .before .before .before .before .before .before .before .before in let x = s .args in let p = s .pre in
@@ -86,7 +91,7 @@ attains-requires c κs = let s = c .before .before .before .before .before .befo
       port-ready (p .0) (p .1 .0 .sizes) (x .r) (x .a) (x .b) (ready-strip (p .0) (p .1 .0) (x .r) (x .a) (x .b) (p .1 .1 .0))
           (table-parts (p .0) (p .1 .0) (x .r) (x .a) (x .b) (p .1 .1 .0)) (l .q) (omega (arith, l .inv .0, p .1 .1 .1 .0))
           (c .loop-test .taken) _ _
-          (in-table (p .1 .0 .sizes) (x .a) (l .q) _ (omega (arith, l .inv .0, p .1 .1 .1 .0)) (omega (arith, p .1 .1 .0 .ports, p .0 .few)) (l .inv .2))
+          (in-table (p .1 .0 .sizes) (x .a) (l .q) _ (omega (arith, l .inv .0, p .1 .1 .1 .0)) (omega (arith, p .1 .1 .0 .ports)) (omega (arith, p .1 .1 .0 .ports, p .0 .few)) (l .inv .2))
           (omega (arith, c .before .before .before .before .before .corner .ensures .0)),
       c .before .before .before .if1 .left,
     )

@@ -1,10 +1,10 @@
--- `checks::verdicts::of_places` meets its contract. Assumes nothing.
+-- `checks::verdicts::of_board` meets its contract. Assumes nothing.
 use mathlib.Core.Path.{_≡_}
 use Rattle.find.specs.Dispatch.{testOf}
 use Rattle.checks.specs.declared.Verdict.the-variants.{Sound}
 use Rattle.checks.specs.Sound.{was-sound}
-use Rattle.checks.proofs.verdicts.of_places.Statement.{statement}
-use Rattle.checks.proofs.verdicts.of_places.Tie as tie
+use Rattle.checks.proofs.verdicts.of_board.Statement.{statement}
+use Rattle.checks.proofs.verdicts.of_board.Tie as tie
 
 -- a verdict that is sound after a check was so at the start
 after-5 : (c : tie.After-try-records) → c .try-records .result ≡ Sound → c .before .before .before .args .v ≡ Sound
@@ -33,8 +33,8 @@ unfolding testOf
 returns c =
     rw (c .try-records4 .ensures, c .before .try-records3 .ensures, c .before .before .try-records2 .ensures, c .before .before .before .try-records .ensures)
 
-pub of-places-spec : {M : Type 1} → statement M
-of-places-spec =
+pub of-board-spec : {M : Type 1} → statement M
+of-board-spec =
     tie.close
     (tie.spec
     try-records-requires

@@ -1,10 +1,10 @@
--- `cheremysl::of_paged` meets its contract. Assumes nothing.
+-- `cheremysl::of_counted` meets its contract. Assumes nothing.
 use mathlib.Core.Path.{_∙_}
 use mir.Syntax.{w64}
 use mir.Facts.{toZ-ofZ, toZ-pos}
 use borrow.Author.Needs.{needs, sfits-of}
-use Rattle.cheremysl.proofs.of_paged.Statement.{statement}
-use Rattle.cheremysl.proofs.of_paged.Tie as tie
+use Rattle.cheremysl.proofs.of_counted.Statement.{statement}
+use Rattle.cheremysl.proofs.of_counted.Tie as tie
 
 enum-known-a : tie.Need-enum-known-a
 enum-known-a c = search needs
@@ -24,7 +24,7 @@ returns c = rw (c .before .a .given .1) (toZ-pos w64 (rw (c .before .a .given .1
 returns-2 : tie.Need-returns-2
 returns-2 c = rw (c .before .before .a2 .given .1) (toZ-ofZ (sfits-of (c .of-refusal .ok)) ∙ c .of-refusal .ensures)
 
-pub of-paged-spec : {M : Type 1} → statement M
-of-paged-spec =
+pub of-counted-spec : {M : Type 1} → statement M
+of-counted-spec =
     tie.close
     (tie.spec enum-known-a cast-result enum-known-a-2 of-refusal-requires returns returns-2)
