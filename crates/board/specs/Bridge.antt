@@ -138,7 +138,7 @@ module _ {b : Board} {order lo hi : List ℕ} {T : Source} {cost : ℕ → ℕ �
   below j m = let t = mem-at order j m in subst (λ (i : ℕ). i < b .pads) (t .2) (at (t .0) (omega (arith, t .1, same-n W)))
 
   -- What the search calls a layout is untouching,
-  sol-untouching : (f : ℕ → ℕ) → Sol G order 0 (T .ports) f → Untouching b f
+  pub sol-untouching : (f : ℕ → ℕ) → Sol G order 0 (T .ports) f → Untouching b f
   sol-untouching f s = untouching-of b f port (open-iff b f .1 (leaders-apart-iff b f (W .proper .differ) .1 apart, λ i h. given-open i (f i) h (port i h) (s .inside i (member i h) .allowed)))
     where
       port : (j : ℕ) → j < b .pads → f j < b .ports

@@ -12,9 +12,9 @@ use Rattle.paper.specs.declared.Work.the-variants.{Unlent}
 use Rattle.paper.specs.Job.{records, count}
 use Rattle.paper.specs.Layouts.{boardOf, weighted, byWeights, byTable, TableOf}
 use Rattle.paper.specs.Refusals.{Passed, soundTrials, measureTrials}
-use Rattle.paper.specs.Promises.{FirstAnswers, NextAnswers, PageAnswers}
+use Rattle.paper.specs.Promises.{FirstAnswers, NextAnswers, PageAnswers, CountAnswers, PlaceAnswers}
 use Rattle.paper.specs.laws.Accepted.{AcceptedJob, Fair}
-use Rattle.paper.specs.laws.Alike.{sound-follows, measure-follows, first-on, next-on, page-on}
+use Rattle.paper.specs.laws.Alike.{sound-follows, measure-follows, first-on, next-on, page-on, count-on, place-on}
 
 -- An accepted job's table has at most 4,096 figures.
 abbrev square : List ℕ → ℕ
@@ -48,3 +48,11 @@ module _ (job : List ℕ) (lw bw : ℕ) (fair : Fair (boardOf (records job)) (by
   pub page-back : (list before : List ℕ) (a : Counted) (after : List ℕ) → PageAnswers (records job) (byTable (take (square job) (figures ++ rest))) Unlent list before a after
       → PageAnswers (records job) (byWeights lw bw) Unlent list before a after
   page-back list before a after f = page-on (records job) (byTable figures) (byWeights lw bw) (T .long) fair (T .at) Unlent list before a after (rw front at f)
+
+  pub count-back : (numbers : ℕ) (a : Counted) → CountAnswers (records job) (byTable (take (square job) (figures ++ rest))) numbers a
+      → CountAnswers (records job) (byWeights lw bw) numbers a
+  count-back numbers a f = count-on (records job) (byTable figures) (byWeights lw bw) (T .long) fair (T .at) numbers a (rw front at f)
+
+  pub place-back : (numbers place : ℕ) (before : List ℕ) (a : Answer) (after : List ℕ)
+      → PlaceAnswers (records job) (byTable (take (square job) (figures ++ rest))) numbers place before a after → PlaceAnswers (records job) (byWeights lw bw) numbers place before a after
+  place-back numbers place before a after f = place-on (records job) (byTable figures) (byWeights lw bw) (T .long) fair (T .at) numbers place before a after (rw front at f)

@@ -14,10 +14,12 @@ use paper::Drawn;
 use paper::Form;
 use paper::Work;
 ghost use mathlib.Core.Path.{_≡_};
+ghost use lib.ListN.{length};
 ghost use Rattle.paper.specs.Job.{records};
 ghost use Rattle.paper.specs.Layouts.{boardOf, leader, byWeights};
 ghost use Rattle.paper.specs.Refusals.{Passed, drawTrials};
-ghost use Rattle.paper.specs.Promises.{FirstAnswers, NextAnswers, PageAnswers, MeasureAnswers, DrawAnswers};
+ghost use Rattle.paper.specs.Promises.{number, countedNumber, FirstAnswers, NextAnswers, PageAnswers, MeasureAnswers, DrawAnswers};
+ghost use Rattle.paper.specs.Promises.{CountAnswers, PlaceAnswers, BufferPromise};
 ghost use Rattle.paper.specs.laws.Drawn.{leaderDrawn};
 
 // First: the earliest best layout, in the first n entries of `list`.
@@ -71,6 +73,51 @@ pub fn page(job: &[u8], lw: u32, bw: u32, list: &[u16], page: &mut [u16]) -> Cou
     match v {
         Verdict::Sound => weighted::page(job, lw, bw, list, page),
         Verdict::Refused(r) => Counted::Refused(r),
+    }
+}
+
+// Count: how many best layouts there are. It takes no list: First's checks are passed with room for a layout.
+pub fn count(job: &[u8], lw: u32, bw: u32, buffer: &mut [u64]) -> Counted
+    ensures { λ r. ⌜ CountAnswers (records (now (job .entry))) (byWeights lw bw) (length (now (buffer .entry))) r ⌝ }
+    ensures { λ r. ⌜ BufferPromise (countedNumber r) (now (buffer .entry)) (now (buffer .exit)) ⌝ }
+{
+    let v = verdicts::of_first(
+        Form::Records,
+        job,
+        job,
+        verdicts::of_weights(lw, bw),
+        Work::Unlent,
+        job.len() / 16,
+    );
+    match v {
+        Verdict::Sound => weighted::count(job, lw, bw, buffer),
+        Verdict::Refused(r) => Counted::Refused(r),
+    }
+}
+
+// Place: the best layout at that place, counted from 0, in the first n entries of `list`.
+pub fn place(
+    job: &[u8],
+    lw: u32,
+    bw: u32,
+    place: u64,
+    list: &mut [u16],
+    buffer: &mut [u64],
+) -> Answer
+    ensures { λ r. ⌜ PlaceAnswers (records (now (job .entry))) (byWeights lw bw) (length (now (buffer .entry))) place (now (list .entry)) r (now (list .exit)) ⌝ }
+    ensures { λ r. ⌜ BufferPromise (number r) (now (buffer .entry)) (now (buffer .exit)) ⌝ }
+{
+    let v = verdicts::of_first(
+        Form::Records,
+        job,
+        job,
+        verdicts::of_weights(lw, bw),
+        Work::Unlent,
+        list.len(),
+    );
+    match v {
+        Verdict::Sound => weighted::place(job, lw, bw, place, list, buffer),
+        Verdict::Refused(r) => Answer::Refused(r),
     }
 }
 

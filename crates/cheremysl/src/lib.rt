@@ -11,6 +11,7 @@ ghost use Rattle.paper.specs.Job.{records, slots};
 ghost use Rattle.paper.specs.Layouts.{byWeights, byTable};
 ghost use Rattle.paper.specs.Promises.{refusalNumber, number, countedNumber, drawnNumber};
 ghost use Rattle.paper.specs.Promises.{FirstPromise, NextPromise, PagePromise, MeasurePromise, DrawPromise, WorkPromise};
+ghost use Rattle.paper.specs.Promises.{CountPromise, PlacePromise, BufferPromise};
 ghost use Rattle.paper.specs.laws.Bounds.{Bounded, BoundedCount};
 
 // C's number of a refusal, of an answer, of a page and of a drawn leader.
@@ -99,6 +100,35 @@ pub extern "C" fn cheremysl_measure(
     ensures { λ r. ⌜ MeasurePromise (records (now (job .entry))) (byWeights «length_weight» «bend_weight») (now (layout .entry)) r ⌝ }
 {
     of_answer(calls::measure(job, length_weight, bend_weight, layout))
+}
+
+#[no_mangle]
+pub extern "C" fn cheremysl_count(
+    job: &[u8],
+    length_weight: u32,
+    bend_weight: u32,
+    buffer: &mut [u64],
+) -> i64
+    ensures { λ r. ⌜ CountPromise (records (now (job .entry))) (byWeights «length_weight» «bend_weight») (length (now (buffer .entry))) r ⌝ }
+    ensures { λ r. ⌜ BufferPromise r (now (buffer .entry)) (now (buffer .exit)) ⌝ }
+{
+    of_counted(calls::count(job, length_weight, bend_weight, buffer))
+}
+
+#[no_mangle]
+pub extern "C" fn cheremysl_place(
+    job: &[u8],
+    length_weight: u32,
+    bend_weight: u32,
+    place: u64,
+    layout: &mut [u16],
+    buffer: &mut [u64],
+) -> i64
+    ensures { λ r. ⌜ PlacePromise (records (now (job .entry))) (byWeights «length_weight» «bend_weight») (length (now (buffer .entry))) place (now (layout .entry))
+        r (now (layout .exit)) ⌝ }
+    ensures { λ r. ⌜ BufferPromise r (now (buffer .entry)) (now (buffer .exit)) ⌝ }
+{
+    of_answer(calls::place(job, length_weight, bend_weight, place, layout, buffer))
 }
 
 #[no_mangle]

@@ -8,7 +8,7 @@ ghost use lib.ListN.{length};
 ghost use lib.Signed.{mag};
 ghost use Rattle.paper.specs.Job.{count, lastOf, portCount};
 ghost use Rattle.paper.specs.Layouts.{boardFrom, held};
-ghost use Rattle.paper.specs.Refusals.{workNeeded};
+ghost use Rattle.paper.specs.Refusals.{workNeeded, bufferNeeded};
 ghost use Rattle.paper.specs.laws.Tests.{badSize, badWeight, badTable, outside, badLast, badField, badHeight, notAbove, tooClose, sameName, sameX, between, leadersTouch, meets, meetsLarge, recordsTouch, badNumber};
 
 // 1: the byte count, of records of so many bytes.
@@ -25,6 +25,14 @@ pub fn short_work(n: usize, p: usize, numbers: usize) -> bool
     ensures { λ r. ⌜ r ≡ ltb numbers (workNeeded n p) ⌝ }
 {
     numbers < 2 * ((n + 1) * ((p + 2) * (p + 2)))
+}
+
+// 18: the length of the buffer of Count and Place, for so many pads.
+pub fn short_buffer(n: usize, numbers: usize) -> bool
+    requires { ⌜ n ≤ 64 ⌝ }
+    ensures { λ r. ⌜ r ≡ ltb numbers (bufferNeeded n) ⌝ }
+{
+    numbers < 2 * ((n + 2) * (n + 2))
 }
 
 // 2: the weights.

@@ -54,7 +54,7 @@ module _ (b : Board) {order lo hi : List ℕ} {T : Source} {cost : ℕ → ℕ �
   kept-on : (w v : List ℕ) → KeptFrom (length order) w v → Kept (b .pads) w v
   kept-on w v K = record { long = K .long; rest = λ k h. K .rest k (omega (arith, same-n)) }
 
-  says : Says (listRules order T lo hi) (rulesOf (labeling b cost))
+  pub says : Says (listRules order T lo hi) (rulesOf (labeling b cost))
   says = record {
     earliest = λ w v e. (first-best W C (held v) (e .earliest), kept-on w v (e .kept));
     nothing = λ none f u. none (f, untouching-sol W C f u);

@@ -1,6 +1,6 @@
 -- DEFINITIONS. 01, "Sheets worked by hand": the jobs as bytes, and the sheets P1 to P12, each with its call, its input and its whole reply.
 -- After P10 stands Measure's sheet for "its total is 85"; after P12, four for refusal 12, two for names of 0, four for both records of 9, those of tables, those of slots, and
--- those of squares. Page has its own list.
+-- those of squares. Page has its own list, and so have Count and Place.
 use mathlib.Core.Path.{_≡_}
 use mathlib.Core.List.{List, [], _∷_, _++_}
 use Prim.Native.Nat.{ℕ, _+_, _*_, _/_, _%_}
@@ -13,7 +13,7 @@ use Rattle.paper.specs.declared.Answer.{Answer}
 use Rattle.paper.specs.declared.Answer.the-variants.{Total, End, Refused}
 use Rattle.paper.specs.declared.Counted.{Counted}
 use Rattle.paper.specs.declared.Counted.the-variants.{Many, Refused as NotCounted}
-use Rattle.paper.specs.Promises.{number, countedNumber, FirstPromise, NextPromise, PagePromise, MeasurePromise}
+use Rattle.paper.specs.Promises.{number, countedNumber, FirstPromise, NextPromise, PagePromise, MeasurePromise, CountPromise, PlacePromise}
 
 -- 4 bytes, lowest first; a record of a name and a half-side, a pad (x, y) and a port height; and one whose pad is a point
 abbrev pub bytes4 : ℕ → List ℕ
@@ -246,4 +246,47 @@ pages =
     pageSheet J4 1 0 (1 ∷ 0 ∷ []) [] (pageRefused 10 0) [] ∷
     pageSheet J5 1 0 (1 ∷ 0 ∷ 2 ∷ []) (9 ∷ 9 ∷ 9 ∷ []) (NotCounted (refusal 9 2 1)) (9 ∷ 9 ∷ 9 ∷ []) ∷
     pageSheet (copper 4) 1 0 (0 ∷ 1 ∷ []) (9 ∷ 9 ∷ []) (NotCounted (refusal 9 1 0)) (9 ∷ 9 ∷ []) ∷
+    []
+
+-- ---- Count and Place
+
+-- Sheets of J3plus by weights 1 and 0. Count's: the buffer's length and the answer; Place's: the buffer's length, the place, the list at entry, the answer, the list at exit.
+pub record CountSheet : Type 0 where
+  pub numbers : ℕ
+  pub answer : Counted
+
+pub record PlaceSheet : Type 0 where
+  pub numbers : ℕ
+  pub place : ℕ
+  pub before : List ℕ
+  pub answer : Answer
+  pub after : List ℕ
+
+abbrev pub CountAllowed : CountSheet → Type 0
+CountAllowed s = CountPromise (records J3plus) (byWeights 1 0) (s .numbers) (countedNumber (s .answer))
+
+abbrev pub PlaceAllowed : PlaceSheet → Type 0
+PlaceAllowed s = PlacePromise (records J3plus) (byWeights 1 0) (s .numbers) (s .place) (s .before) (number (s .answer)) (s .after)
+
+abbrev pub countSheet : ℕ → Counted → CountSheet
+countSheet numbers answer = record { numbers = numbers; answer = answer }
+
+abbrev pub placeSheet : ℕ → ℕ → List ℕ → Answer → List ℕ → PlaceSheet
+placeSheet numbers place before answer after = record { numbers = numbers; place = place; before = before; answer = answer; after = after }
+
+abbrev pub countSheets : List CountSheet
+countSheets =
+    countSheet 50 (Many 3) ∷
+    countSheet 49 (NotCounted (refusal 18 0 0)) ∷
+    []
+
+-- The first place, the one after it and the last; at the count; 18 before 17; 3 before 18.
+abbrev pub placeSheets : List PlaceSheet
+placeSheets =
+    placeSheet 50 0 (9 ∷ 9 ∷ 9 ∷ []) (Total 85) (1 ∷ 2 ∷ 0 ∷ []) ∷
+    placeSheet 50 1 (9 ∷ 9 ∷ 9 ∷ []) (Total 85) (1 ∷ 0 ∷ 2 ∷ []) ∷
+    placeSheet 51 2 (9 ∷ 9 ∷ 9 ∷ 9 ∷ []) (Total 85) (0 ∷ 1 ∷ 2 ∷ 9 ∷ []) ∷
+    placeSheet 50 3 (9 ∷ 9 ∷ 9 ∷ []) (refused 17 0) (9 ∷ 9 ∷ 9 ∷ []) ∷
+    placeSheet 49 3 (9 ∷ 9 ∷ 9 ∷ []) (refused 18 0) (9 ∷ 9 ∷ 9 ∷ []) ∷
+    placeSheet 49 0 (9 ∷ 9 ∷ []) (refused 3 0) (9 ∷ 9 ∷ []) ∷
     []

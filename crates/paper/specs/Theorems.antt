@@ -1,11 +1,11 @@
 -- THE THEOREMS, in the order of the demands. Each is a closed statement about every input; nothing is assumed above it. The definitions are the files beside this
 -- one; the proofs are in laws/, for the prover. A call that keeps its promise, and the code is proved to, has all that is said here.
 --     m is the number that C gets, before and after are what the lent list holds at entry and at exit, bad the weights or the table, work the length of the
---     work list, if one is lent; a job is of either form
+--     work list, if one is lent, numbers the length of the buffer that Count and Place are lent; a job is of either form
 use mathlib.Core.Path.{_≡_, refl}
 use mathlib.Core.Logic.{_≢_, _⊎_, _↔_}
 use mathlib.Core.Bool.{false}
-use mathlib.Core.List.{List}
+use mathlib.Core.List.{List, []}
 use Prim.Native.Nat.{ℕ, _+_, _*_, _≤_, _<_}
 use lib.Dec.{T}
 use lib.ListN.{length, getD}
@@ -14,6 +14,7 @@ use lib.Signed.{_≤ℤ_}
 use lib.Ieee.{Float, binary32, fin, mul, ofInt}
 use Rattle.paper.specs.declared.Refusal.{Refusal}
 use Rattle.paper.specs.declared.Answer.the-variants.{Total, End}
+use Rattle.paper.specs.declared.Counted.the-variants.{Many}
 use Rattle.paper.specs.declared.Two.{Two}
 use Rattle.paper.specs.declared.Three.{Three}
 use Rattle.paper.specs.declared.Drawn.the-variants.{Straight, Bent}
@@ -25,13 +26,14 @@ use Rattle.paper.specs.Leaders.{Leader, Square, Between, Touch, Meets, d
 use Rattle.paper.specs.Plane.{Line, TouchIn, MeetsIn}
 use Rattle.paper.specs.Layouts.{Board, boardOf, held, leader, LeadersTouch, Touching, Layout, EachOnce, Untouching, sum, weighted, figure, Badness, byWeights, byTable, costOf, TableOf, total}
 use Rattle.paper.specs.Layouts.{Same, Differ, Proper}
-use Rattle.paper.specs.Problem.{Best, Before, FirstBest, NextBest, LastBest, labeling, labelingOf}
+use Rattle.paper.specs.Problem.{Best, Before, FirstBest, NextBest, LastBest, PlaceBest, CountBest, labeling, labelingOf}
 use Rattle.paper.specs.Refusals.{FirstFault, Passed, refusal, ofPairs, soundTrials, firstTrials, measureTrials, nextTrials, drawTrials, callsOf, Alone, FirstPair, Named}
+use Rattle.paper.specs.Refusals.{bufferNeeded, TooMany, PastCount, countTrials, placeTrials}
 use Rattle.paper.specs.Canvas.{FourTimesIs, DrawnStraight, DrawnBent}
 use Rattle.paper.specs.Promises.{refusalNumber, refusalIn, Kept, coordinates, overwritten, FirstPromise, NextPromise, PagePromise, MeasurePromise, DrawPromise, WorkPromise}
-use Rattle.paper.specs.Promises.{FirstReplies, NextReplies, PageReplies, MeasureReplies, OneReply, RefusesBy}
-use Rattle.paper.specs.Runs.{NextRun, Demand3, PageByNext, PagedOn}
-use Rattle.paper.specs.Sheets.{sample, Each, Allowed, sheets, PageAllowed, pages}
+use Rattle.paper.specs.Promises.{CountPromise, PlacePromise, BufferPromise, FirstReplies, NextReplies, PageReplies, MeasureReplies, CountReplies, PlaceReplies, OneReply, RefusesBy}
+use Rattle.paper.specs.Runs.{NextRun, Run, AskedTo, Demand3, PageByNext, PagedOn}
+use Rattle.paper.specs.Sheets.{sample, Each, Allowed, sheets, PageAllowed, pages, CountAllowed, countSheets, PlaceAllowed, placeSheets}
 use Rattle.paper.specs.Straightening.{LeastOfAll, CostsNothing, BendsCanCost, TablesCanCost, SquaresCanCost}
 use Rattle.paper.specs.Points.{Points, pointCallsOf}
 use Rattle.paper.specs.laws.Tests.{meets}
@@ -41,7 +43,7 @@ use Rattle.paper.specs.laws as by
 
 -- ---- DEMAND 1: every input gets an answer, and bad ones, but no others, are refused by number with the record at fault; then nothing is written
 
--- Every input to First has exactly one reply; so has every input to Next, to Page, to Measure and to Draw.
+-- Every input to First has exactly one reply; so has every input to Next, to Page, to Measure, to Count, to Place and to Draw.
 pub first-one-reply : (job : Job) (bad : Badness) (work : Work) (before : List ℕ) → OneReply (FirstPromise job bad work before)
 first-one-reply job bad work before = (by.Met.first-met (callsOf job bad work) (regular job bad work) before, by.Determined.first-determined (callsOf job bad work) before)
 
@@ -56,11 +58,19 @@ pub measure-one-reply : (job : Job) (bad : Badness) (list : List ℕ)
     → ((m : ℤ) × MeasurePromise job bad list m) × ((m n : ℤ) → MeasurePromise job bad list m → MeasurePromise job bad list n → m ≡ n)
 measure-one-reply job bad list = (by.Met.measure-met (callsOf job bad Unlent) (regular job bad Unlent) list, by.Determined.measure-determined (callsOf job bad Unlent) list)
 
+pub count-one-reply : (job : Job) (bad : Badness) (numbers : ℕ)
+    → ((m : ℤ) × CountPromise job bad numbers m) × ((m n : ℤ) → CountPromise job bad numbers m → CountPromise job bad numbers n → m ≡ n)
+count-one-reply job bad numbers = (by.Met.count-met (callsOf job bad Unlent) (regular job bad Unlent) numbers, by.Determined.count-determined (callsOf job bad Unlent) numbers)
+
+pub place-one-reply : (job : Job) (bad : Badness) (numbers place : ℕ) (before : List ℕ) → OneReply (PlacePromise job bad numbers place before)
+place-one-reply job bad numbers place before =
+    (by.Met.place-met (callsOf job bad Unlent) (regular job bad Unlent) numbers place before, by.Determined.place-determined (callsOf job bad Unlent) numbers place before)
+
 pub draw-one-reply : (job : List ℕ) (i q : ℕ) (before : List Float) → OneReply (DrawPromise job i q before)
 draw-one-reply job i q before = (by.Met.draw-met job i q before, by.Determined.draw-determined job i q before)
 
 -- First's number is a refusal exactly if one of its trials fails, and then it is that of the first that does, with its records, and the list holds what it held;
--- so are Next's, Page's, Measure's and Draw's.
+-- so are Next's, Page's, Measure's, Count's, Place's and Draw's.
 pub first-refuses : (job : Job) (bad : Badness) (work : Work) (before : List ℕ) (m : ℤ) (after : List ℕ) → FirstPromise job bad work before m after
     → RefusesBy (firstTrials job bad work (length before)) m (after ≡ before)
 first-refuses job bad work before m after = by.Numbers.first-refuses (callsOf job bad work) (numbered job bad work) before after m
@@ -77,6 +87,14 @@ pub measure-refuses : (job : Job) (bad : Badness) (list : List ℕ) (m : ℤ) �
     → RefusesBy (measureTrials job bad Unlent list) m (Unit {0})
 measure-refuses job bad = by.Numbers.measure-refuses (callsOf job bad Unlent) (numbered job bad Unlent)
 
+pub count-refuses : (job : Job) (bad : Badness) (numbers : ℕ) (m : ℤ) → CountPromise job bad numbers m
+    → RefusesBy (countTrials (callsOf job bad Unlent) numbers) m (Unit {0})
+count-refuses job bad = by.Numbers.count-refuses (callsOf job bad Unlent) (numbered job bad Unlent)
+
+pub place-refuses : (job : Job) (bad : Badness) (numbers place : ℕ) (before : List ℕ) (m : ℤ) (after : List ℕ) → PlacePromise job bad numbers place before m after
+    → RefusesBy (placeTrials (callsOf job bad Unlent) numbers place (length before)) m (after ≡ before)
+place-refuses job bad numbers place before m after = by.Numbers.place-refuses (callsOf job bad Unlent) (numbered job bad Unlent) numbers place before after m
+
 pub draw-refuses : (job : List ℕ) (i q : ℕ) (before : List Float) (m : ℤ) (after : List Float) → DrawPromise job i q before m after
     → RefusesBy (drawTrials job i q (length before)) m (after ≡ before)
 draw-refuses job i q before m after = by.Numbers.draw-refuses job i q before after m
@@ -88,7 +106,7 @@ pub first-keeps-work : (job : Job) (bad : Badness) (work : Work) (before : List 
 first-keeps-work job bad work before m after lent left p w n =
     let refused = first-refuses job bad work before m after p in
     let low = refused .exactly .1 (λ q. n (by.Accepted.first-sound job bad work (length before) q)) in
-    let (ten, none) = by.Named.sound-checked job bad work (length before) (refusalIn m) (by.Named.not-by-none job bad work (length before) (refusalIn m) n (refused .named low .0)) in
+    let (ten, none, _) = by.Named.sound-checked job bad work (length before) (refusalIn m) (by.Named.not-by-none job bad work (length before) (refusalIn m) n (refused .named low .0)) in
     w low ten none
 
 pub next-keeps-work : (job : Job) (bad : Badness) (work : Work) (before : List ℕ) (m : ℤ) (after lent left : List ℕ) → NextPromise job bad work before m after
@@ -96,15 +114,42 @@ pub next-keeps-work : (job : Job) (bad : Badness) (work : Work) (before : List �
 next-keeps-work job bad work before m after lent left p w n =
     let refused = next-refuses job bad work before m after p in
     let low = refused .exactly .1 (λ q. n (by.Accepted.next-measured job bad work before q)) in
-    let (ten, none) = by.Named.measure-checked job bad work before (refusalIn m) (by.Named.not-by-ten job bad work before (refusalIn m) n (refused .named low .0)) in
+    let (ten, none, _) = by.Named.measure-checked job bad work before (refusalIn m) (by.Named.not-by-ten job bad work before (refusalIn m) n (refused .named low .0)) in
     w low ten none
+
+-- The buffer that Count is lent holds what it held after every refusal but 16, and Place's after every one but 16 and 17 (02): these come where First's trials are
+-- passed and the buffer is long enough.
+pub count-keeps-buffer : (job : Job) (bad : Badness) (numbers : ℕ) (m : ℤ) (lent left : List ℕ) → CountPromise job bad numbers m → BufferPromise m lent left
+    → ¬ (Passed (firstTrials job bad Unlent (boardOf job .pads)) × (bufferNeeded (boardOf job .pads) ≤ numbers)) → left ≡ lent
+count-keeps-buffer job bad numbers m lent left p w n =
+    let refused = count-refuses job bad numbers m p in
+    let low = refused .exactly .1 (λ q. n (by.Places.count-opened (callsOf job bad Unlent) numbers q)) in
+    let (many, past) = by.Named.count-kept job bad numbers (refusalIn m) n (refused .named low .0) in
+    w low many past
+
+pub place-keeps-buffer : (job : Job) (bad : Badness) (numbers place : ℕ) (before : List ℕ) (m : ℤ) (after lent left : List ℕ)
+    → PlacePromise job bad numbers place before m after → BufferPromise m lent left
+    → ¬ (Passed (firstTrials job bad Unlent (length before)) × (bufferNeeded (boardOf job .pads) ≤ numbers)) → left ≡ lent
+place-keeps-buffer job bad numbers place before m after lent left p w n =
+    let refused = place-refuses job bad numbers place before m after p in
+    let low = refused .exactly .1 (λ q. n (by.Places.place-opened (callsOf job bad Unlent) numbers place (length before) q)) in
+    let (many, past) = by.Named.place-kept job bad numbers place (length before) (refusalIn m) n (refused .named low .0) in
+    w low many past
 
 -- ---- 15, where no layout is untouching (02)
 
--- First refuses by 15, record 0, exactly if its other trials are passed and no layout is untouching.
+-- First refuses by 15, record 0, exactly if its other trials are passed and no layout is untouching; so do Count and Place, whose trials begin with First's.
 pub first-none : (job : Job) (bad : Badness) (work : Work) (before : List ℕ) (m : ℤ) (after : List ℕ) → FirstPromise job bad work before m after
     → (m ≡ refusalNumber (refusal 15 0 0)) ↔ (Passed (soundTrials job bad work (length before)) × ((f : ℕ → ℕ) → ¬ Untouching (boardOf job) f))
 first-none job bad work before m after = by.Named.first-none job bad work before after m
+
+pub count-none : (job : Job) (bad : Badness) (numbers : ℕ) (m : ℤ) → CountPromise job bad numbers m
+    → (m ≡ refusalNumber (refusal 15 0 0)) ↔ (Passed (soundTrials job bad Unlent (boardOf job .pads)) × ((f : ℕ → ℕ) → ¬ Untouching (boardOf job) f))
+count-none = by.Named.count-none
+
+pub place-none : (job : Job) (bad : Badness) (numbers place : ℕ) (before : List ℕ) (m : ℤ) (after : List ℕ) → PlacePromise job bad numbers place before m after
+    → (m ≡ refusalNumber (refusal 15 0 0)) ↔ (Passed (soundTrials job bad Unlent (length before)) × ((f : ℕ → ℕ) → ¬ Untouching (boardOf job) f))
+place-none job bad numbers place before m after = by.Named.place-none job bad numbers place before after m
 
 -- Next needs no 15: where 1 to 7 are passed and no layout is untouching it refuses by 8 or 9. So do Page and Measure.
 pub next-none : (job : Job) (bad : Badness) (work : Work) (before : List ℕ) (m : ℤ) (after : List ℕ) → NextPromise job bad work before m after
@@ -147,10 +192,19 @@ pub page-names : (job : Job) (bad : Badness) (work : Work) (given before : List 
     → Named (boardOf job) (held given) (refusalIn m)
 page-names job bad work given before m after p l = by.Named.next-named job bad work given (refusalIn m) (page-refuses job bad work given before m after p .named l .0)
 
--- First and Draw name one record; and of a refusal that does, C's number is -(65,536 × r + i).
+-- First, Count, Place and Draw name one record, and Count and Place by 16, 17 and 18 record 0; and of a refusal that names one, C's number is -(65,536 × r + i).
 pub first-names : (job : Job) (bad : Badness) (work : Work) (before : List ℕ) (m : ℤ) (after : List ℕ) → FirstPromise job bad work before m after → m ≤ℤ negℤ (pos 65536)
     → Alone (refusalIn m)
 first-names job bad work before m after p l = by.Named.first-named job bad work (length before) (refusalIn m) (first-refuses job bad work before m after p .named l .0)
+
+pub count-names : (job : Job) (bad : Badness) (numbers : ℕ) (m : ℤ) → CountPromise job bad numbers m → m ≤ℤ negℤ (pos 65536)
+    → Alone (refusalIn m) × ((16 ≤ refusalIn m .reason) × (refusalIn m .reason ≤ 18) → refusalIn m .at ≡ 0)
+count-names job bad numbers m p l = by.Named.count-named job bad numbers (refusalIn m) (count-refuses job bad numbers m p .named l .0)
+
+pub place-names : (job : Job) (bad : Badness) (numbers place : ℕ) (before : List ℕ) (m : ℤ) (after : List ℕ) → PlacePromise job bad numbers place before m after
+    → m ≤ℤ negℤ (pos 65536) → Alone (refusalIn m) × ((16 ≤ refusalIn m .reason) × (refusalIn m .reason ≤ 18) → refusalIn m .at ≡ 0)
+place-names job bad numbers place before m after p l =
+    by.Named.place-named job bad numbers place (length before) (refusalIn m) (place-refuses job bad numbers place before m after p .named l .0)
 
 pub draw-names : (job : List ℕ) (i q : ℕ) (before : List Float) (m : ℤ) (after : List Float) → DrawPromise job i q before m after → m ≤ℤ negℤ (pos 65536)
     → Alone (refusalIn m)
@@ -272,7 +326,7 @@ pub table-bound : (job : Job) (figures list : List ℕ) → ((k : ℕ) → getD 
     → total (boardOf job) (figure (boardOf job) figures) (held list) ≤ 274877906880
 table-bound job figures list narrow p = by.Bounds.measure-bounded job (byTable figures) Unlent narrow list (Total _) (p, refl)
 
--- So is each number that First, Next and Measure by such a table give to C.
+-- So is each number that First, Next, Place and Measure by such a table give to C.
 pub first-bound : (job : Job) (figures : List ℕ) (work : Work) (before : List ℕ) (t : ℕ) (after : List ℕ) → ((k : ℕ) → getD figures k 0 < 4294967296)
     → FirstPromise job (byTable figures) work before (pos t) after → t ≤ 274877906880
 first-bound job figures work before t after narrow p =
@@ -282,6 +336,12 @@ pub next-bound : (job : Job) (figures : List ℕ) (work : Work) (before : List �
     → NextPromise job (byTable figures) work before (pos t) after → t ≤ 274877906880
 next-bound job figures work before t after narrow p =
     by.Bounds.next-bounded job (byTable figures) work narrow before (Total t) after (next-answers job (byTable figures) work before t after .0 p)
+
+pub place-bound : (job : Job) (figures : List ℕ) (numbers place : ℕ) (before : List ℕ) (t : ℕ) (after : List ℕ) → ((k : ℕ) → getD figures k 0 < 4294967296)
+    → PlacePromise job (byTable figures) numbers place before (pos t) after → t ≤ 274877906880
+place-bound job figures numbers place before t after narrow p =
+    by.Bounds.place-bounded job (byTable figures) narrow numbers place before (Total t) after
+    (by.Numbers.place-told (callsOf job (byTable figures) Unlent) (numbered job (byTable figures) Unlent) numbers place before after t p)
 
 pub measure-bound : (job : Job) (figures list : List ℕ) (t : ℕ) → ((k : ℕ) → getD figures k 0 < 4294967296)
     → MeasurePromise job (byTable figures) list (pos t) → t ≤ 274877906880
@@ -361,6 +421,106 @@ pub paged-on : (job : Job) (bad : Badness) (work : Work) (given before : List �
     → NextRun (callsOf job bad work) given ms → PagePromise job bad work given before (pos k) after → PagedOn (callsOf job bad work) given before ms k after
 paged-on job bad work = by.ByNext.paged-on (callsOf job bad work) (regular job bad work)
 
+-- ---- how many, and a place (02)
+
+-- Count answers k exactly if its trials are passed and there are k best layouts: one more than the last place. It is 1 to 1,000,000,000,000,000,000.
+pub count-answers : (job : Job) (bad : Badness) (numbers k : ℕ) → CountPromise job bad numbers (pos k)
+    ↔ (Passed (countTrials (callsOf job bad Unlent) numbers) × CountBest (labelingOf job bad) k)
+count-answers job bad numbers k = (by.Numbers.count-told (callsOf job bad Unlent) (numbered job bad Unlent) numbers k, λ a. (Many k, a, refl))
+
+pub count-bound : (job : Job) (bad : Badness) (numbers k : ℕ) → CountPromise job bad numbers (pos k) → (0 < k) × (k ≤ 1000000000000000000)
+count-bound job bad numbers k p =
+    let (passed, is) = count-answers job bad numbers k .0 p in
+    (by.Places.count-some (labelingOf job bad) k is, by.Places.count-few (callsOf job bad Unlent) numbers k passed is)
+
+-- It takes no list and no place: it never refuses by 3 or by 17.
+pub count-free : (job : Job) (bad : Badness) (numbers : ℕ) (m : ℤ) → CountPromise job bad numbers m → m ≤ℤ negℤ (pos 65536)
+    → (refusalIn m .reason ≢ 3) × (refusalIn m .reason ≢ 17)
+count-free job bad numbers m p l = by.Named.count-free job bad numbers (refusalIn m) (count-refuses job bad numbers m p .named l .0)
+
+-- Place answers t exactly if its trials are passed and the list then holds the layout at that place, t its total, the other entries kept.
+pub place-answers : (job : Job) (bad : Badness) (numbers place : ℕ) (before : List ℕ) (t : ℕ) (after : List ℕ)
+    → PlacePromise job bad numbers place before (pos t) after
+    ↔ (Passed (placeTrials (callsOf job bad Unlent) numbers place (length before)) × PlaceBest (labelingOf job bad) place (held after)
+    × (t ≡ total (boardOf job) (costOf (boardOf job) bad) (held after)) × Kept (boardOf job .pads) before after)
+place-answers job bad numbers place before t after =
+    (by.Numbers.place-told (callsOf job bad Unlent) (numbered job bad Unlent) numbers place before after t, λ a. (Total t, a, refl))
+
+-- Place k answers what First followed by k calls of Next answers, from the same list, and leaves what they leave; and so place 0 is First's.
+pub place-by-next : (job : Job) (bad : Badness) (numbers place : ℕ) (before : List ℕ) (t : ℕ) (after : List ℕ)
+    → PlacePromise job bad numbers place before (pos t) after
+    ↔ (Passed (placeTrials (callsOf job bad Unlent) numbers place (length before)) × AskedTo (callsOf job bad Unlent) before place (pos t) after)
+place-by-next job bad numbers place before t after = by.ByNext.place-by-next (callsOf job bad Unlent) (regular job bad Unlent) before numbers place t after
+
+pub place-first : (job : Job) (bad : Badness) (numbers : ℕ) (before : List ℕ) (t : ℕ) (after : List ℕ)
+    → PlacePromise job bad numbers 0 before (pos t) after
+    ↔ (Passed (placeTrials (callsOf job bad Unlent) numbers 0 (length before)) × FirstPromise job bad Unlent before (pos t) after)
+place-first job bad numbers = place-by-next job bad numbers 0
+
+-- The count is how many lists First and then Next until the end leave, and Place k answers with the layout of the one at k.
+pub count-of-run : (job : Job) (bad : Badness) (numbers k : ℕ) (list : List ℕ) (ls : List (List ℕ))
+    → CountPromise job bad numbers (pos k) → Run (callsOf job bad Unlent) list ls → k ≡ length ls
+count-of-run job bad numbers k list ls p r =
+    by.Places.count-one (labelingOf job bad) k (length ls) (count-answers job bad numbers k .0 p .1)
+    (by.ByNext.run-count (callsOf job bad Unlent) (regular job bad Unlent) list ls r)
+
+pub place-of-run : (job : Job) (bad : Badness) (numbers place : ℕ) (before : List ℕ) (t : ℕ) (after list : List ℕ) (ls : List (List ℕ))
+    → PlacePromise job bad numbers place before (pos t) after → Run (callsOf job bad Unlent) list ls
+    → (place < length ls) × Same (boardOf job) (held after) (held (getD ls place []))
+place-of-run job bad numbers place before t after list ls p r =
+    let at = place-answers job bad numbers place before t after .0 p .1 in
+    let count = by.ByNext.run-count (callsOf job bad Unlent) (regular job bad Unlent) list ls r in
+    let below = by.Places.place-below (labelingOf job bad) (length ls) place (held after) count at in
+    let run = by.ByNext.run-place (callsOf job bad Unlent) (regular job bad Unlent) list ls r place below in
+    (below, by.Places.place-one (labelingOf job bad) place (held after) (held (getD ls place [])) at run)
+
+-- Where Count answers k, every best layout has a place below k, its rank among them, and no other; places rise in 01's order; and with that buffer and room for a
+-- layout Place accepts exactly the places below k.
+pub every-best-has-a-place : (job : Job) (bad : Badness) (numbers k : ℕ) (f : ℕ → ℕ) → CountPromise job bad numbers (pos k) → Best (labelingOf job bad) f
+    → (place : ℕ) × (place < k) × PlaceBest (labelingOf job bad) place f × ((other : ℕ) → PlaceBest (labelingOf job bad) other f → other ≡ place)
+every-best-has-a-place job bad numbers k f p best =
+    let (passed, is) = count-answers job bad numbers k .0 p in
+    let S = regular job bad Unlent .searchable (boardOf job .pads) (by.Places.count-opened (callsOf job bad Unlent) numbers passed .0) in
+    by.Places.only-place (labelingOf job bad) (S .differ) (S .steady) k is f best
+
+pub places-rise : (job : Job) (bad : Badness) (numbers k : ℕ) → CountPromise job bad numbers (pos k)
+    → (i j : ℕ) (f g : ℕ → ℕ) → i < j → PlaceBest (labelingOf job bad) i f → PlaceBest (labelingOf job bad) j g → Before (boardOf job) f g
+places-rise job bad numbers k p =
+    let first = by.Places.count-opened (callsOf job bad Unlent) numbers (count-answers job bad numbers k .0 p .0) .0 in
+    by.Places.place-before (labelingOf job bad) (regular job bad Unlent .searchable (boardOf job .pads) first .differ)
+
+pub place-accepts : (job : Job) (bad : Badness) (numbers k : ℕ) → CountPromise job bad numbers (pos k) → (place room : ℕ) → boardOf job .pads ≤ room
+    → Passed (placeTrials (callsOf job bad Unlent) numbers place room) ↔ (place < k)
+place-accepts job bad numbers k p =
+    let (passed, is) = count-answers job bad numbers k .0 p in
+    by.Places.place-accepts (callsOf job bad Unlent) numbers k passed is (regular job bad Unlent)
+
+-- Count refuses by 18, record 0, exactly if First's trials are passed and the buffer is too short, and by 16 exactly if it is not and there are more best layouts than
+-- 1,000,000,000,000,000,000; so does Place, and by 17 exactly if there are no more, and the place is at or past their number.
+pub count-too-short : (job : Job) (bad : Badness) (numbers : ℕ) (m : ℤ) → CountPromise job bad numbers m
+    → (m ≡ refusalNumber (refusal 18 0 0)) ↔ (Passed (firstTrials job bad Unlent (boardOf job .pads)) × (numbers < bufferNeeded (boardOf job .pads)))
+count-too-short = by.Named.count-too-short
+
+pub count-too-many : (job : Job) (bad : Badness) (numbers : ℕ) (m : ℤ) → CountPromise job bad numbers m
+    → (m ≡ refusalNumber (refusal 16 0 0))
+    ↔ (Passed (firstTrials job bad Unlent (boardOf job .pads)) × (bufferNeeded (boardOf job .pads) ≤ numbers) × TooMany (labelingOf job bad))
+count-too-many = by.Named.count-too-many
+
+pub place-too-short : (job : Job) (bad : Badness) (numbers place : ℕ) (before : List ℕ) (m : ℤ) (after : List ℕ) → PlacePromise job bad numbers place before m after
+    → (m ≡ refusalNumber (refusal 18 0 0)) ↔ (Passed (firstTrials job bad Unlent (length before)) × (numbers < bufferNeeded (boardOf job .pads)))
+place-too-short job bad numbers place before m after = by.Named.place-too-short job bad numbers place before after m
+
+pub place-too-many : (job : Job) (bad : Badness) (numbers place : ℕ) (before : List ℕ) (m : ℤ) (after : List ℕ) → PlacePromise job bad numbers place before m after
+    → (m ≡ refusalNumber (refusal 16 0 0))
+    ↔ (Passed (firstTrials job bad Unlent (length before)) × (bufferNeeded (boardOf job .pads) ≤ numbers) × TooMany (labelingOf job bad))
+place-too-many job bad numbers place before m after = by.Named.place-too-many job bad numbers place before after m
+
+pub place-past-count : (job : Job) (bad : Badness) (numbers place : ℕ) (before : List ℕ) (m : ℤ) (after : List ℕ) → PlacePromise job bad numbers place before m after
+    → (m ≡ refusalNumber (refusal 17 0 0))
+    ↔ (Passed (firstTrials job bad Unlent (length before)) × (bufferNeeded (boardOf job .pads) ≤ numbers)
+    × (¬ TooMany (labelingOf job bad)) × PastCount (labelingOf job bad) place)
+place-past-count job bad numbers place before m after = by.Named.place-past-count job bad numbers place before after m
+
 -- ---- straightening costs no length (02, No. 5)
 
 -- For half-sides 0 and bend weight 0 no layout at all, touching or not, has a smaller total than First answers; nor than a best one, on any board with enough ports.
@@ -383,7 +543,7 @@ squares-can-cost = by.Shortest.squares-can-cost
 
 -- ---- on points the promises are 01's (02)
 
--- Of a job whose half-sides are all 0 First replies as where only leaders touch, and no job is refused by 15; so do Next, Page and Measure.
+-- Of a job whose half-sides are all 0 First replies as where only leaders touch, and no job is refused by 15; so do Next, Page, Count, Place and Measure.
 pub first-on-points : (job : Job) (bad : Badness) (work : Work) → Points (boardOf job) → (before : List ℕ) (m : ℤ) (after : List ℕ)
     → FirstPromise job bad work before m after ↔ FirstReplies (pointCallsOf job bad work) before m after
 first-on-points job bad work points = by.OnPoints.first-on-points job bad points work
@@ -396,13 +556,21 @@ pub page-on-points : (job : Job) (bad : Badness) (work : Work) → Points (board
     → PagePromise job bad work given before m after ↔ PageReplies (pointCallsOf job bad work) given before m after
 page-on-points job bad work points = by.OnPoints.page-on-points job bad points work
 
+pub count-on-points : (job : Job) (bad : Badness) → Points (boardOf job) → (numbers : ℕ) (m : ℤ)
+    → CountPromise job bad numbers m ↔ CountReplies (pointCallsOf job bad Unlent) numbers m
+count-on-points job bad points = by.OnPoints.count-on-points job bad points Unlent
+
+pub place-on-points : (job : Job) (bad : Badness) → Points (boardOf job) → (numbers place : ℕ) (before : List ℕ) (m : ℤ) (after : List ℕ)
+    → PlacePromise job bad numbers place before m after ↔ PlaceReplies (pointCallsOf job bad Unlent) numbers place before m after
+place-on-points job bad points = by.OnPoints.place-on-points job bad points Unlent
+
 pub measure-on-points : (job : Job) (bad : Badness) → Points (boardOf job) → (list : List ℕ) (m : ℤ)
     → MeasurePromise job bad list m ↔ MeasureReplies (pointCallsOf job bad Unlent) list m
 measure-on-points job bad points = by.OnPoints.measure-on-points job bad points Unlent
 
 -- ---- the weighted calls are the table of weighted lengths and bends (02)
 
--- By weights that are not refused First replies as by their table, and the other way round; so do Next, Page and Measure.
+-- By weights that are not refused First replies as by their table, and the other way round; so do Next, Page, Count, Place and Measure.
 pub first-by-table : (job : Job) (lw bw : ℕ) (figures : List ℕ) → lw ≤ 1000 → bw ≤ 1000 → TableOf (boardOf job) (weighted (boardOf job) lw bw) figures
     → (work : Work) (before : List ℕ) (m : ℤ) (after : List ℕ) → FirstPromise job (byWeights lw bw) work before m after ↔ FirstPromise job (byTable figures) work before m after
 first-by-table = by.Alike.first-by-table
@@ -414,6 +582,15 @@ next-by-table = by.Alike.next-by-table
 pub page-by-table : (job : Job) (lw bw : ℕ) (figures : List ℕ) → lw ≤ 1000 → bw ≤ 1000 → TableOf (boardOf job) (weighted (boardOf job) lw bw) figures
     → (work : Work) (given before : List ℕ) (m : ℤ) (after : List ℕ) → PagePromise job (byWeights lw bw) work given before m after ↔ PagePromise job (byTable figures) work given before m after
 page-by-table = by.Alike.page-by-table
+
+pub count-by-table : (job : Job) (lw bw : ℕ) (figures : List ℕ) → lw ≤ 1000 → bw ≤ 1000 → TableOf (boardOf job) (weighted (boardOf job) lw bw) figures
+    → (numbers : ℕ) (m : ℤ) → CountPromise job (byWeights lw bw) numbers m ↔ CountPromise job (byTable figures) numbers m
+count-by-table = by.Alike.count-by-table
+
+pub place-by-table : (job : Job) (lw bw : ℕ) (figures : List ℕ) → lw ≤ 1000 → bw ≤ 1000 → TableOf (boardOf job) (weighted (boardOf job) lw bw) figures
+    → (numbers place : ℕ) (before : List ℕ) (m : ℤ) (after : List ℕ)
+    → PlacePromise job (byWeights lw bw) numbers place before m after ↔ PlacePromise job (byTable figures) numbers place before m after
+place-by-table = by.Alike.place-by-table
 
 pub measure-by-table : (job : Job) (lw bw : ℕ) (figures : List ℕ) → lw ≤ 1000 → bw ≤ 1000 → TableOf (boardOf job) (weighted (boardOf job) lw bw) figures
     → (list : List ℕ) (m : ℤ) → MeasurePromise job (byWeights lw bw) list m ↔ MeasurePromise job (byTable figures) list m
@@ -437,9 +614,16 @@ pub fields-read : (count sample ≡ 2) × (nameOf sample 1 ≡ 513) × (halfOf s
     × (portCount Slots sample ≡ 8) × (portOf Slots sample 7 ≡ negℤ (pos 2147483648)) × (twos 2147483647 ≡ pos 2147483647)
 fields-read = by.Vectors.fields-read
 
--- P1 to P12, and those of 02 for 12, for both records of 9, by tables, on slots and with squares, are replies that the promises allow; so are Page's nine.
+-- P1 to P12, and those of 02 for 12, for both records of 9, by tables, on slots and with squares, are replies that the promises allow; so are Page's nine, Count's two
+-- and Place's six.
 pub worked : Each Allowed sheets
 worked = by.Worked.worked
 
 pub worked-pages : Each PageAllowed pages
 worked-pages = by.Worked.worked-pages
+
+pub worked-counts : Each CountAllowed countSheets
+worked-counts = by.Worked.worked-counts
+
+pub worked-places : Each PlaceAllowed placeSheets
+worked-places = by.Worked.worked-places

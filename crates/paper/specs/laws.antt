@@ -28,8 +28,10 @@ pub mod Kept
 pub mod Earliest
 pub mod Pages
 pub mod Regular
--- THE THEOREMS: determinacy, each promise can be met, demand 3, a page is what calls of Next give, straightening costs no length, by weights as by their table, the
--- worked sheets.
+-- Places and the count of best layouts:
+pub mod Places
+-- THE THEOREMS: determinacy, each promise can be met, demand 3, a page and a place are what calls of Next give, straightening costs no length, by weights as by their
+-- table, the worked sheets.
 pub mod Determined
 pub mod Met
 pub mod Demand

@@ -20,7 +20,7 @@ use Rattle.totals.proofs.Ports.{in-table}
 use Rattle.totals.proofs.Cells.{cell-right, figures-cheap, port-right}
 
 -- the pads that count are those that are kept
-count-keep : (S : Sides) (a b : ℕ) (js : List ℕ) → padsIn S a b js ≡ length (keep (fits S a b) js)
+pub count-keep : (S : Sides) (a b : ℕ) (js : List ℕ) → padsIn S a b js ≡ length (keep (fits S a b) js)
 unfolding padsIn keep
 count-keep S a b [] = refl
 count-keep S a b (j ∷ js) =

@@ -1,6 +1,6 @@
 -- What a call may go by once its trials are passed.
 --     sound-accepted, draw-accepted: the job's fields, weights or table, and room;  first-sound, first-some, first-passed: First's are these, and some layout counts;  layout-passed: 8 and 9 on any board;  measure-accepted, untouching-passed: Measure's
-use mathlib.Core.Path.{_≡_, refl, ap}
+use mathlib.Core.Path.{_≡_, ap}
 use mathlib.Core.Logic.{_≢_, inl, inr, ⊎-elim, _↔_, Dec·not-not}
 use mathlib.Core.List.{List, [], _∷_}
 use Prim.Native.Nat.{ℕ, zero, suc, _*_, _%_, _-_, _≤_, _<_}
@@ -22,7 +22,7 @@ use Rattle.paper.specs.Problem.{Best, labelingOf}
 use Rattle.paper.specs.Refusals.{BadSize, BadField, BadEntry, workNeeded, Clean, Passed, RefusedBy, refusal}
 use Rattle.paper.specs.Refusals.{sizeTrials, enoughTrials, workTrials, fieldTrials, boardTrials, jobTrials, badnessTrial, soundTrials, firstTrials, measureTrials, nextTrials, drawTrials, layoutTrials, bestTrial, NoLayout, noneTrial, numberTrial}
 use Rattle.paper.specs.Layouts.{Differ, Rising, Proper}
-use Rattle.paper.specs.laws.Trials.{alone, passed-append, append-passed, refused-left, refused-right}
+use Rattle.paper.specs.laws.Trials.{whole-refused, passed-append, append-passed, refused-left, refused-right}
 use Rattle.paper.specs.laws.Decided.{passed-differ, sound-parts}
 use Rattle.paper.specs.laws.Totals.{sum-at-most, weighted-bound, total-bound}
 
@@ -230,8 +230,7 @@ module _ (job : Job) (bad : Badness) (work : Work) (room : ℕ) where
 
   pub none-refused : Passed (soundTrials job bad work room) → NoLayout (labelingOf job bad) → RefusedBy (firstTrials job bad work room) (refusal 15 0 0)
   none-refused p none =
-      refused-right (soundTrials job bad work room) (noneTrial (labelingOf job bad) ∷ []) (refusal 15 0 0) p
-      (inl (refl, record { inside = omega arith; first = record { here = none; none-below = λ j l. absurd (omega arith) }; named = alone }))
+      refused-right (soundTrials job bad work room) (noneTrial (labelingOf job bad) ∷ []) (refusal 15 0 0) p (whole-refused 15 (NoLayout (labelingOf job bad)) [] none)
 
   -- What 1 to 7 refuse, First refuses alike.
   pub sound-refused : (r : Refusal) → RefusedBy (soundTrials job bad work room) r → RefusedBy (firstTrials job bad work room) r
@@ -259,8 +258,7 @@ module _ (job : Job) (bad : Badness) (work : Work) (list : List ℕ) where
   pub not-best-refused : Passed (measureTrials job bad work list) → ¬ Best (labelingOf job bad) (held list)
       → RefusedBy (nextTrials job bad work list) (refusal 10 0 0)
   not-best-refused p n =
-      refused-right (measureTrials job bad work list) (bestTrial (labelingOf job bad) list ∷ []) (refusal 10 0 0) p
-      (inl (refl, record { inside = omega arith; first = record { here = (measure-accepted p .1, n); none-below = λ j l. absurd (omega arith) }; named = alone }))
+      refused-right (measureTrials job bad work list) (bestTrial (labelingOf job bad) list ∷ []) (refusal 10 0 0) p (whole-refused 10 _ [] (measure-accepted p .1, n))
 
   -- its trials are passed if Measure's are and the list holds a best layout.
   pub best-passed : Passed (measureTrials job bad work list) → Best (labelingOf job bad) (held list) → Passed (nextTrials job bad work list)

@@ -1,12 +1,12 @@
 -- CALLS THAT COST ALIKE ANSWER ALIKE. Weights and a table, or two tables, that give every pad with every port the same cost: the same replies, refusals and lists
 -- too. So the weighted calls are those on the table of weighted lengths and bends.
---     first-by-table, next-by-table, page-by-table, measure-by-table;  table-of: there is such a table
---     sound-follows, measure-follows, first-on, next-on, page-on: from one to the other, for the code that searches by such a table
---     first-over, next-over, page-over, measure-over: of any calls whose trials follow, on problems whose layouts are worth the same
+--     first-by-table, next-by-table, page-by-table, measure-by-table, count-by-table, place-by-table;  table-of: there is such a table
+--     sound-follows, measure-follows, first-on, next-on, page-on, count-on, place-on: from one to the other, for the code that searches by such a table
+--     first-over, next-over, page-over, measure-over, count-over, place-over: of any calls whose trials follow, on problems whose layouts are worth the same
 use mathlib.Core.Path.{_≡_, sym, _∙_}
 use mathlib.Core.Logic.{inl, inr, ⊎-elim, _↔_}
 use mathlib.Core.List.{List, [], _∷_, _++_}
-use Prim.Native.Nat.{ℕ, _+_, _*_, _/_, _%_, _≤_, _<_}
+use Prim.Native.Nat.{ℕ, zero, suc, _+_, _*_, _/_, _%_, _≤_, _<_}
 use native.Mathlib.Omega.{arith}
 use lib.Arith.{digits-div, digits-mod}
 use lib.ListN.{length}
@@ -21,14 +21,17 @@ use Rattle.paper.specs.declared.Work.{Work}
 use Rattle.paper.specs.declared.Work.the-variants.{Unlent}
 use Rattle.paper.specs.Job.{Job}
 use Rattle.paper.specs.Layouts.{Board, boardOf, held, Layout, Untouching, Badness, byWeights, byTable, weighted, costOf, TableOf, total}
-use Rattle.paper.specs.Problem.{Problem, Best, FirstBest, NextBest, LastBest, labelingOf}
+use Rattle.paper.specs.Problem.{Problem, Best, FirstBest, NextBest, LastBest, PlaceBest, CountBest, labelingOf}
 use Rattle.paper.specs.Refusals.{Trial, Clean, Passed, RefusedBy, sizeTrials, roomTrials, jobTrials, layoutTrials, ofWhole, badnessTrial, bestTrial}
 use Rattle.paper.specs.Refusals.{noneTrial, soundTrials, firstTrials, measureTrials, nextTrials, Calls}
+use Rattle.paper.specs.Refusals.{limit, bufferNeeded, TooMany, PastCount, numberTrials, countTrials, placeTrials}
+use Rattle.paper.specs.Promises.{CountOver, PlaceOver, CountAnswers, PlaceAnswers, CountPromise, PlacePromise}
 use Rattle.paper.specs.Promises.{Following, FirstOver, NextOver, PageOver, MeasureOver, FirstAnswers, NextAnswers, PageAnswers, MeasureAnswers, FirstPromise, NextPromise, PagePromise, MeasurePromise}
 use Rattle.paper.specs.laws.Trials.{passed-append, append-passed, refused-left, refused-right, refused-append}
 use Rattle.paper.specs.laws.Totals.{sum-same}
 use Rattle.paper.specs.laws.Trying.{row, row-length, row-at}
 use Rattle.paper.specs.laws.Accepted.{Fair, fair-iff, measure-accepted}
+use Rattle.paper.specs.laws.Places.{place-best, pastTrials, laterTrials}
 
 -- ---- problems
 
@@ -70,6 +73,13 @@ module _ (b : Board) {C D : (ℕ → ℕ) → Type 0} {v w : (ℕ → ℕ) → �
     all = ⊎-elim inl (λ l. inr (last-best-alike _ l)) (s .all);
     kept = s .kept;
   }
+
+  place-alike : (k : ℕ) (f : ℕ → ℕ) → PlaceBest (Given b C v) k f → PlaceBest (Given b D w) k f
+  place-alike zero f s = first-best-alike f s
+  place-alike (suc k) f (g, s, u) = (g, place-alike k g s, next-best-alike g f u)
+
+  count-alike : (k : ℕ) → CountBest (Given b C v) k → CountBest (Given b D w) k
+  count-alike k N = record { last = N .last; layout = N .layout; at = place-alike (N .last) (N .layout) (N .at); end = last-best-alike (N .layout) (N .end); more = N .more }
 
   -- 10 names the same layouts.
   pub not-best-alike : (list : List ℕ) → (C (held list) × ¬ Best (Given b C v) (held list)) ↔ (D (held list) × ¬ Best (Given b D w) (held list))
@@ -118,6 +128,17 @@ whole-follows r P Q same = (
       (λ a. absurd (a .1)),
 )
 
+-- What is said of the number of best layouts, on two such problems; so 16 and 17 refuse the same.
+counts-alike : (b : Board) {C D : (ℕ → ℕ) → Type 0} {v w : (ℕ → ℕ) → ℕ} → SameWorth C D v w → (P : ℕ → Type 0)
+    → ((c : ℕ) × CountBest (Given b C v) c × P c) ↔ ((c : ℕ) × CountBest (Given b D w) c × P c)
+counts-alike b same P = ((λ (c, N, x). (c, count-alike b same c N, x)), (λ (c, N, x). (c, count-alike b (turned same) c N, x)))
+
+number-follows : (b : Board) {C D : (ℕ → ℕ) → Type 0} {v w : (ℕ → ℕ) → ℕ} → SameWorth C D v w → (numbers : ℕ)
+    → Follows (numberTrials (Given b C v) numbers) (numberTrials (Given b D w) numbers)
+number-follows b {C} {D} {v} {w} same numbers =
+    after-same (ofWhole 18 (numbers < bufferNeeded (b .pads))) (ofWhole 16 (TooMany (Given b C v)) ∷ []) (ofWhole 16 (TooMany (Given b D w)) ∷ [])
+    (whole-follows 16 (TooMany (Given b C v)) (TooMany (Given b D w)) (counts-alike b same (λ c. limit < c)))
+
 -- ---- calls
 
 -- Calls on such problems whose trials follow reply alike.
@@ -153,6 +174,29 @@ module _ (b : Board) {C D : (ℕ → ℕ) → Type 0} {v w : (ℕ → ℕ) → �
   measure-over follows counts list (Total t) (p, e) = (follows list .0 p, e ∙ same .value (held list) (counts list p))
   measure-over follows counts list End p = absurd p
   measure-over follows counts list (Refused r) a = follows list .1 r a
+
+  module _ (follows : (room : ℕ) → Follows (first room) (other-first room)) (numbers : ℕ) where
+    count-follows : Follows (countTrials these numbers) (countTrials those numbers)
+    count-follows =
+        follows-append (first (b .pads)) (other-first (b .pads)) (numberTrials (these .problem) numbers) (numberTrials (those .problem) numbers)
+        (follows (b .pads)) (number-follows b same numbers)
+
+    pub count-over : (a : Counted) → CountOver these numbers a → CountOver those numbers a
+    count-over (Many k) (p, N) = (count-follows .0 p, count-alike b same k N)
+    count-over (NotCounted r) a = count-follows .1 r a
+
+    place-follows : (place room : ℕ) → Follows (placeTrials these numbers place room) (placeTrials those numbers place room)
+    place-follows place room =
+        follows-append (first room) (other-first room) (laterTrials (these .problem) numbers place) (laterTrials (those .problem) numbers place) (follows room)
+        (follows-append (numberTrials (these .problem) numbers) (numberTrials (those .problem) numbers) (pastTrials (these .problem) place) (pastTrials (those .problem) place)
+        (number-follows b same numbers) (whole-follows 17 (PastCount (these .problem) place) (PastCount (those .problem) place) (counts-alike b same (λ c. c ≤ place))))
+
+    pub place-over : (place : ℕ) (before : List ℕ) (a : Answer) (after : List ℕ) → PlaceOver these numbers place before a after → PlaceOver those numbers place before a after
+    place-over place before (Total t) after (p, s, e, k) =
+        let best = place-best (these .problem) place (held after) s in
+        (place-follows place (length before) .0 p, place-alike b same place (held after) s, e ∙ same .value (held after) (best .counts), k)
+    place-over place before End after p = absurd p
+    place-over place before (Refused r) after (a, e) = (place-follows place (length before) .1 r a, e)
 
 module _ (job : Job) where
   abbrev b : Board
@@ -209,6 +253,17 @@ module _ (job : Job) where
         measure-over b (same-worth bad other same) (firstTrials job bad Unlent) (firstTrials job other Unlent) (measureTrials job bad Unlent) (measureTrials job other Unlent)
         (nextTrials job bad Unlent) (nextTrials job other Unlent) (measure-follows Unlent) (λ list p. measure-accepted job bad Unlent list p .1)
 
+    pub count-on : (numbers : ℕ) (a : Counted) → CountAnswers job bad numbers a → CountAnswers job other numbers a
+    count-on =
+        count-over b (same-worth bad other same) (firstTrials job bad Unlent) (firstTrials job other Unlent) (measureTrials job bad Unlent) (measureTrials job other Unlent)
+        (nextTrials job bad Unlent) (nextTrials job other Unlent) (first-follows Unlent)
+
+    pub place-on : (numbers place : ℕ) (before : List ℕ) (a : Answer) (after : List ℕ)
+        → PlaceAnswers job bad numbers place before a after → PlaceAnswers job other numbers place before a after
+    place-on =
+        place-over b (same-worth bad other same) (firstTrials job bad Unlent) (firstTrials job other Unlent) (measureTrials job bad Unlent) (measureTrials job other Unlent)
+        (nextTrials job bad Unlent) (nextTrials job other Unlent) (first-follows Unlent)
+
   -- THEOREMS. By weights as by their table.
   module _ (lw bw : ℕ) (figures : List ℕ) (lengths : lw ≤ 1000) (bends : bw ≤ 1000) (t : TableOf b (weighted b lw bw) figures) where
     pub first-by-table : (work : Work) (before : List ℕ) (m : ℤ) (after : List ℕ) → FirstPromise job (byWeights lw bw) work before m after ↔ FirstPromise job (byTable figures) work before m after
@@ -234,6 +289,19 @@ module _ (job : Job) where
     measure-by-table list m = (
       (λ (a, p, e). (a, measure-on (byWeights lw bw) (byTable figures) (lengths, bends) (t .long) (λ i q h k. sym (t .at i q h k)) list a p, e)),
       (λ (a, p, e). (a, measure-on (byTable figures) (byWeights lw bw) (t .long) (lengths, bends) (t .at) list a p, e)),
+    )
+
+    pub count-by-table : (numbers : ℕ) (m : ℤ) → CountPromise job (byWeights lw bw) numbers m ↔ CountPromise job (byTable figures) numbers m
+    count-by-table numbers m = (
+      (λ (a, p, e). (a, count-on (byWeights lw bw) (byTable figures) (lengths, bends) (t .long) (λ i q h k. sym (t .at i q h k)) numbers a p, e)),
+      (λ (a, p, e). (a, count-on (byTable figures) (byWeights lw bw) (t .long) (lengths, bends) (t .at) numbers a p, e)),
+    )
+
+    pub place-by-table : (numbers place : ℕ) (before : List ℕ) (m : ℤ) (after : List ℕ)
+        → PlacePromise job (byWeights lw bw) numbers place before m after ↔ PlacePromise job (byTable figures) numbers place before m after
+    place-by-table numbers place before m after = (
+      (λ (a, p, e). (a, place-on (byWeights lw bw) (byTable figures) (lengths, bends) (t .long) (λ i q h k. sym (t .at i q h k)) numbers place before a after p, e)),
+      (λ (a, p, e). (a, place-on (byTable figures) (byWeights lw bw) (t .long) (lengths, bends) (t .at) numbers place before a after p, e)),
     )
 
 -- THEOREM. Every cost has a table.

@@ -1,5 +1,5 @@
--- A total is at most 64 times the largest figure of 32 bits. So every total that a call answers fits C's number; and so does how many layouts a page has.
---     first-bounded, next-bounded, measure-bounded, page-counted
+-- A total is at most 64 times the largest figure of 32 bits. So every total that a call answers fits C's number; and so does how many layouts a page has, and a count.
+--     first-bounded, next-bounded, measure-bounded, place-bounded, page-counted, count-bounded
 use mathlib.Core.Path.{_≡_}
 use mathlib.Core.List.{List}
 use Prim.Native.Nat.{ℕ, _^_, _≤_, _<_}
@@ -14,10 +14,13 @@ use Rattle.paper.specs.declared.Work.{Work}
 use Rattle.paper.specs.declared.Work.the-variants.{Unlent}
 use Rattle.paper.specs.Job.{Job}
 use Rattle.paper.specs.Layouts.{boardOf, held, Badness, Layout}
-use Rattle.paper.specs.Refusals.{Passed, soundTrials}
-use Rattle.paper.specs.Promises.{FirstAnswers, NextAnswers, PageAnswers, MeasureAnswers}
+use Rattle.paper.specs.Problem.{labelingOf}
+use Rattle.paper.specs.Refusals.{Passed, soundTrials, firstTrials, callsOf}
+use Rattle.paper.specs.Promises.{FirstAnswers, NextAnswers, PageAnswers, MeasureAnswers, CountAnswers, PlaceAnswers}
+use Rattle.paper.specs.laws.Trials.{append-passed}
 use Rattle.paper.specs.laws.Totals.{totalOf}
 use Rattle.paper.specs.laws.Accepted.{Narrow, sound-accepted, first-sound, measure-accepted, measure-facts, next-measured, total-most}
+use Rattle.paper.specs.laws.Places.{place-best, count-few}
 
 abbrev pub Bounded : Answer → Type 0
 Bounded (Total t) = t ≤ 274877906880
@@ -48,6 +51,14 @@ module _ (job : Job) (bad : Badness) (work : Work) (narrow : Narrow bad) (before
   measure-bounded End m = tt
   measure-bounded (Refused r) m = tt
 
+pub place-bounded : (job : Job) (bad : Badness) → Narrow bad → (numbers place : ℕ) (before : List ℕ) (a : Answer) (after : List ℕ)
+    → PlaceAnswers job bad numbers place before a after → Bounded a
+place-bounded job bad narrow numbers place before (Total t) after f =
+    let p = first-sound job bad Unlent (length before) (append-passed (firstTrials job bad Unlent (length before)) _ (f .0) .0) in
+    total-bounded job bad Unlent (length before) t after narrow p (place-best (labelingOf job bad) place (held after) (f .1) .counts .layout) (f .2)
+place-bounded job bad narrow numbers place before End after f = tt
+place-bounded job bad narrow numbers place before (Refused r) after f = tt
+
 abbrev pub BoundedCount : Counted → Type 0
 BoundedCount (Many k) = k < 2 ^ 63
 BoundedCount (NotCounted r) = Unit {0}
@@ -59,3 +70,8 @@ page-counted job bad work given before (Many k) after h n =
     let some = measure-facts job bad work given (next-measured job bad work given (n .0)) .0 .some in
     omega (arith, n .1 .fit, mul-le-mul-left {m = 1} {n = boardOf job .pads} k some)
 page-counted job bad work given before (NotCounted r) after h n = tt
+
+-- A count that is not refused by 16 is at most 1,000,000,000,000,000,000.
+pub count-bounded : (job : Job) (bad : Badness) (numbers : ℕ) (a : Counted) → CountAnswers job bad numbers a → BoundedCount a
+count-bounded job bad numbers (Many k) (p, is) = omega (arith, count-few (callsOf job bad Unlent) numbers k p is)
+count-bounded job bad numbers (NotCounted r) c = tt

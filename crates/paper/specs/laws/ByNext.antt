@@ -1,6 +1,7 @@
--- A PAGE BY CALLS OF NEXT. What Page replies, refusals too, is what that many calls of Next give; and who goes on from the last layout of a page
--- loses no layout and meets none twice. It is shown of the promises, so of every program that keeps to them.
---     page-by-next, paged-on
+-- A PAGE, A PLACE AND THE COUNT BY CALLS OF NEXT. What Page replies, refusals too, is what that many calls of Next give; and who goes on from the last layout of a
+-- page loses no layout and meets none twice. Place k is what First and then k calls of Next give, and the count is how many layouts a run has. It is shown of the
+-- promises, so of every program that keeps to them.
+--     page-by-next, paged-on;  place-by-next, run-place, run-count
 use mathlib.Core.Path.{_≡_, refl, sym, ap, _∙_}
 use mathlib.Core.Logic.{_⊎_, inl, inr, _↔_}
 use mathlib.Core.List.{List, [], _∷_}
@@ -12,15 +13,17 @@ use Rattle.numbers.specs.Whole.{whole, neg-nums}
 use Rattle.paper.specs.declared.Answer.the-variants.{Total, End, Refused}
 use Rattle.paper.specs.declared.Counted.the-variants.{Many, Refused as NotCounted}
 use Rattle.paper.specs.Layouts.{Board, held, Same}
-use Rattle.paper.specs.Problem.{Best, LastBest}
-use Rattle.paper.specs.Refusals.{Passed, Calls, entries}
-use Rattle.paper.specs.Promises.{inTurn, Following, NextReplies, PageReplies, NextOver}
-use Rattle.paper.specs.Runs.{NextRun, NextSoFar, NotRefused, ByNext, PageByNext, PagedOn}
-use Rattle.paper.specs.laws.Order.{Steady, best-same, next-same, last-of-same}
-use Rattle.paper.specs.laws.Numbers.{refusal-low, next-total-told, end-told, wrote-told}
-use Rattle.paper.specs.laws.Kept.{listed}
+use Rattle.paper.specs.Problem.{Best, LastBest, PlaceBest, CountBest}
+use Rattle.paper.specs.Refusals.{Passed, Calls, entries, placeTrials}
+use Rattle.paper.specs.Promises.{Kept, inTurn, Following, NextReplies, PageReplies, PlaceReplies, NextOver}
+use Rattle.paper.specs.Runs.{NextRun, Run, NextSoFar, AskedTo, NotRefused, ByNext, PageByNext, PagedOn}
+use Rattle.paper.specs.laws.Trials.{append-passed}
+use Rattle.paper.specs.laws.Order.{Steady, best-same, next-of-same, next-same, last-of-same}
+use Rattle.paper.specs.laws.Numbers.{refusal-low, total-told, next-total-told, end-told, wrote-told, place-told}
+use Rattle.paper.specs.laws.Kept.{kept-trans, kept-both, listed}
 use Rattle.paper.specs.laws.Pages.{Follow, follow-best, follow-one, follow-ends}
 use Rattle.paper.specs.laws.Regular.{Regular}
+use Rattle.paper.specs.laws.Places.{place-best, place-same, follow-place}
 use Rattle.paper.specs.laws.Met.{Steps, next-made}
 
 module _ (c : Calls) (R : Regular c) where
@@ -91,6 +94,57 @@ module _ (c : Calls) (R : Regular c) where
   from-run : (list : List ℕ) (ls : List (List ℕ)) → NextRun c list ls → NextSoFar c list ls × LastBest (c .problem) (held (final list ls))
   from-run list [] e = (tt, end-told c (R .numbered) list list e .1)
   from-run list (l ∷ ls) (t, n, r) = let q = from-run l ls r in ((t, n, q .0), q .1)
+
+  -- ---- a place, and the count
+
+  -- THEOREM. What a run leaves at k is at place k,
+  pub run-place : (list : List ℕ) (ls : List (List ℕ)) → Run c list ls → (k : ℕ) → k < length ls → PlaceBest (c .problem) k (held (getD ls k []))
+  run-place list [] r k h = absurd r
+  run-place list (l ∷ ls) (t, f, r) k h =
+      follow-place (c .problem) (holding l ls) (total-told c (R .numbered) list l t f .1) k (λ j i. asked-follow l ls (from-run l ls r .0) j (omega arith))
+
+  -- and the count is how many lists it leaves.
+  pub run-count : (list : List ℕ) (ls : List (List ℕ)) → Run c list ls → CountBest (c .problem) (length ls)
+  run-count list [] r = absurd r
+  run-count list (l ∷ ls) r = record {
+    last = length ls;
+    layout = held (final l ls);
+    at = run-place list (l ∷ ls) r (length ls) (omega arith);
+    end = from-run l ls (r .2) .1;
+    more = omega arith;
+  }
+
+  module _ (before : List ℕ) where
+    -- What First and then k calls of Next answer and leave is the layout at place k, its value, and the rest of the list;
+    asked-place : (k t : ℕ) (l : List ℕ) → AskedTo c before k (pos t) l → PlaceBest (c .problem) k (held l) × (t ≡ c .problem .value (held l)) × Kept (entries c) before l
+    asked-place zero t l f = let p = total-told c (R .numbered) before l t f in (p .1, p .2, p .3)
+    asked-place (suc k) t l (u, g, a, n) =
+        let q = asked-place k u g a in
+        let p = next-total-told c (R .numbered) g l t n in
+        ((held g, q .0, p .1), p .2, kept-trans (entries c) before g l (q .2) (p .3))
+
+    -- and they come to it.
+    place-asked : Passed (c .first (length before)) → (k t : ℕ) (l : List ℕ) → PlaceBest (c .problem) k (held l) → t ≡ c .problem .value (held l) → Kept (entries c) before l
+        → AskedTo c before k (pos t) l
+    place-asked p zero t l s e kept = (Total t, (p, s, e, kept), refl)
+    place-asked p (suc k) t l (f, s, u) e kept =
+        let g = listed (entries c) f before (R .room (length before) p) in
+        let m = g .0 in
+        let same : Same b f (held m) = λ i h. sym (g .1 i h) in
+        let at = place-same (c .problem) (R .searchable (length before) p .steady) k f (held m) same s in
+        let accepts = R .next-is m .1 (rw (g .2 .long) p, place-best (c .problem) k (held m) at) in
+        let n : NextOver c m (Total t) l = (accepts, next-of-same (c .problem) f (held m) (held l) same u, e, kept-both (entries c) before m l (g .2) kept) in
+        (c .problem .value (held m), m, place-asked p k (c .problem .value (held m)) m at refl (g .2), (Total t, n, refl))
+
+    -- THEOREM. Place answers just what First and then that many calls of Next answer, and leaves what they leave.
+    pub place-by-next : (numbers place t : ℕ) (after : List ℕ) → PlaceReplies c numbers place before (pos t) after
+        ↔ (Passed (placeTrials c numbers place (length before)) × AskedTo c before place (pos t) after)
+    place-by-next numbers place t after = (
+      (λ P.
+          let q = place-told c (R .numbered) numbers place before after t P in
+          (q .0, place-asked (append-passed (c .first (length before)) _ (q .0) .0) place t after (q .1) (q .2) (q .3))),
+      (λ (p, a). let s = asked-place place t after a in (Total t, (p, s .0, s .1, s .2), refl)),
+    )
 
   -- ---- a page
 

@@ -1,5 +1,5 @@
 -- TRIALS ARE DECIDED: each call's trials are passed, or one of them refuses. By tests that are computed.
---     measure-decided, draw-decided;  tests-decide: of any trials whose tests say what they say;  tests-pass, tests-refuse: computed
+--     measure-decided, draw-decided;  decided-append;  tests-decide: of any trials whose tests say what they say;  tests-pass, tests-refuse: computed
 use mathlib.Core.Path.{_≡_, refl}
 use mathlib.Core.Logic.{_≢_, _⊎_, inl, inr, ⊎-elim, _↔_}
 use mathlib.Core.Bool.{Bool, true, false, not, _&&_, _||_}
@@ -26,11 +26,16 @@ use Rattle.paper.specs.laws.Tests.{bad-size-iff, bad-weight-iff, bad-tab
 use Rattle.paper.specs.laws.Tests.{same-name-iff, same-x-iff, bad-entry-iff, bad-number-iff}
 use Rattle.paper.specs.laws.Tests.{sizeTests, enoughTests, workTests, roomTests, fieldTests, boardTests, jobTests, layoutTests, badnessTest, soundTests, measureTests, drawTests}
 use Rattle.paper.specs.laws.Squares.{records-iff}
-use Rattle.paper.specs.laws.Trials.{append-passed, passed-append}
+use Rattle.paper.specs.laws.Trials.{append-passed, passed-append, refused-left, refused-right}
 
 -- The trials are passed, or one of them refuses.
 abbrev pub Decided : List Trial → Type 0
 Decided ts = Passed ts ⊎ ((r : Refusal) × RefusedBy ts r)
+
+-- So are trials after others, which may go by those being passed.
+pub decided-append : (ts us : List Trial) → Decided ts → (Passed ts → Decided us) → Decided (ts ++ us)
+decided-append ts us d k =
+    ⊎-elim (λ p. ⊎-elim (λ q. inl (passed-append ts us p q)) (λ (r, a). inr (r, refused-right ts us r p a)) (k p)) (λ (r, a). inr (r, refused-left ts us r a)) d
 
 -- ---- tests that compute them
 

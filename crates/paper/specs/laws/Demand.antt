@@ -4,7 +4,7 @@
 use mathlib.Core.Path.{_≡_, refl}
 use mathlib.Core.Logic.{_⊎_, inl, inr}
 use mathlib.Core.List.{List, [], _∷_, _++_}
-use Prim.Native.Nat.{ℕ, zero, suc, _+_, _≤_, _<_}
+use Prim.Native.Nat.{ℕ, zero, suc, _<_}
 use native.Mathlib.Decide.{decLt}
 use native.Mathlib.Omega.{arith}
 use lib.ListN.{length, getD}
@@ -17,8 +17,8 @@ use Rattle.paper.specs.Refusals.{Passed, Calls, entries}
 use Rattle.paper.specs.Promises.{Kept, FirstReplies, NextReplies}
 use Rattle.paper.specs.Runs.{NextRun, Run, NextSoFar, SoFar, Once, Demand3}
 use Rattle.paper.specs.laws.Order.{before-irrefl, before-trans, before-total, before-same}
-use Rattle.paper.specs.laws.Rank.{rank, rank-rises, rank-top}
-use Rattle.paper.specs.laws.Trying.{words, Searchable, best-inside}
+use Rattle.paper.specs.laws.Rank.{climbs}
+use Rattle.paper.specs.laws.Trying.{Searchable, best-inside}
 use Rattle.paper.specs.laws.Numbers.{total-told, next-total-told, end-told}
 use Rattle.paper.specs.laws.Kept.{kept-trans}
 use Rattle.paper.specs.laws.Determined.{first-determined, next-determined}
@@ -111,21 +111,19 @@ module _ (c : Calls) (R : Regular c) (lent : List ℕ) (accepted : Passed (c .fi
 
   -- ---- the end comes, for a layout's rank rises and has a top
 
-  asks : (k : ℕ) (l : List ℕ) → Good l → suc (length (words (b .pads) (b .ports))) ≤ rank b (held l) + k → (ls : List (List ℕ)) × NextRun c l ls
-  asks zero l g h = absurd (omega (arith, rank-top b (held l)))
-  asks (suc k) l g h = go (next-made c R l (R .next-is l .1 (rw (g .0 .long) accepted, g .1))) (asks k)
-    where
-      go : Steps c R l → ((m : List ℕ) → Good m → suc (length (words (b .pads) (b .ports))) ≤ rank b (held m) + k → (ls : List (List ℕ)) × NextRun c m ls)
-          → (ls : List (List ℕ)) × NextRun c l ls
-      go (inr n) rest = ([], (End, n, refl))
-      go (inl (t, m, n)) rest =
-          let s = next-is l m t g (Total t, n, refl) in
-          let up = rank-rises b (S .differ) (held l) (held m) (best-inside (c .problem) S (held l) (g .1)) (s .0 .later) in
-          let r = rest m (s .1) (omega arith) in
-          (m ∷ r .0, (t, (Total t, n, refl), r .1))
-
   asks-on : (l : List ℕ) → Good l → (ls : List (List ℕ)) × NextRun c l ls
-  asks-on l g = asks (suc (length (words (b .pads) (b .ports)))) l g (omega arith)
+  asks-on l g =
+      climbs b (S .differ) {X = (m : List ℕ) × Good m} (λ x. held (x .0)) (λ x. best-inside (c .problem) S (held (x .0)) (x .1 .1))
+      (λ x. (ls : List (List ℕ)) × NextRun c (x .0) ls)
+      (λ x rest. go (x .0) (x .1) rest (next-made c R (x .0) (R .next-is (x .0) .1 (rw (x .1 .0 .long) accepted, x .1 .1)))) (l, g)
+    where
+      go : (l : List ℕ) → Good l → ((y : (m : List ℕ) × Good m) → Before b (held l) (held (y .0)) → (ls : List (List ℕ)) × NextRun c (y .0) ls)
+          → Steps c R l → (ls : List (List ℕ)) × NextRun c l ls
+      go l g rest (inr n) = ([], (End, n, refl))
+      go l g rest (inl (t, m, n)) =
+          let s = next-is l m t g (Total t, n, refl) in
+          let r = rest (m, s .1) (s .0 .later) in
+          (m ∷ r .0, (t, (Total t, n, refl), r .1))
 
   goes-on : (l : List ℕ) (ls : List (List ℕ)) → Good l → NextSoFar c l ls → (ms : List (List ℕ)) × NextRun c l (ls ++ ms)
   goes-on l [] g s = asks-on l g

@@ -1,5 +1,5 @@
 -- DETERMINACY. Any two replies of a call are equal: the number, and the final content of the lent list. Assumes nothing, of any calls.
---     first-determined, next-determined, page-determined, measure-determined, draw-determined: as C sees them; *-answer: in the language
+--     first-determined, next-determined, page-determined, measure-determined, count-determined, place-determined, draw-determined: as C sees them; *-answer: in the language
 use mathlib.Core.Path.{_≡_, refl, sym, ap, _∙_}
 use mathlib.Core.List.{List}
 use Prim.Native.Nat.{ℕ}
@@ -13,30 +13,38 @@ use Rattle.paper.specs.declared.Counted.the-variants.{Many, Refused as N
 use Rattle.paper.specs.declared.Drawn.{Drawn}
 use Rattle.paper.specs.declared.Drawn.the-variants.{Straight, Bent, Refused as NotDrawn}
 use Rattle.paper.specs.Job.{records}
-use Rattle.paper.specs.Layouts.{boardOf, held, leader}
-use Rattle.paper.specs.Refusals.{Calls, entries, drawTrials}
-use Rattle.paper.specs.Promises.{number, countedNumber, drawnNumber, coordinates, overwritten}
+use Rattle.paper.specs.Layouts.{boardOf, held, leader, Same}
+use Rattle.paper.specs.Problem.{FirstBest, PlaceBest}
+use Rattle.paper.specs.Refusals.{Trial, Calls, entries, drawTrials, countTrials, placeTrials}
+use Rattle.paper.specs.Promises.{number, countedNumber, drawnNumber, coordinates, overwritten, CountOver, PlaceOver, CountReplies, PlaceReplies}
 use Rattle.paper.specs.Promises.{FirstOver, NextOver, PageOver, MeasureOver, FirstReplies, NextReplies, PageReplies, MeasureReplies, DrawAnswers, DrawPromise}
 use Rattle.paper.specs.laws.Trials.{refused-one, not-both}
+use Rattle.paper.specs.laws.Numbers.{LayoutOver, first-is, place-is}
 use Rattle.paper.specs.laws.Order.{first-best-one, next-best-one, next-not-last}
+use Rattle.paper.specs.laws.Places.{place-one, count-one}
 use Rattle.paper.specs.laws.Kept.{kept-one}
 use Rattle.paper.specs.laws.Pages.{following-one}
 use Rattle.paper.specs.laws.Drawn.{straight-one, bent-one}
 
 -- ---- any calls
 
+-- The answers themselves, for a caller in the language. Where At says this of one layout only, a total is determined:
+layout-answer : (c : Calls) (ts : List Trial) (At : (ℕ → ℕ) → Type 0) → ((f g : ℕ → ℕ) → At f → At g → Same (c .problem .board) f g)
+    → (before : List ℕ) (a d : Answer) (l m : List ℕ) → LayoutOver c ts At before a l → LayoutOver c ts At before d m → (a ≡ d) × (l ≡ m)
+layout-answer c ts At one before (Total t) (Total s) l m p q =
+    let e = kept-one (entries c) before l m (p .3) (q .3) (one (held l) (held m) (p .1) (q .1)) in
+    (ap Total (p .2 ∙ ap (λ (l : List ℕ). c .problem .value (held l)) e ∙ sym (q .2)), e)
+layout-answer c ts At one before (Total t) End l m p q = absurd q
+layout-answer c ts At one before (Total t) (Refused r) l m p q = absurd (not-both ts r (p .0) (q .0))
+layout-answer c ts At one before End d l m p q = absurd p
+layout-answer c ts At one before (Refused r) (Total t) l m p q = absurd (not-both ts r (q .0) (p .0))
+layout-answer c ts At one before (Refused r) End l m p q = absurd q
+layout-answer c ts At one before (Refused r) (Refused s) l m p q = (ap Refused (refused-one ts r s (p .0) (q .0)), p .1 ∙ sym (q .1))
+
 module _ (c : Calls) (before : List ℕ) where
-  -- The answers themselves, for a caller in the language.
   pub first-answer : (a d : Answer) (l m : List ℕ) → FirstOver c before a l → FirstOver c before d m → (a ≡ d) × (l ≡ m)
-  first-answer (Total t) (Total s) l m p q =
-      let e = kept-one (entries c) before l m (p .3) (q .3) (first-best-one (c .problem) (held l) (held m) (p .1) (q .1)) in
-      (ap Total (p .2 ∙ ap (λ (l : List ℕ). c .problem .value (held l)) e ∙ sym (q .2)), e)
-  first-answer (Total t) End l m p q = absurd q
-  first-answer (Total t) (Refused r) l m p q = absurd (not-both (c .first (length before)) r (p .0) (q .0))
-  first-answer End d l m p q = absurd p
-  first-answer (Refused r) (Total t) l m p q = absurd (not-both (c .first (length before)) r (q .0) (p .0))
-  first-answer (Refused r) End l m p q = absurd q
-  first-answer (Refused r) (Refused s) l m p q = (ap Refused (refused-one (c .first (length before)) r s (p .0) (q .0)), p .1 ∙ sym (q .1))
+  first-answer a d l m p q =
+      layout-answer c (c .first (length before)) (FirstBest (c .problem)) (first-best-one (c .problem)) before a d l m (first-is c before a l p) (first-is c before d m q)
 
   pub next-answer : (a d : Answer) (l m : List ℕ) → NextOver c before a l → NextOver c before d m → (a ≡ d) × (l ≡ m)
   next-answer (Total t) (Total s) l m p q =
@@ -78,6 +86,25 @@ module _ (c : Calls) (given before : List ℕ) where
 
   pub page-determined : (n m : ℤ) (l k : List ℕ) → PageReplies c given before n l → PageReplies c given before m k → (n ≡ m) × (l ≡ k)
   page-determined n m l k p q = let e = page-answer (p .0) (q .0) l k (p .1) (q .1) in (p .2 ∙ ap countedNumber (e .0) ∙ sym (q .2), e .1)
+
+module _ (c : Calls) (numbers : ℕ) where
+  pub count-answer : (a d : Counted) → CountOver c numbers a → CountOver c numbers d → a ≡ d
+  count-answer (Many k) (Many j) p q = ap Many (count-one (c .problem) k j (p .1) (q .1))
+  count-answer (Many k) (NotCounted r) p q = absurd (not-both (countTrials c numbers) r (p .0) q)
+  count-answer (NotCounted r) (Many k) p q = absurd (not-both (countTrials c numbers) r (q .0) p)
+  count-answer (NotCounted r) (NotCounted s) p q = ap NotCounted (refused-one (countTrials c numbers) r s p q)
+
+  pub count-determined : (n m : ℤ) → CountReplies c numbers n → CountReplies c numbers m → n ≡ m
+  count-determined n m p q = p .2 ∙ ap countedNumber (count-answer (p .0) (q .0) (p .1) (q .1)) ∙ sym (q .2)
+
+  module _ (place : ℕ) (before : List ℕ) where
+    pub place-answer : (a d : Answer) (l m : List ℕ) → PlaceOver c numbers place before a l → PlaceOver c numbers place before d m → (a ≡ d) × (l ≡ m)
+    place-answer a d l m p q =
+        layout-answer c (placeTrials c numbers place (length before)) (PlaceBest (c .problem) place) (place-one (c .problem) place) before a d l m
+        (place-is c numbers place before a l p) (place-is c numbers place before d m q)
+
+    pub place-determined : (n m : ℤ) (l k : List ℕ) → PlaceReplies c numbers place before n l → PlaceReplies c numbers place before m k → (n ≡ m) × (l ≡ k)
+    place-determined n m l k p q = let e = place-answer (p .0) (q .0) l k (p .1) (q .1) in (p .2 ∙ ap number (e .0) ∙ sym (q .2), e .1)
 
 -- ---- Draw
 

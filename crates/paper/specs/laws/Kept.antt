@@ -1,5 +1,5 @@
 -- Lists that keep their entries from n on.
---     kept-one: two lists that keep the same and begin alike are one;  kept-trans;  listed: a list that holds a layout and keeps the rest
+--     kept-one: two lists that keep the same and begin alike are one;  kept-trans, kept-both;  listed: a list that holds a layout and keeps the rest
 use mathlib.Core.Path.{_≡_, sym, ap, _∙_}
 use mathlib.Core.List.{List, _++_}
 use Prim.Native.Nat.{ℕ, _+_, _-_, _≤_, _<_}
@@ -12,6 +12,9 @@ use Rattle.paper.specs.laws.Trying.{row, row-length, row-at}
 
 pub kept-trans : (n : ℕ) (l m o : List ℕ) → Kept n l m → Kept n m o → Kept n l o
 kept-trans n l m o a b = record { long = b .long ∙ a .long; rest = λ k h. b .rest k h ∙ a .rest k h }
+
+pub kept-both : (n : ℕ) (l m o : List ℕ) → Kept n l m → Kept n l o → Kept n m o
+kept-both n l m o a b = record { long = b .long ∙ sym (a .long); rest = λ k h. b .rest k h ∙ sym (a .rest k h) }
 
 -- Two lists that keep the same and have the same first n entries are one.
 pub kept-one : (n : ℕ) (l m o : List ℕ) → Kept n l m → Kept n l o → ((k : ℕ) → k < n → getD m k 0 ≡ getD o k 0) → m ≡ o

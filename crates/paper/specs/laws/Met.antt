@@ -1,9 +1,12 @@
 -- EACH PROMISE CAN BE MET. For every input there is a reply that the promise allows: of all calls that are regular, and of Draw.
---     first-met, next-met, page-met, measure-met, draw-met: for every input;  first-made, next-made: a total, or the end, where it is accepted
+--     first-met, next-met, page-met, measure-met, count-met, place-met, draw-met: for every input
+--     first-made, next-made, place-made: a total, or the end, where it is accepted
 use mathlib.Core.Path.{refl, sym}
 use mathlib.Core.Logic.{_⊎_, inl, inr}
 use mathlib.Core.List.{List}
-use Prim.Native.Nat.{ℕ}
+use Prim.Native.Nat.{ℕ, _≤_}
+use native.Mathlib.Nat.{lt-of-not-le}
+use native.Mathlib.Omega.{arith}
 use lib.ListN.{length}
 use lib.IntN.{ℤ}
 use lib.Ieee.{Float}
@@ -11,18 +14,28 @@ use Rattle.paper.specs.declared.Answer.the-variants.{Total, End, Refused
 use Rattle.paper.specs.declared.Counted.the-variants.{Many, Refused as NotCounted}
 use Rattle.paper.specs.declared.Drawn.the-variants.{Refused as NotDrawn}
 use Rattle.paper.specs.Job.{records}
-use Rattle.paper.specs.Layouts.{boardOf, held, leader}
-use Rattle.paper.specs.Problem.{Best, NextBest, LastBest}
-use Rattle.paper.specs.Refusals.{Passed, drawTrials, Calls, entries}
-use Rattle.paper.specs.Promises.{number, countedNumber, drawnNumber, coordinates, overwritten, FirstOver, NextOver}
-use Rattle.paper.specs.Promises.{FirstReplies, NextReplies, PageReplies, MeasureReplies, DrawPromise}
+use Rattle.paper.specs.Layouts.{boardOf, held, leader, Same}
+use Rattle.paper.specs.Problem.{Best, FirstBest, NextBest, LastBest, PlaceBest}
+use Rattle.paper.specs.Refusals.{Trial, Passed, drawTrials, Calls, entries, numberTrials, countTrials, placeTrials}
+use Rattle.paper.specs.Promises.{number, countedNumber, drawnNumber, coordinates, overwritten, FirstOver, NextOver, PlaceOver}
+use Rattle.paper.specs.Promises.{FirstReplies, NextReplies, PageReplies, MeasureReplies, CountReplies, PlaceReplies, DrawPromise}
+use Rattle.paper.specs.laws.Trials.{append-passed}
 use Rattle.paper.specs.laws.Order.{first-best-same, next-best-same}
 use Rattle.paper.specs.laws.Earliest.{first-exists, next-or-last}
 use Rattle.paper.specs.laws.Kept.{listed}
 use Rattle.paper.specs.laws.Decided.{Decided, draw-decided}
+use Rattle.paper.specs.laws.Numbers.{LayoutOver}
 use Rattle.paper.specs.laws.Regular.{Regular}
+use Rattle.paper.specs.laws.Places.{place-same, place-taken, count-exists, pastTrials, laterTrials, count-decided, place-decided}
 use Rattle.paper.specs.laws.Pages.{page-filled}
 use Rattle.paper.specs.laws.Drawn.{leaderDrawn, drawn-is, passed-on-sheet, draw-answers}
+
+-- Where trials are passed that leave room, and At says of some layout that it is the one, a total is answered with it.
+layout-made : (c : Calls) (ts : List Trial) (At : (ℕ → ℕ) → Type 0) → ((f g : ℕ → ℕ) → Same (c .problem .board) f g → At f → At g) → (before : List ℕ)
+    → Passed ts → entries c ≤ length before → (f : ℕ → ℕ) → At f → (t : ℕ) × (after : List ℕ) × LayoutOver c ts At before (Total t) after
+layout-made c ts At same before p room f at =
+    let l = listed (entries c) f before room in
+    (c .problem .value (held (l .0)), l .0, (p, same f (held (l .0)) (λ i h. sym (l .1 i h)) at, refl, l .2))
 
 module _ (c : Calls) (R : Regular c) (before : List ℕ) where
   -- First answers a total for all that it accepts.
@@ -31,8 +44,7 @@ module _ (c : Calls) (R : Regular c) (before : List ℕ) where
       let S = R .searchable (length before) p in
       let u = R .exists (length before) p in
       let f = first-exists (c .problem) S (u .0) (u .1) in
-      let l = listed (entries c) (f .0) before (R .room (length before) p) in
-      (c .problem .value (held (l .0)), l .0, (p, first-best-same (c .problem) (S .steady) (f .0) (held (l .0)) (λ i h. sym (l .1 i h)) (f .1), refl, l .2))
+      layout-made c (c .first (length before)) (FirstBest (c .problem)) (first-best-same (c .problem) (S .steady)) before p (R .room (length before) p) (f .0) (f .1)
 
   pub first-met : (m : ℤ) × (after : List ℕ) × FirstReplies c before m after
   first-met = go (R .first-decided (length before))
@@ -87,6 +99,34 @@ module _ (c : Calls) (R : Regular c) (given before : List ℕ) where
           let f = page-filled (c .problem) given before (R .searchable (length given) q) (R .some (length given) q) best in
           (countedNumber (Many (f .0)), f .1, (Many (f .0), (p, f .2), refl))
       go (inr (r, a)) = (countedNumber (NotCounted r), before, (NotCounted r, (a, refl), refl))
+
+module _ (c : Calls) (R : Regular c) (numbers : ℕ) where
+  pub count-met : (m : ℤ) × CountReplies c numbers m
+  count-met = go (count-decided c R numbers)
+    where
+      go : Decided (countTrials c numbers) → (m : ℤ) × CountReplies c numbers m
+      go (inl p) =
+          let (k, is) = count-exists c R (entries c) (append-passed (c .first (entries c)) (numberTrials (c .problem) numbers) p .0) in
+          (countedNumber (Many k), (Many k, (p, is), refl))
+      go (inr (r, a)) = (countedNumber (NotCounted r), (NotCounted r, a, refl))
+
+  module _ (place : ℕ) (before : List ℕ) where
+    -- Place answers a total for all that it accepts: the place is below the count, so it is taken.
+    pub place-made : Passed (placeTrials c numbers place (length before)) → (t : ℕ) × (after : List ℕ) × PlaceOver c numbers place before (Total t) after
+    place-made p =
+        let (first, rest) = append-passed (c .first (length before)) (laterTrials (c .problem) numbers place) p in
+        let (k, is) = count-exists c R (length before) first in
+        let below = lt-of-not-le (λ h. append-passed (numberTrials (c .problem) numbers) (pastTrials (c .problem) place) rest .1 .0 0 (omega arith) (k, is, h)) in
+        let f = place-taken (c .problem) k place is below in
+        layout-made c (placeTrials c numbers place (length before)) (PlaceBest (c .problem) place)
+        (place-same (c .problem) (R .searchable (length before) first .steady) place) before p (R .room (length before) first) (f .0) (f .1)
+
+    pub place-met : (m : ℤ) × (after : List ℕ) × PlaceReplies c numbers place before m after
+    place-met = go (place-decided c R numbers place (length before))
+      where
+        go : Decided (placeTrials c numbers place (length before)) → (m : ℤ) × (after : List ℕ) × PlaceReplies c numbers place before m after
+        go (inl p) = let m = place-made p in (number (Total (m .0)), m .1, (Total (m .0), m .2, refl))
+        go (inr (r, a)) = (number (Refused r), before, (Refused r, (a, refl), refl))
 
 module _ (job : List ℕ) (i q : ℕ) (before : List Float) where
   pub draw-met : (m : ℤ) × (after : List Float) × DrawPromise job i q before m after

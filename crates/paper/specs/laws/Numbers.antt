@@ -1,8 +1,9 @@
 -- C's number tells the answer: the numbers of refusals are apart from totals, from the end and from one another.
---     first-refuses, next-refuses, page-refuses, measure-refuses, draw-refuses: a refusal exactly if a trial fails, and the caller gets it back
---     total-told, next-total-told, end-told, wrote-told, measure-told, straight-told, bent-told: what every other number tells
+--     first-refuses, next-refuses, page-refuses, measure-refuses, count-refuses, place-refuses, draw-refuses: a refusal exactly if a trial fails; refuses-iff: by which
+--     total-told, next-total-told, end-told, wrote-told, measure-told, count-told, place-told, straight-told, bent-told: what every other number tells
+--     first-work, next-work, buffer-open, buffer-many, buffer-past, buffer-kept: what it tells of what is lent for work
 use mathlib.Core.Path.{_≡_, refl, sym, ap, subst, _∙_}
-use mathlib.Core.Logic.{_⊎_, inl, inr}
+use mathlib.Core.Logic.{_≢_, _⊎_, inl, inr, ⊎-elim, _↔_}
 use mathlib.Core.List.{List, [], _∷_, _++_}
 use Prim.Native.Nat.{ℕ, zero, suc, _+_, _*_, _/_, _%_, _≤_, _<_}
 use native.Mathlib.Omega.{arith}
@@ -23,13 +24,14 @@ use Rattle.paper.specs.declared.Drawn.the-variants.{Straight, Bent, Refu
 use Rattle.paper.specs.declared.Work.{Work}
 use Rattle.paper.specs.declared.Work.the-variants.{Unlent, Lent}
 use Rattle.paper.specs.Job.{Job, records, slots}
-use Rattle.paper.specs.Layouts.{Board, boardOf, Badness, byWeights, byTable}
-use Rattle.paper.specs.Problem.{labelingOf}
+use Rattle.paper.specs.Layouts.{Board, boardOf, held, Badness, byWeights, byTable}
+use Rattle.paper.specs.Problem.{FirstBest, PlaceBest, labelingOf}
 use Rattle.paper.specs.Refusals.{sizeTrials, enoughTrials, workTrials, roomTrials, fieldTrials, boardTrials, jobTrials, layoutTrials, numberTrial}
-use Rattle.paper.specs.Refusals.{Trial, Clean, Passed, RefusedBy, soundTrials, firstTrials, measureTrials, nextTrials, drawTrials, badnessTrial, bestTrial, noneTrial, Calls, callsOf}
+use Rattle.paper.specs.Refusals.{Trial, Clean, Passed, RefusedBy, soundTrials, firstTrials, measureTrials, nextTrials, drawTrials, badnessTrial, bestTrial, noneTrial, Calls, entries, callsOf}
+use Rattle.paper.specs.Refusals.{refusal, ofWhole, PastCount, numberTrials, countTrials, placeTrials}
 use Rattle.paper.specs.Promises.{refusalNumber, refusalIn, number, countedNumber, drawnNumber, FirstOver, NextOver, PageOver, MeasureOver, DrawAnswers}
-use Rattle.paper.specs.Promises.{WorkAfter, WorkPromise, FirstReplies, NextReplies, PageReplies, MeasureReplies, DrawPromise, RefusesBy}
-use Rattle.paper.specs.laws.Trials.{not-both, refused-left}
+use Rattle.paper.specs.Promises.{Kept, CountOver, PlaceOver, CountReplies, PlaceReplies, OpenAfter, WorkAfter, WorkPromise, BufferPromise, FirstReplies, NextReplies, PageReplies, MeasureReplies, DrawPromise, RefusesBy}
+use Rattle.paper.specs.laws.Trials.{not-both, refused-one, refused-left, refused-append}
 use Rattle.paper.specs.laws.Decided.{sound-parts}
 use Rattle.paper.specs.laws.Accepted.{sized, pads-sized, ports-sized}
 
@@ -71,14 +73,36 @@ refusal-back r s = λ i. record { reason = reason i; at = at i; earlier = earlie
     earlier : natAbs (refusalNumber r) / 4294967296 ≡ r .earlier
     earlier = rw size (omega arith)
 
+-- What is lent for work is open after a number of -1 or more, and after a refusal if the refusal says so.
+module _ (r s : ℕ) (before after : List ℕ) where
+  open-above : (m : ℤ) → negsuc 0 ≤ℤ m → OpenAfter r s m before after
+  open-above m h l n o = absurd (omega (whole, neg-nums (pos 65536)))
+
+  open-refused : (f : Refusal) → SmallRefusal f → ((f .reason ≢ r) → (f .reason ≢ s) → after ≡ before) → OpenAfter r s (refusalNumber f) before after
+  open-refused f small w l n o = w (λ e. n (same ∙ e)) (λ e. o (same ∙ e))
+    where
+      same : refusalIn (refusalNumber f) .reason ≡ f .reason
+      same = ap (λ (g : Refusal). g .reason) (refusal-back f small)
+
 -- So what is said of the work list by an answer is said by C's number of it.
 work-told : (a : Answer) → ((r : Refusal) → a ≡ Refused r → SmallRefusal r) → (before after : List ℕ) → WorkAfter a before after → WorkPromise (number a) before after
-work-told (Total t) small before after w l n o = absurd (omega (whole, neg-nums (pos 65536)))
-work-told End small before after w l n o = absurd (omega (whole, neg-nums (pos 65536)))
-work-told (Refused r) small before after w l n o = w (λ e. n (same ∙ e)) (λ e. o (same ∙ e))
-  where
-    same : refusalIn (refusalNumber r) .reason ≡ r .reason
-    same = ap (λ (s : Refusal). s .reason) (refusal-back r (small r refl))
+work-told (Total t) small before after w = open-above 10 15 before after (pos t) (omega whole)
+work-told End small before after w = open-above 10 15 before after (negsuc 0) (omega whole)
+work-told (Refused r) small before after w = open-refused 10 15 before after r (small r refl) w
+
+-- The buffer of Count and Place is open after a count or a total, after 16 and after 17; and what is as it was keeps to every number.
+module _ (before after : List ℕ) where
+  pub buffer-open : (t : ℕ) → BufferPromise (pos t) before after
+  buffer-open t = open-above 16 17 before after (pos t) (omega whole)
+
+  pub buffer-many : BufferPromise (refusalNumber (refusal 16 0 0)) before after
+  buffer-many = open-refused 16 17 before after (refusal 16 0 0) (omega arith) (λ n o. absurd (n refl))
+
+  pub buffer-past : BufferPromise (refusalNumber (refusal 17 0 0)) before after
+  buffer-past = open-refused 16 17 before after (refusal 17 0 0) (omega arith) (λ n o. absurd (o refl))
+
+  pub buffer-kept : (m : ℤ) → after ≡ before → BufferPromise m before after
+  buffer-kept m e l n o = e
 
 -- ---- refusals by trials are such
 
@@ -91,6 +115,10 @@ refused-small : (ts : List Trial) (r : Refusal) → Numbering ts → RefusedBy t
 refused-small [] r n a = absurd a
 refused-small (t ∷ ts) r n (inl a) = omega (arith, a .0, a .1 .inside)
 refused-small (t ∷ ts) r n (inr a) = refused-small ts r (n .3 (a .0)) (a .1)
+
+-- So they are by trials after others of which this is known.
+after-small : (ts us : List Trial) → ((r : Refusal) → RefusedBy ts r → SmallRefusal r) → Numbering us → (r : Refusal) → RefusedBy (ts ++ us) r → SmallRefusal r
+after-small ts us small n r a = ⊎-elim (small r) (λ (p, b). refused-small us r n b) (refused-append ts us r a)
 
 -- Calls with such refusals.
 pub record Numbered (c : Calls) : Type 0 where
@@ -119,21 +147,64 @@ answered-refuses ts U m narrow (inr (p, h)) = record { exactly = ((λ l. absurd 
     high : m ≤ℤ negℤ (pos 65536) → ⊥
     high l = omega (whole, neg-nums (pos 65536))
 
+-- And it is a refusal's number exactly if the trials so refuse.
+low-back : (m : ℤ) → m ≤ℤ negℤ (pos 65536) → m ≡ refusalNumber (refusalIn m)
+low-back (pos n) l = absurd (omega (whole, neg-nums (pos 65536)))
+low-back (negsuc n) l =
+    let e : suc n ≡ 4294967296 * (suc n / 4294967296) + 65536 * (suc n / 65536 % 65536) + suc n % 65536 = omega arith in
+    ap (λ (k : ℕ). negℤ (pos k)) e
+
+pub refuses-iff : (ts : List Trial) (Unchanged : Type 0) (m : ℤ) (r : Refusal) → SmallRefusal r → RefusesBy ts m Unchanged → (m ≡ refusalNumber r) ↔ RefusedBy ts r
+refuses-iff ts U m r small R = (
+  (λ e. subst (RefusedBy ts) (sym (small-back r m small e)) (R .named (rw e (refusal-low r small)) .0)),
+  (λ a.
+      let low = R .exactly .1 (λ p. not-both ts r p a) in
+      low-back m low ∙ ap refusalNumber (refused-one ts (refusalIn m) r (R .named low .0) a)),
+)
+
+-- What First and Place answer: a total, where At says of which layout; or a refusal.
+abbrev pub LayoutOver : Calls → List Trial → ((ℕ → ℕ) → Type 0) → List ℕ → Answer → List ℕ → Type 0
+LayoutOver c ts At before (Total t) after = Passed ts × At (held after) × (t ≡ c .problem .value (held after)) × Kept (entries c) before after
+LayoutOver c ts At before End after = ⊥
+LayoutOver c ts At before (Refused r) after = RefusedBy ts r × (after ≡ before)
+
+pub first-is : (c : Calls) (before : List ℕ) (a : Answer) (after : List ℕ) → FirstOver c before a after
+    → LayoutOver c (c .first (length before)) (FirstBest (c .problem)) before a after
+first-is c before (Total t) after p = p
+first-is c before End after p = p
+first-is c before (Refused r) after p = p
+
+pub place-is : (c : Calls) (numbers place : ℕ) (before : List ℕ) (a : Answer) (after : List ℕ) → PlaceOver c numbers place before a after
+    → LayoutOver c (placeTrials c numbers place (length before)) (PlaceBest (c .problem) place) before a after
+place-is c numbers place before (Total t) after p = p
+place-is c numbers place before End after p = p
+place-is c numbers place before (Refused r) after p = p
+
+module _ (c : Calls) (ts : List Trial) (At : (ℕ → ℕ) → Type 0) (small : (r : Refusal) → RefusedBy ts r → SmallRefusal r) (before after : List ℕ) where
+  -- A number of 0 or more is the total,
+  layout-told : (t : ℕ) (a : Answer) → LayoutOver c ts At before a after → pos t ≡ number a → LayoutOver c ts At before (Total t) after
+  layout-told t (Total u) p e = let n : u ≡ t = cc in rw n at p
+  layout-told t End p e = absurd p
+  layout-told t (Refused r) p e = absurd (refusal-apart r t (small r (p .0)) e)
+
+  -- and every other one a refusal.
+  layout-refuses : (m : ℤ) (a : Answer) → LayoutOver c ts At before a after → m ≡ number a → RefusesBy ts m (after ≡ before)
+  layout-refuses m a p e = answered-refuses ts (after ≡ before) m small (rw e (says a p))
+    where
+      says : (a : Answer) → LayoutOver c ts At before a after → Answered ts (after ≡ before) (number a)
+      says (Total t) p = inr (p .0, omega whole)
+      says End p = absurd p
+      says (Refused r) p = inl (r, p .0, p .1, refl)
+
 module _ (c : Calls) (N : Numbered c) where
-  -- First: a number of 0 or more is the total.
+  -- First.
   module _ (before after : List ℕ) where
     pub total-told : (t : ℕ) → FirstReplies c before (pos t) after → FirstOver c before (Total t) after
-    total-told t (Total u, p, e) = let n : u ≡ t = cc in rw n at p
-    total-told t (End, p, e) = absurd p
-    total-told t (Refused r, p, e) = absurd (refusal-apart r t (N .first (length before) r (p .0)) e)
+    total-told t (a, p, e) = layout-told c (c .first (length before)) (FirstBest (c .problem)) (N .first (length before)) before after t a (first-is c before a after p) e
 
     pub first-refuses : (m : ℤ) → FirstReplies c before m after → RefusesBy (c .first (length before)) m (after ≡ before)
-    first-refuses m (a, p, e) = answered-refuses (c .first (length before)) (after ≡ before) m (N .first (length before)) (rw e (says a p))
-      where
-        says : (a : Answer) → FirstOver c before a after → Answered (c .first (length before)) (after ≡ before) (number a)
-        says (Total t) p = inr (p .0, omega whole)
-        says End p = absurd p
-        says (Refused r) p = inl (r, p .0, p .1, refl)
+    first-refuses m (a, p, e) =
+        layout-refuses c (c .first (length before)) (FirstBest (c .problem)) (N .first (length before)) before after m a (first-is c before a after p) e
 
     pub first-work : (a : Answer) → FirstOver c before a after → (held left : List ℕ) → WorkAfter a held left → WorkPromise (number a) held left
     first-work a p = work-told a (λ r e. N .first (length before) r ((rw e at p) .0))
@@ -188,6 +259,38 @@ module _ (c : Calls) (N : Numbered c) where
         says : (a : Counted) → PageOver c given before a after → Answered (c .next given) (after ≡ before) (countedNumber a)
         says (Many k) p = inr (p .0, omega whole)
         says (NotCounted r) p = inl (r, p .0, p .1, refl)
+
+  -- Count and Place: theirs are First's trials, and then 18, 16 and 17.
+  module _ (numbers : ℕ) where
+    count-small : (r : Refusal) → RefusedBy (countTrials c numbers) r → SmallRefusal r
+    count-small = after-small (c .first (entries c)) (numberTrials (c .problem) numbers) (N .first (entries c)) (omega arith)
+
+    pub count-told : (k : ℕ) → CountReplies c numbers (pos k) → CountOver c numbers (Many k)
+    count-told k (Many m, p, e) = let n : m ≡ k = cc in rw n at p
+    count-told k (NotCounted r, p, e) = absurd (refusal-apart r k (count-small r p) e)
+
+    pub count-refuses : (m : ℤ) → CountReplies c numbers m → RefusesBy (countTrials c numbers) m (Unit {0})
+    count-refuses m (a, p, e) = answered-refuses (countTrials c numbers) (Unit {0}) m count-small (rw e (says a p))
+      where
+        says : (a : Counted) → CountOver c numbers a → Answered (countTrials c numbers) (Unit {0}) (countedNumber a)
+        says (Many k) p = inr (p .0, omega whole)
+        says (NotCounted r) p = inl (r, p, tt, refl)
+
+    module _ (place : ℕ) (before after : List ℕ) where
+      place-small : (r : Refusal) → RefusedBy (placeTrials c numbers place (length before)) r → SmallRefusal r
+      place-small =
+          after-small (c .first (length before)) (numberTrials (c .problem) numbers ++ (ofWhole 17 (PastCount (c .problem) place) ∷ []))
+          (N .first (length before)) (omega arith)
+
+      pub place-told : (t : ℕ) → PlaceReplies c numbers place before (pos t) after → PlaceOver c numbers place before (Total t) after
+      place-told t (a, p, e) =
+          layout-told c (placeTrials c numbers place (length before)) (PlaceBest (c .problem) place) place-small before after t a
+          (place-is c numbers place before a after p) e
+
+      pub place-refuses : (m : ℤ) → PlaceReplies c numbers place before m after → RefusesBy (placeTrials c numbers place (length before)) m (after ≡ before)
+      place-refuses m (a, p, e) =
+          layout-refuses c (placeTrials c numbers place (length before)) (PlaceBest (c .problem) place) place-small before after m a
+          (place-is c numbers place before a after p) e
 
 -- ---- those on a job
 

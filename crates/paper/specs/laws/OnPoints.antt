@@ -1,5 +1,5 @@
 -- ON POINTS THE PROMISES ARE 01'S. Of a job whose half-sides are all 0 the calls reply as those of which only leaders touch, and no job is refused by 15.
---     first-on-points, next-on-points, page-on-points, measure-on-points
+--     first-on-points, next-on-points, page-on-points, count-on-points, place-on-points, measure-on-points
 use mathlib.Core.Path.{refl}
 use mathlib.Core.Logic.{inl, inr, ⊎-elim, _↔_}
 use mathlib.Core.List.{List, [], _∷_, _++_}
@@ -14,13 +14,13 @@ use Rattle.paper.specs.Layouts.{Board, boardOf, held, LeadersTouch, Touc
 use Rattle.paper.specs.Problem.{labelingOf}
 use Rattle.paper.specs.Refusals.{Trial, FirstFault, Passed, ofPairs, pairTrials, bestTrial, soundTrials, firstTrials, measureTrials, nextTrials, callsOf}
 use Rattle.paper.specs.Points.{Points, LeadersApart, pointLabelingOf, pointMeasure, pointCallsOf}
-use Rattle.paper.specs.Promises.{FirstReplies, NextReplies, PageReplies, MeasureReplies}
+use Rattle.paper.specs.Promises.{FirstReplies, NextReplies, PageReplies, MeasureReplies, CountReplies, PlaceReplies}
 use Rattle.paper.specs.laws.Trials.{not-both}
 use Rattle.paper.specs.laws.Squares.{points-iff, points-apart}
 use Rattle.paper.specs.laws.Existence.{points-exist}
 use Rattle.paper.specs.laws.Accepted.{sound-accepted, first-sound, first-passed, sound-refused, measure-accepted}
 use Rattle.paper.specs.laws.Named.{not-by-none}
-use Rattle.paper.specs.laws.Alike.{SameWorth, turned, Follows, after-all, follows-append, whole-follows, not-best-alike, first-over, next-over, page-over, measure-over}
+use Rattle.paper.specs.laws.Alike.{SameWorth, turned, Follows, after-all, follows-append, whole-follows, not-best-alike, first-over, next-over, page-over, measure-over, count-over, place-over}
 
 -- 9 of pairs of which R and S say the same.
 first-fault-alike : (n : ℕ) (R S : ℕ → ℕ → Type 0) → ((i j : ℕ) → j < i → i < n → R i j ↔ S i j) → (i j : ℕ) → FirstFault (ofPairs 9 n R) i j → FirstFault (ofPairs 9 n S) i j
@@ -89,7 +89,7 @@ module _ (job : Job) (bad : Badness) (points : Points (boardOf job)) where
         follows-append (pointMeasure job bad work list) (measureTrials job bad work list) (bestTrial (pointLabelingOf job bad) list ∷ []) (bestTrial (labelingOf job bad) list ∷ [])
         (measure-back list) (whole-follows 10 _ _ (not-best-alike b (turned worth) list))
 
-  -- THEOREMS. First, Next, Page and Measure reply as 01's calls do.
+  -- THEOREMS. First, Next, Page, Count, Place and Measure reply as 01's calls do.
   module _ (work : Work) where
     abbrev first : ℕ → List Trial
     first = firstTrials job bad work
@@ -123,6 +123,19 @@ module _ (job : Job) (bad : Badness) (points : Points (boardOf job)) where
     page-on-points given before m after = (
       (λ (a, p, e). (a, page-over b worth first sound measure point next (pointNext work) (next-there work) given before a after p, e)),
       (λ (a, p, e). (a, page-over b (turned worth) sound first point measure (pointNext work) next (next-back work) given before a after p, e)),
+    )
+
+    pub count-on-points : (numbers : ℕ) (m : ℤ) → CountReplies (callsOf job bad work) numbers m ↔ CountReplies (pointCallsOf job bad work) numbers m
+    count-on-points numbers m = (
+      (λ (a, p, e). (a, count-over b worth first sound measure point next (pointNext work) (first-there work) numbers a p, e)),
+      (λ (a, p, e). (a, count-over b (turned worth) sound first point measure (pointNext work) next (first-back work) numbers a p, e)),
+    )
+
+    pub place-on-points : (numbers place : ℕ) (before : List ℕ) (m : ℤ) (after : List ℕ)
+        → PlaceReplies (callsOf job bad work) numbers place before m after ↔ PlaceReplies (pointCallsOf job bad work) numbers place before m after
+    place-on-points numbers place before m after = (
+      (λ (a, p, e). (a, place-over b worth first sound measure point next (pointNext work) (first-there work) numbers place before a after p, e)),
+      (λ (a, p, e). (a, place-over b (turned worth) sound first point measure (pointNext work) next (first-back work) numbers place before a after p, e)),
     )
 
     pub measure-on-points : (list : List ℕ) (m : ℤ) → MeasureReplies (callsOf job bad work) list m ↔ MeasureReplies (pointCallsOf job bad work) list m

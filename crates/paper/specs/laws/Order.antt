@@ -112,7 +112,7 @@ before-total b f g = go (rightmost (b .x) f g (b .pads))
         order (no l) = inr (inr (record { pad = r .pad; inside = r .inside; smaller = omega arith; alike = λ j u k. sym (r .alike j u k) }))
 
 -- Layouts of which neither comes before the other are the same.
-neither-before : (b : Board) (f g : ℕ → ℕ) → ¬ Before b f g → ¬ Before b g f → Same b f g
+pub neither-before : (b : Board) (f g : ℕ → ℕ) → ¬ Before b f g → ¬ Before b g f → Same b f g
 neither-before b f g m n = go (before-total b f g)
   where
     go : Before b f g ⊎ Same b f g ⊎ Before b g f → Same b f g

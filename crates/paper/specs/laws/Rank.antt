@@ -1,10 +1,10 @@
 -- A layout's rank: how many assignments come before it. It rises with 01's order and has a top, so that the order can be climbed only finitely often.
---     rank-rises, rank-top
+--     rank-rises, rank-top, climbs
 use mathlib.Core.Path.{refl, sym}
 use mathlib.Core.Logic.{⊎-elim}
 use mathlib.Core.Bool.{Bool, true, false}
 use mathlib.Core.List.{List, [], _∷_, List·Memᴰ, List·Memᴰ·not-nil, List·Memᴰ·cases-cons}
-use Prim.Native.Nat.{ℕ, _+_, _<_, _≤_}
+use Prim.Native.Nat.{ℕ, zero, suc, _+_, _<_, _≤_}
 use native.Mathlib.Omega.{arith}
 use lib.Dec.{T}
 use lib.ListN.{length}
@@ -76,3 +76,13 @@ rank-rises b differ f g inside h =
   where
     r : List ℕ
     r = row (b .pads) f
+
+-- THEOREM. So what holds of x if it holds of all that come after x, holds of each.
+module _ (b : Board) (differ : Differ b) {X : Type 0} (at : X → ℕ → ℕ) (inside : (x : X) (i : ℕ) → i < b .pads → at x i < b .ports) (P : X → Type 0)
+    (step : (x : X) → ((y : X) → Before b (at x) (at y) → P y) → P x) where
+  climb : (k : ℕ) (x : X) → length (words (b .pads) (b .ports)) < rank b (at x) + k → P x
+  climb zero x h = absurd (omega (arith, rank-top b (at x)))
+  climb (suc k) x h = step x (λ y l. climb k y (omega (arith, rank-rises b differ (at x) (at y) (inside x) l)))
+
+  pub climbs : (x : X) → P x
+  climbs x = climb (suc (length (words (b .pads) (b .ports)))) x (omega arith)

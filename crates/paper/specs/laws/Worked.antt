@@ -1,14 +1,14 @@
--- THE WORKED SHEETS, P1 to P12 and those of 02, by one theorem over one list, and Page's by another: a test that the checker computes for each sheet,
--- and a lemma that turns the test into the call's promise.
---     worked, worked-pages
+-- THE WORKED SHEETS, P1 to P12 and those of 02, by one theorem over one list, and Page's, Count's and Place's by others: a test that the checker computes for each
+-- sheet, and a lemma that turns the test into the call's promise.
+--     worked, worked-pages, worked-counts, worked-places
 use mathlib.Core.Path.{_≡_, refl, sym, ap, _∙_}
 use mathlib.Core.Bool.{Bool, true, false, _&&_, _||_}
-use mathlib.Core.List.{List, [], _∷_}
-use Prim.Native.Nat.{ℕ, zero, suc, _+_, _*_, _-_, _≤_}
+use mathlib.Core.List.{List, [], _∷_, _++_}
+use Prim.Native.Nat.{ℕ, zero, suc, _+_, _*_, _-_, _≤_, _<_}
 use native.Mathlib.Omega.{arith}
 use lib.Dec.{T, eqb, eqb→eq, leb, leb→le, ltb}
-use lib.ListN.{length, getD, drop}
-use lib.Seq.{getD-drop}
+use lib.ListN.{length, getD, take, drop}
+use lib.Seq.{getD-take, getD-drop}
 use Rattle.numbers.specs.Tests.{both, or-iff, ltb-iff}
 use Rattle.paper.specs.declared.Answer.{Answer}
 use Rattle.paper.specs.declared.Answer.the-variants.{Total, End, Refused}
@@ -17,20 +17,22 @@ use Rattle.paper.specs.declared.Counted.the-variants.{Many, Refused as N
 use Rattle.paper.specs.declared.Work.{Work}
 use Rattle.paper.specs.declared.Work.the-variants.{Unlent}
 use Rattle.paper.specs.Job.{Job, records, twos, nameOf, halfOf, xOf, yOf, lastOf, portOf}
-use Rattle.paper.specs.Layouts.{Board, boardOf, held, Badness, byWeights, weighted, costOf, sum, Differ}
-use Rattle.paper.specs.Problem.{Problem, labelingOf}
-use Rattle.paper.specs.Refusals.{firstTrials, measureTrials, nextTrials}
-use Rattle.paper.specs.Promises.{Kept, inTurn, Following, FirstAnswers, NextAnswers, PageAnswers, MeasureAnswers}
+use Rattle.paper.specs.Layouts.{Board, boardOf, held, Badness, byWeights, weighted, costOf, sum, Same, Differ}
+use Rattle.paper.specs.Problem.{Problem, FirstBest, LastBest, PlaceBest, CountBest, labelingOf}
+use Rattle.paper.specs.Refusals.{Trial, firstTrials, measureTrials, nextTrials, Calls, callsOf, numberTrials, countTrials, placeTrials}
+use Rattle.paper.specs.Promises.{Kept, inTurn, Following, FirstAnswers, NextAnswers, PageAnswers, MeasureAnswers, CountAnswers, PlaceAnswers}
 use Rattle.paper.specs.laws.Totals.{totalOf}
 use Rattle.paper.specs.Sheets.{copper, sheet, sheets, Each, Call, First, Next, Measure, Sheet, AllowedBy, Allowed, pages, PageSheet, PageAllowed}
-use Rattle.paper.specs.laws.Tests.{somewhere, outside, between, leadersTouch, reaches, notRight, underTop, overBottom, meets, meetsLarge, jobTests, layoutTests, soundTests, measureTests}
+use Rattle.paper.specs.Sheets.{J3plus, CountSheet, PlaceSheet, CountAllowed, PlaceAllowed, countSheets, placeSheets}
+use Rattle.paper.specs.laws.Tests.{Test, somewhere, outside, between, leadersTouch, reaches, notRight, underTop, overBottom, meets, meetsLarge, jobTests, layoutTests, soundTests, measureTests}
 use Rattle.paper.specs.Leaders.{lengthOf, bendsOf}
 use Rattle.paper.specs.laws.Order.{below-suc}
-use Rattle.paper.specs.laws.Decided.{passes, refuses, tests-pass, tests-refuse, measureTestsOf, measure-tests}
+use Rattle.paper.specs.laws.Decided.{passes, refuses, TestsOf, tests-append, tests-pass, tests-refuse, measureTestsOf, measure-tests}
 use Rattle.paper.specs.laws.Accepted.{first-sound, sound-accepted, next-differ}
 use Rattle.paper.specs.laws.Regular.{firstTests, first-tests, nextTests, next-tests}
 use Rattle.paper.specs.laws.Pages.{Follow}
-use Rattle.paper.specs.laws.Trying.{bestTest, firstTest, nextTest, lastTest, first-iff, next-iff, last-iff, Searchable, labeling-searchable}
+use Rattle.paper.specs.laws.Places.{place-same, follow-place, numberTests, number-tests, laterTests, laterTrials, later-tests}
+use Rattle.paper.specs.laws.Trying.{bestTest, firstTest, nextTest, lastTest, first-iff, next-iff, last-iff, Searchable, labeling-steady, labeling-searchable}
 use Rattle.paper.specs.laws.Trying.{heads, words, any, someWord, leastTest, misled, untouchingTest, differRight, decidedAt, beforeTest, cheaper, laterTest}
 
 -- ---- the tests
@@ -80,6 +82,32 @@ abbrev pageHolds : Job → Badness → Work → List ℕ → List ℕ → Counte
 pageHolds job bad work given l (Many k) m =
     passes (nextTests job bad work given) && pageTest (labelingOf job bad) (untouchingTest (boardOf job)) given l k m
 pageHolds job bad work given l (NotCounted r) m = refuses (nextTests job bad work given) r && sameList m l
+
+-- these layouts are all the best ones, in order
+abbrev entry : List (List ℕ) → ℕ → ℕ → ℕ
+entry ls j = held (getD ls j [])
+
+abbrev runTest : Problem → ((ℕ → ℕ) → Bool) → List ℕ → List (List ℕ) → Bool
+runTest p counts l ls =
+    firstTest p counts (held l) && (followTest p counts (entry (l ∷ ls)) (length ls) && lastTest p counts (entry (l ∷ ls) (length ls)))
+
+-- of a job with k best layouts; for Place, these ones
+abbrev countTests : Job → Badness → ℕ → ℕ → List Test
+countTests job bad k numbers = firstTests job bad Unlent (boardOf job .pads) ++ numberTests (boardOf job .pads) numbers k
+
+abbrev countHolds : Job → Badness → ℕ → ℕ → Counted → Bool
+countHolds job bad k numbers (Many j) = passes (countTests job bad k numbers) && eqb j k
+countHolds job bad k numbers (NotCounted r) = refuses (countTests job bad k numbers) r
+
+abbrev placeTests : Job → Badness → ℕ → ℕ → ℕ → ℕ → List Test
+placeTests job bad k numbers place room = firstTests job bad Unlent room ++ laterTests (boardOf job .pads) numbers k place
+
+abbrev placeHolds : Job → Badness → List (List ℕ) → ℕ → ℕ → List ℕ → Answer → List ℕ → Bool
+placeHolds job bad ls numbers place l (Total t) m =
+    passes (placeTests job bad (length ls) numbers place (length l))
+    && ((ltb place (length ls) && sameList (take (boardOf job .pads) m) (getD ls place [])) && (eqb t (totalOf (boardOf job) bad m) && sameRest (boardOf job .pads) l m))
+placeHolds job bad ls numbers place l End m = false
+placeHolds job bad ls numbers place l (Refused r) m = refuses (placeTests job bad (length ls) numbers place (length l)) r && sameList m l
 
 abbrev holdsFor : Call → Sheet → Bool
 holdsFor First s = firstHolds (s .job) (s .bad) (s .work) (s .before) (s .answer) (s .after)
@@ -202,6 +230,29 @@ module _ (job : Job) (bad : Badness) (work : Work) (l : List ℕ) where
   measure-holds End h = absurd h
   measure-holds (Refused r) h = tests-refuse (measureTestsOf job bad Unlent l) (measureTrials job bad Unlent l) r (measure-tests job bad Unlent l) h
 
+  -- Layouts that pass their test are at their places, and as many as the count.
+  module _ (differ : Differ b) (ls : List (List ℕ)) (h : T (runTest p counts l ls)) where
+    run-parts : FirstBest p (held l) × Follow p (length ls) (entry (l ∷ ls)) × LastBest p (entry (l ∷ ls) (length ls))
+    run-parts =
+        let f = followTest p counts (entry (l ∷ ls)) (length ls) in
+        let e = lastTest p counts (entry (l ∷ ls) (length ls)) in
+        let u = both (firstTest p counts (held l)) (f && e) .0 h in
+        let w = both f e .0 (u .1) in
+        let last = last-iff p (searchable differ) (entry (l ∷ ls) (length ls)) .0 (w .1) in
+        (first-iff p (searchable differ) (held l) .0 (u .0), follow-told differ (entry (l ∷ ls)) (length ls) (w .0), last)
+
+    run-place : (k : ℕ) → k < length (l ∷ ls) → PlaceBest p k (entry (l ∷ ls) k)
+    run-place k i = follow-place p (entry (l ∷ ls)) (run-parts .0) k (λ j g. run-parts .1 j (omega arith))
+
+    run-count : CountBest p (length (l ∷ ls))
+    run-count = record {
+      last = length ls;
+      layout = entry (l ∷ ls) (length ls);
+      at = run-place (length ls) (omega arith);
+      end = run-parts .2;
+      more = omega arith;
+    }
+
 -- A sheet that passes its test is one that its call's promise allows.
 holds-allowed : (c : Call) (s : Sheet) → T (holdsFor c s) → AllowedBy c s
 holds-allowed First s h = (s .answer, first-holds (s .job) (s .bad) (s .work) (s .before) (s .answer) (s .after) h, refl)
@@ -213,16 +264,92 @@ holds-allowed Measure s h =
 page-allowed : (s : PageSheet) → T (pageSheetHolds s) → PageAllowed s
 page-allowed s h = (s .answer, page-holds (s .job) (s .bad) Unlent (s .given) (s .before) (s .answer) (s .after) h, refl)
 
+-- Count's and Place's, of a job whose best layouts are these.
+module _ (job : Job) (bad : Badness) (ls : List (List ℕ)) (is : CountBest (labelingOf job bad) (length ls))
+    (at : (k : ℕ) → k < length ls → PlaceBest (labelingOf job bad) k (entry ls k)) (numbers : ℕ) where
+  abbrev n : ℕ
+  n = boardOf job .pads
+
+  abbrev calls : Calls
+  calls = callsOf job bad Unlent
+
+  count-tests : TestsOf (countTests job bad (length ls) numbers) (countTrials calls numbers)
+  count-tests =
+      tests-append (firstTests job bad Unlent n) (numberTests n numbers (length ls)) (firstTrials job bad Unlent n) (numberTrials (labelingOf job bad) numbers)
+      (first-tests job bad Unlent n) (λ _. number-tests (labelingOf job bad) (length ls) is numbers)
+
+  count-holds : (a : Counted) → T (countHolds job bad (length ls) numbers a) → CountAnswers job bad numbers a
+  count-holds (Many j) h =
+      let u = both (passes (countTests job bad (length ls) numbers)) (eqb j (length ls)) .0 h in
+      (tests-pass (countTests job bad (length ls) numbers) (countTrials calls numbers) count-tests (u .0), rw (eqb→eq j (length ls) (u .1)) is)
+  count-holds (NotCounted r) h = tests-refuse (countTests job bad (length ls) numbers) (countTrials calls numbers) r count-tests h
+
+  module _ (place : ℕ) (l : List ℕ) where
+    abbrev tests : List Test
+    tests = placeTests job bad (length ls) numbers place (length l)
+
+    abbrev trials : List Trial
+    trials = placeTrials calls numbers place (length l)
+
+    place-tests : TestsOf tests trials
+    place-tests =
+        tests-append (firstTests job bad Unlent (length l)) (laterTests n numbers (length ls) place)
+        (firstTrials job bad Unlent (length l)) (laterTrials (labelingOf job bad) numbers place)
+        (first-tests job bad Unlent (length l)) (λ _. later-tests (labelingOf job bad) (length ls) is numbers place)
+
+    place-holds : (a : Answer) (m : List ℕ) → T (placeHolds job bad ls numbers place l a m) → PlaceAnswers job bad numbers place l a m
+    place-holds (Total t) m h =
+        let c = ltb place (length ls) in
+        let d = sameList (take n m) (getD ls place []) in
+        let e = eqb t (totalOf (boardOf job) bad m) in
+        let u = both (passes tests) ((c && d) && (e && sameRest n l m)) .0 h in
+        let w = both (c && d) (e && sameRest n l m) .0 (u .1) in
+        let x = both c d .0 (w .0) in
+        let y = both e (sameRest n l m) .0 (w .1) in
+        let f = same-list (take n m) (getD ls place []) (x .1) in
+        let same : Same (boardOf job) (entry ls place) (held m) = λ i g. ap (λ (o : List ℕ). held o i) (sym f) ∙ getD-take n m i 0 g in
+        let steady = labeling-steady (boardOf job) (costOf (boardOf job) bad) in (
+          tests-pass tests trials place-tests (u .0),
+          place-same (labelingOf job bad) steady place (entry ls place) (held m) same (at place (ltb-iff place (length ls) .0 (x .0))),
+          eqb→eq t (totalOf (boardOf job) bad m) (y .0),
+          same-rest n l m (y .1),
+        )
+    place-holds End m h = absurd h
+    place-holds (Refused r) m h =
+        let u = both (refuses tests r) (sameList m l) .0 h in
+        (tests-refuse tests trials r place-tests (u .0), same-list m l (u .1))
+
 all-allowed : {S : Type 0} (test : S → Bool) (P : S → Type 0) → ((s : S) → T (test s) → P s) → (ss : List S) → T (allHold test ss) → Each P ss
 all-allowed test P says [] h = tt
 all-allowed test P says (s ∷ ss) h = let u = both (test s) (allHold test ss) .0 h in (says s (u .0), all-allowed test P says ss (u .1))
 
+-- J3plus by weights 1 and 0: its best layouts, and its sheets of Count and Place.
+abbrev three : Job
+three = records J3plus
+
+abbrev even : Badness
+even = byWeights 1 0
+
+abbrev earliest : List ℕ
+earliest = 1 ∷ 2 ∷ 0 ∷ []
+
+abbrev others : List (List ℕ)
+others = (1 ∷ 0 ∷ 2 ∷ []) ∷ (0 ∷ 1 ∷ 2 ∷ []) ∷ []
+
+abbrev countSheetHolds : CountSheet → Bool
+countSheetHolds s = countHolds three even 3 (s .numbers) (s .answer)
+
+abbrev placeSheetHolds : PlaceSheet → Bool
+placeSheetHolds s = placeHolds three even (earliest ∷ others) (s .numbers) (s .place) (s .before) (s .answer) (s .after)
+
 -- Each passes its test; and so does the example of squares that cost length.
 all-hold : T (allHold holds sheets) × T (allHold pageSheetHolds pages) × T (holds (sheet First (copper 4) 1 0 (9 ∷ 9 ∷ []) (Total 84) (1 ∷ 0 ∷ [])))
+    × T (passes (firstTests three even Unlent 3)) × T (runTest (labelingOf three even) (untouchingTest (boardOf three)) earliest others)
+    × T (allHold countSheetHolds countSheets) × T (allHold placeSheetHolds placeSheets)
 unfolding heads words any someWord leastTest misled untouchingTest differRight decidedAt beforeTest cheaper bestTest firstTest laterTest nextTest lastTest
     somewhere outside between leadersTouch reaches notRight underTop overBottom meets meetsLarge jobTests layoutTests soundTests firstTests measureTests nextTests
     twos nameOf halfOf xOf yOf lastOf portOf lengthOf bendsOf sum weighted
-all-hold = (tt, tt, tt)
+all-hold = (tt, tt, tt, tt, tt, tt, tt)
 
 pub copper-first : FirstAnswers (records (copper 4)) (byWeights 1 0) Unlent (9 ∷ 9 ∷ []) (Total 84) (1 ∷ 0 ∷ [])
 copper-first = first-holds (records (copper 4)) (byWeights 1 0) Unlent (9 ∷ 9 ∷ []) (Total 84) (1 ∷ 0 ∷ []) (all-hold .2)
@@ -234,3 +361,26 @@ worked = all-allowed holds Allowed (λ s. holds-allowed (s .call) s) sheets (all
 -- THEOREM. So is every sheet of Page's list.
 pub worked-pages : Each PageAllowed pages
 worked-pages = all-allowed pageSheetHolds PageAllowed page-allowed pages (all-hold .1)
+
+-- THEOREM. So is every sheet of Count's list, and of Place's.
+three-differ : Differ (boardOf three)
+three-differ =
+    let first = tests-pass (firstTests three even Unlent 3) (firstTrials three even Unlent 3) (first-tests three even Unlent 3) (all-hold .3) in
+    sound-accepted three even Unlent 3 (first-sound three even Unlent 3 first) .0 .proper .differ
+
+three-count : CountBest (labelingOf three even) 3
+three-count = run-count three even Unlent earliest three-differ others (all-hold .4)
+
+three-place : (k : ℕ) → k < 3 → PlaceBest (labelingOf three even) k (entry (earliest ∷ others) k)
+three-place = run-place three even Unlent earliest three-differ others (all-hold .4)
+
+pub worked-counts : Each CountAllowed countSheets
+worked-counts =
+    all-allowed countSheetHolds CountAllowed (λ s h. (s .answer, count-holds three even (earliest ∷ others) three-count three-place (s .numbers) (s .answer) h, refl))
+    countSheets (all-hold .5)
+
+pub worked-places : Each PlaceAllowed placeSheets
+worked-places =
+    all-allowed placeSheetHolds PlaceAllowed
+    (λ s h. (s .answer, place-holds three even (earliest ∷ others) three-count three-place (s .numbers) (s .place) (s .before) (s .answer) (s .after) h, refl))
+    placeSheets (all-hold .6)

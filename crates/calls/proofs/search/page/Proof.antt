@@ -15,8 +15,8 @@ page-on-requires c κs =
     let a = s .args in
     (measure-facts (records (now (a .job))) (byTable (now (a .figures))) Unlent (now (a .list)) (s .pre), measure-accepted (records (now (a .job))) (byTable (now (a .figures))) Unlent (now (a .list)) (s .pre) .1)
 
-not-best-requires : tie.Need-not-best-requires
-not-best-requires c κs = search needs
+whole-requires : tie.Need-whole-requires
+whole-requires c κs = search needs
 
 same-length : tie.Need-same-length
 same-length c = search needs
@@ -36,10 +36,10 @@ returns-2 c =
     let d = c .before .before .before .before in
     let s = d .before .before .before .before .before .before in
     let a = s .args in
-    rw (c .not-best .ensures)
+    rw (c .whole .ensures)
     (not-paged-answers (records (now (a .job))) (byTable (now (a .figures))) Unlent (now (a .list)) (s .pre) (now (a .page)) _ (d .page-on .result) (d .page-on .ensures) (c .before .if1 .left))
 
 pub page-spec : {M : Type 1} → statement M
 page-spec =
     tie.close
-    (tie.spec page-on-requires not-best-requires same-length returns same-length-2 returns-2)
+    (tie.spec page-on-requires whole-requires same-length returns same-length-2 returns-2)
