@@ -30,7 +30,7 @@ program = target/bin/sheet
 soname = libcheremysl.so.$(firstword $(subst ., ,$(VERSION)))
 shared = build/libcheremysl.so.$(VERSION)
 commands = $(patsubst programs/%.c,build/%,$(wildcard programs/*.c))
-programs = build/sheets build/audit build/antenna build/slots build/cheremysl-draw
+programs = build/sheets build/audit build/antenna build/slots build/thumbs build/cheremysl-draw
 samples = $(wildcard examples/*.job examples/*.pads examples/*.ports examples/*.txt examples/*.layout)
 sources := crates.txt $(shell find crates -name '*.rt' -o -name '*.antt')
 

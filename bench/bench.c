@@ -4,8 +4,8 @@
  *   bench same TRIALS SEED  both on random jobs, sound and spoilt: fails if an answer, a list or a page differs
  *   bench count             each call on each board at 8, 16, 32 and 64 pads, on those with squares at 32 and 64, and on
  *                           slots at some sizes, by the library and then by plain C, marked for the emulator, which
- *                           counts instructions. Prints CALL BOARD SIZE ANSWER; the size is the number of pads, or
- *                           PADSxPORTS
+ *                           counts instructions; Count and Place by the library, and then its First. Prints CALL BOARD
+ *                           SIZE ANSWER; the size is the number of pads, or PADSxPORTS
  */
 #define _POSIX_C_SOURCE 200112L /* getppid */
 
@@ -29,7 +29,8 @@ static uint8_t job[CHEREMYSL_MAX_JOB_BYTES], ports[CHEREMYSL_MAX_PORT_BYTES];
 static size_t bytes, port_bytes, figures, entries = ENTRIES, page_entries, numbers;
 static uint32_t length_weight, bend_weight, table[CHEREMYSL_MAX_FIGURES + 1]; /* one too many is lent too */
 static uint16_t page[PAGE_ENTRIES];
-static uint64_t work[CHEREMYSL_MAX_SLOTS_WORK]; /* holds what the last call left there */
+static uint64_t work[CHEREMYSL_MAX_SLOTS_WORK]; /* holds what the last call left there; a buffer for Count and Place */
+static uint64_t place;
 
 /* ---- the calls, by either program ---- */
 
@@ -68,6 +69,15 @@ static const struct {
                {"Measure", our_measure, plain_measure},
                {"Table-Measure", our_table_measure, plain_table_measure},
                {"Slots-Measure", our_slots_measure, plain_slots_measure}};
+
+/* Place gives the sheet in the middle of all. */
+static int64_t our_count(uint16_t *layout) {
+    (void)layout;
+    return cheremysl_count(job, bytes, length_weight, bend_weight, work, numbers);
+}
+static int64_t our_place(uint16_t *layout) {
+    return cheremysl_place(job, bytes, length_weight, bend_weight, place, layout, entries, work, numbers);
+}
 
 static bool on_slots(int call) { return call == SLOTS_FIRST || call == SLOTS_NEXT || call == SLOTS_MEASURE; }
 
@@ -130,6 +140,25 @@ static void count_calls(bool slots, int last, const char *board, const char *siz
     }
 }
 
+/* Count or Place, and then First, on the board taken; 16 is an answer too. */
+static int64_t beside_first(const char *name, call_of *call, const char *board, int n) {
+    static uint16_t copy[PAGE_ENTRIES];
+    uint16_t layout[ENTRIES] = {0}, first[ENTRIES] = {0};
+    int64_t answer = ask(call, layout, copy), total = ask(our_first, first, copy);
+    bool sheet = answer == total || call == our_count;
+    printf("%s %s %d %" PRId64 "\n", name, board, n, answer);
+    if (total < 0 || (answer >= 0 ? !sheet : cheremysl_refusal_number(answer) != CHEREMYSL_TOO_MANY)) exit(1);
+    return answer;
+}
+
+static void count_places(enum measured kind, int n) {
+    take_board(kind, n);
+    numbers = CHEREMYSL_BUFFER((size_t)n);
+    int64_t count = beside_first("Count", our_count, measured_names[kind], n);
+    place = count > 0 ? (uint64_t)count / 2 : 0;
+    beside_first("Place", our_place, measured_names[kind], n);
+}
+
 static void count_board(enum measured kind, int n, int last) {
     char size[32];
     snprintf(size, sizeof size, "%d", n);
@@ -166,6 +195,9 @@ static int count_all(void) {
         for (int n = 8; n <= CHEREMYSL_MAX_RECORDS; n *= 2) count_board((enum measured)kind, n, CALLS - 1);
     count_all_slots();
     for (int n = 32; n <= CHEREMYSL_MAX_RECORDS; n *= 2) count_squares(n);
+    for (int kind = 0; kind < ALL_KINDS; kind++)
+        for (int n = 32; n <= CHEREMYSL_MAX_RECORDS && kind != AT_PORTS && kind != TALL; n *= 2)
+            count_places((enum measured)kind, n);
     return 0;
 }
 

@@ -5,8 +5,9 @@
 #include <stdbool.h>
 #include <stdlib.h>
 
-const char *const measured_names[ALL_KINDS] = {"random", "even",           "middle",       "ties", "right", "above", "level",
-                                               "tall",   "random-squares", "even-squares", "tall-squares"};
+const char *const measured_names[ALL_KINDS] = {"random", "even",           "middle",       "ties",         "right", "above", "level",
+                                               "tall",   "random-squares", "even-squares", "tall-squares", "free",
+                                               "free-even"};
 
 enum measured points_of(enum measured kind) {
     return kind == RANDOM_SQUARES ? RANDOM : kind == EVEN_SQUARES ? EVEN_SPREAD : kind == TALL_SQUARES ? TALL : kind;
@@ -15,12 +16,17 @@ enum measured points_of(enum measured kind) {
 /* On these every step goes over all pads but the rightmost. */
 static bool at_the_right(enum measured kind) { return kind == RIGHT || kind == ABOVE_ALL; }
 
+/* On these every untouching sheet is best. */
+static bool unweighted(enum measured kind) { return kind == MIDDLE || kind == FREE || kind == FREE_EVEN; }
+
 /* Of pad i of n beside p ports. */
 static int64_t height(enum measured kind, int n, int p, int i) {
     if (at_the_right(kind) && i < n / 4 * 2 && i < 10) kind = TIES;
     switch (kind) {
-    case RANDOM: return below((uint32_t)(10 * p));
-    case EVEN_SPREAD: return 10 * (i * p / n) + 5;
+    case RANDOM:
+    case FREE: return below((uint32_t)(10 * p));
+    case EVEN_SPREAD:
+    case FREE_EVEN: return 10 * (i * p / n) + 5;
     case MIDDLE: return 5 * p - 5;
     case AT_PORTS: return 10 * below((uint32_t)p);
     case RIGHT: return 10 * i - 2;
@@ -65,7 +71,7 @@ static void place_pads(enum measured kind, int n, int *x) {
 }
 
 struct given make_measured(enum measured kind, int n) {
-    struct given g = {{0}, 16 * (size_t)n, kind != MIDDLE, {0}, (size_t)(n * n)};
+    struct given g = {{0}, 16 * (size_t)n, !unweighted(kind), {0}, (size_t)(n * n)};
     struct plan plan = plan_of_job(g.job, (size_t)n);
     enum measured points = points_of(kind);
     int x[64];

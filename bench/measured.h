@@ -18,6 +18,8 @@ enum measured {
     RANDOM_SQUARES,   /* the same with squares, which leave a layout: on random up to what some layout leaves .. */
     EVEN_SQUARES,     /* .. on even half-sides 2 to 4, which are in no leader's way .. */
     TALL_SQUARES,     /* .. on tall those far right, each level with all ports of the lower half */
+    FREE,             /* as random with length weight 0, so that a great many sheets are best; for counting alone .. */
+    FREE_EVEN,        /* .. and as even: every run of ports can be filled, with many ports for its rightmost pad */
     ALL_KINDS
 };
 

@@ -1,7 +1,7 @@
 # speed.awk points.txt COUNTS SPEED.md.in: the page docs/SPEED.md. COUNTS has lines CALL BOARD SIZE OURS PLAIN; a size is a
 # number of pads, or PADSxPORTS. For the call Shared it has First by a table and what First by weights ran too, for Full First
-# on as many slots as pads and First, for Squares First with squares and without. The variables compiler and calls are what
-# the page says of these.
+# on as many slots as pads and First, for Squares First with squares and without, for Count and Place these and First. The
+# variables compiler and calls are what the page says of these.
 
 function commas(n) { return n < 1000 ? n : commas(int(n / 1000)) "," sprintf("%03d", n % 1000) }
 
@@ -58,7 +58,7 @@ function work_out_row(at, call, board) {
 function work_out(    k, word, slots) {
     for (k = 1; k <= rows; k++) {
         split(row[k], word, SUBSEP)
-        if (word[1] !~ /^(Slots|Full)/ && !squared(row[k])) work_out_row(row[k], word[1], word[2])
+        if (word[1] !~ /^(Slots|Full|Count|Place)/ && !squared(row[k])) work_out_row(row[k], word[1], word[2])
     }
     slots = "Slots-First" SUBSEP "random"
     value["more-pads"] = sprintf("%.2f", ours[slots, "64x128"] / ours[slots, "32x128"])
@@ -88,6 +88,8 @@ $0 == "@full@" { print_rows("Full", "8x8 16x16 32x32 64x64", 0, 0, 0); next }
 $0 == "@beside-points@" { print_rows("Squares", "32 64", 0, 0, 1); next }
 $0 == "@beside-points-on-slots@" { print_rows("Squares", "32x64 64x128", 0, 0, 1); next }
 $0 == "@squares@" { print_rows("First|Next|Page|Measure|Table-.*", "32 64", 1, 0, 1); next }
+$0 == "@places@" { print_rows("Count|Place", "32 64", 1, 0, 0); next }
+$0 == "@places-with-squares@" { print_rows("Count|Place", "32 64", 1, 0, 1); next }
 $0 == "@squares-on-slots@" { print_rows("Slots-.*", "32x64 64x128", 1, 0, 1); next }
 {
     while (match($0, /@[a-z0-9-]+@/)) {

@@ -23,11 +23,12 @@
 #define LARGEST 10000  /* layouts on a page */
 #define ENTRIES CHEREMYSL_MAX_RECORDS
 
-enum { CALLS = 8, SIZES = 4, LISTINGS = 2, PAGES = 4 };
+enum { CALLS = 10, SIZES = 4, LISTINGS = 2, PAGES = 4 };
 
 static struct given on;
 static size_t pads;
 static uint16_t start[ENTRIES], layout[ENTRIES], page[LARGEST * ENTRIES];
+static uint64_t amid, buffer[CHEREMYSL_MAX_BUFFER]; /* the place in the middle of all sheets */
 static volatile int64_t answer; /* of the last call */
 
 /* ---- the calls: Next and Page go on from First's sheet, Measure measures it, Draw draws one of its leaders ---- */
@@ -39,6 +40,12 @@ static void next(void) {
 }
 static void page_of_20(void) {
     answer = cheremysl_page(on.job, on.bytes, on.length_weight, 0, start, pads, page, 20 * pads);
+}
+static void count(void) {
+    answer = cheremysl_count(on.job, on.bytes, on.length_weight, 0, buffer, CHEREMYSL_BUFFER(pads));
+}
+static void place(void) {
+    answer = cheremysl_place(on.job, on.bytes, on.length_weight, 0, amid, layout, pads, buffer, CHEREMYSL_BUFFER(pads));
 }
 static void measure(void) { answer = cheremysl_measure(on.job, on.bytes, on.length_weight, 0, start, pads); }
 static void table_first(void) {
@@ -62,6 +69,8 @@ static const struct {
 } calls[CALLS] = {{"First", first},
                   {"Next", next},
                   {"Page of 20", page_of_20},
+                  {"Count", count},
+                  {"Place, amid them", place},
                   {"Measure", measure},
                   {"Table First", table_first},
                   {"Table Next", table_next},
@@ -73,6 +82,8 @@ static void take_board(int kind, int n) {
     pads = (size_t)n;
     first();
     memcpy(start, layout, sizeof start);
+    count();
+    amid = answer > 0 ? (uint64_t)answer / 2 : 0; /* too many to have places are refused, after the counting */
 }
 
 /* ---- times ---- */

@@ -10,6 +10,7 @@ As a module, the calls of the shared library for Python:
     job = job_of([(101, 10, 15, 10), (102, 20, 15, 20)])  # name, x, y, port height of each record
     total, ports = library.first(job)
     for total, ports in library.sheets(job, length_weight=1, bend_weight=0): ...
+    total, ports = library.place(job, library.count(job) // 2)  # the sheet in the middle of them
     total, ports = library.table_first(job, [7, 0, 0, 7])  # the figure of each pad with each port
     squares = job_of([(101, 10, 15, 10), (102, 20, 15, 20)], half_sides=2)  # or one for each pad
     pads, strip = pads_of([(101, 10, 15), (102, 20, 15)]), ports_of(range(0, 320, 10))
@@ -19,7 +20,7 @@ Jobs, pads and strips are bytes, a layout is any sequence of port numbers, a tab
 figures, pad by pad, ports rising; all are only read. What C's list would hold afterwards is
 returned. A refusal is an exception, Refusal; the end is None. A number that does not fit C's type
 is an OverflowError. The slots calls make their work list, or take one of work_of, for a run of
-calls. The manual is cheremysl(3).
+calls; count and place make their buffer, or take one of buffer_of. The manual is cheremysl(3).
 """
 import array
 import ctypes
@@ -54,6 +55,9 @@ TEXTS = {  # as cheremysl_refusal_text of the C header has them
     13: "The table does not have just one figure for each pad with each port.",
     14: "There are fewer ports than pads.",
     15: "On every sheet of this board a leader meets another leader or the square of another pad.",
+    16: "This board has more than 1,000,000,000,000,000,000 best sheets.",
+    17: "There is no best sheet at this place: they are fewer.",
+    18: "The buffer is too short for so many pads.",
     24: "The work list is too short for so many pads and ports.",
 }
 
@@ -103,6 +107,12 @@ def work_of(pads, ports):
     return (ctypes.c_uint64 * (2 * (n + 1) * (p + 2) ** 2))()
 
 
+def buffer_of(job):
+    """A buffer for count and place with so many records, or fewer."""
+    n = min(records_in(job), MAX_RECORDS)
+    return (ctypes.c_uint64 * (2 * (n + 2) ** 2))()
+
+
 def taken_apart(answer):
     """A call's answer, or the refusal that it stands for."""
     if answer >= END:
@@ -115,6 +125,11 @@ def taken_apart(answer):
 def word(number):
     """A number for C's uint32_t: ctypes would drop what does not fit."""
     return array.array("I", [number])[0]
+
+
+def long_word(number):
+    """A number for C's uint64_t."""
+    return array.array("Q", [number])[0]
 
 
 def lent(kind, values):
@@ -160,6 +175,8 @@ class Cheremysl:
 
         self._first, self._next = call("first", *numbers, *layout), call("next", *numbers, *layout)
         self._page = call("page", *numbers, *layout, *layout)
+        self._count = call("count", *numbers, *work)
+        self._place = call("place", *numbers, ctypes.c_uint64, *layout, *work)
         self._measure = call("measure", *numbers, *layout)
         self._draw = call("draw", *numbers, *points)
         self._table_first = call("table_first", *table, *layout)
@@ -198,6 +215,19 @@ class Cheremysl:
         weights = length_weight, bend_weight
         written = self._ask(self._page, job, *weights, *layout_of(layout), page, room)
         return [page[k * n : (k + 1) * n] for k in range(written)]
+
+    def count(self, job, length_weight=1, bend_weight=0, buffer=None):
+        """How many best sheets there are."""
+        buffer = buffer_of(job) if buffer is None else buffer
+        return self._ask(self._count, job, length_weight, bend_weight, buffer, len(buffer))
+
+    def place(self, job, place, length_weight=1, bend_weight=0, buffer=None):
+        """The best sheet at a place, counted from 0, as from first."""
+        layout, entries = layout_of([0] * MAX_RECORDS)
+        buffer = buffer_of(job) if buffer is None else buffer
+        words = long_word(place), layout, entries, buffer, len(buffer)
+        total = self._ask(self._place, job, length_weight, bend_weight, *words)
+        return found(total, layout, job)
 
     def measure(self, job, layout, length_weight=1, bend_weight=0):
         """The total of a sheet on which nothing touches, best or not."""

@@ -12,12 +12,14 @@
  *     30 |                 o 103         cheremysl_first     the earliest best sheet of a board
  *        |                 |             cheremysl_next      the best sheet after a given one
  *     20 *-----------o 102 |             cheremysl_page      several best sheets after a given one
+ *        |                 |             cheremysl_count     how many best sheets there are
+ *     10 *-----o 101       |             cheremysl_place     the best sheet at a given place
  *        |                 |             cheremysl_measure   the total of any sheet that is sound
- *     10 *-----o 101       |             cheremysl_draw      one leader's points for the canvas
- *        |                 |
- *      0 *-----------------+             cheremysl_table_first     First, Next and Measure by the
- *        +-----+-----+-----+--> x        cheremysl_table_next      caller's own figure for each
- *        0    10    20    30             cheremysl_table_measure   pad with each port
+ *      0 *-----------------+             cheremysl_draw      one leader's points for the canvas
+ *        +-----+-----+-----+--> x
+ *        0    10    20    30             cheremysl_table_first     First, Next and Measure by the
+ *                                        cheremysl_table_next      caller's own figure for each
+ *                                        cheremysl_table_measure   pad with each port
  *
  *                                        cheremysl_slots_first     First, Next and Measure on a
  *                                        cheremysl_slots_next      strip of slots: ports may be
@@ -29,8 +31,9 @@
  *
  * First and then Next until the end list every best sheet once and nothing else, and so do
  * TableFirst and TableNext, and SlotsFirst and SlotsNext; Page does the work of several calls of
- * Next. Every job that a First accepts has a best sheet. Answers and lists are proved to be what
- * this header says, for every input.
+ * Next, and Place goes to any of the sheets that Count counts, without those before it. Every job
+ * that a First accepts has a best sheet. Answers and lists are proved to be what this header says,
+ * for every input.
  *
  * A MINUTE'S USE
  *
@@ -44,8 +47,9 @@
  *          answer = cheremysl_next(job, job_bytes, 1, 0, layout, CHEREMYSL_MAX_RECORDS);
  *      }
  *
- * The example sheets.c takes them page by page; antenna.c makes a table that keeps leaders off an
- * area of the board; slots.c lays a board out on a strip of slots.
+ * The example sheets.c takes them page by page; thumbs.c shows a page of them at any place;
+ * antenna.c makes a table that keeps leaders off an area of the board; slots.c lays a board out on
+ * a strip of slots.
  *
  * THE JOB
  *
@@ -87,9 +91,9 @@
  * bytes. What it holds on entry changes no answer: it need not be filled, and one list will do for
  * any number of calls, one after the other. What it holds after them is of no use.
  *
- * These calls are by weights. Page, Draw and the table calls take jobs of the first form. A pad
- * with its port's height in its last field is such a job, of one record: Draw gives its leader's
- * points, and Measure with the layout {0} its length, or its bends.
+ * These calls are by weights. Page, Count, Place, Draw and the table calls take jobs of the first
+ * form. A pad with its port's height in its last field is such a job, of one record: Draw gives its
+ * leader's points, and Measure with the layout {0} its length, or its bends.
  *
  *      uint8_t one[CHEREMYSL_RECORD_BYTES];
  *      memcpy(one, pads + 16 * i, 12);
@@ -137,7 +141,8 @@
  * a best one; with squares, a larger bend_weight or by a table, one with a touching pair may have.
  *
  * If all half-sides are 0, some layout has no touching pair. With squares there may be none: each
- * First then refuses with 15. No other call does, since any layout that it is given gets 8 or 9.
+ * First then refuses with 15, and so do Count and Place. No other call does, since any layout that
+ * it is given gets 8 or 9.
  *
  * With weights up to 1,000, First, Next and Measure answer as the table calls do with the table of
  * weighted leaders: the figure of a pad with a port is length_weight times the length of that
@@ -146,14 +151,38 @@
  * Order: to compare two layouts take the pad with the largest x; the layout with the smaller
  * port number there comes earlier. If these are equal, go on with the next pad to the left.
  *
+ * PLACES
+ *
+ * The best layouts have places in this order, counted from 0: First gives the one at place 0, and
+ * Next, given the one at place k, that at place k + 1. Count answers how many there are, one more
+ * than the last place; Place gives the one at any place, without those before it. The sheet in the
+ * middle of them all:
+ *
+ *      static uint64_t buffer[CHEREMYSL_MAX_BUFFER];
+ *      int64_t count = cheremysl_count(job, job_bytes, 1, 0, buffer, CHEREMYSL_MAX_BUFFER);
+ *      if (count > 0)
+ *          answer = cheremysl_place(job, job_bytes, 1, 0, (uint64_t)count / 2, layout, n, buffer,
+ *                                   CHEREMYSL_MAX_BUFFER);
+ *
+ * Both are lent a buffer of 2(n + 2)(n + 2) 64-bit numbers or more: CHEREMYSL_BUFFER(n), which for
+ * the largest job is 8,712, some 70,000 bytes. They keep there how many layouts the smaller parts
+ * of the job have. It is never trusted: what it holds on entry, be it of this job, of another or
+ * anything, changes no answer. So it need not be filled, and one buffer will do for any number of
+ * calls, one after the other.
+ *
+ * A large board may have a great many best layouts. Of more than CHEREMYSL_MAX_COUNT,
+ * 1,000,000,000,000,000,000, none is given by its place, not even the first: Count and Place refuse
+ * with 16. First, Next and Page go through them as ever.
+ *
  * ANSWERS
  *
  * Each call answers one signed 64-bit number:
  *
- *      0 or more           the total (First, Next, Measure and the slots calls; at most
+ *      0 or more           the total (First, Next, Place, Measure and the slots calls; at most
  *                          CHEREMYSL_MAX_TOTAL, and in the table calls at most
- *                          CHEREMYSL_MAX_TABLE_TOTAL), the number of layouts written (Page), or
- *                          of points, 2 or 3 (Draw)
+ *                          CHEREMYSL_MAX_TABLE_TOTAL), the number of layouts written (Page), of
+ *                          best layouts, 1 to CHEREMYSL_MAX_COUNT (Count), or of points, 2 or 3
+ *                          (Draw)
  *      -1                  the end (Next, TableNext and SlotsNext only): no best layout comes
  *                          after the given one
  *      -(4294967296 * j + 65536 * r + i)
@@ -187,6 +216,9 @@
  *      13   the table has fewer or more than n * n figures                   0
  *      14   there are fewer ports than pads                                  0
  *      15   no layout is without a touching pair                             0
+ *      16   there are more than 1,000,000,000,000,000,000 best layouts       0
+ *      17   Place's place is the number of best layouts or more              0
+ *      18   the buffer has fewer than 2(n + 2)(n + 2) numbers                0
  *      24   the work list has fewer than 2(n + 1)(p + 2)(p + 2) numbers      0
  *
  * Each call checks for these, in this order, each over the whole job before the next:
@@ -194,6 +226,8 @@
  *      First          1, 2, 3, 4, 5, 12, 6, 7, 15
  *      Next           1, 2, 3, 4, 5, 12, 6, 7, 8, 9, 10
  *      Page           1, 2, 3, 4, 5, 12, 6, 7, 8, 9, 10
+ *      Count          1, 2, 4, 5, 12, 6, 7, 15, 18, 16
+ *      Place          1, 2, 3, 4, 5, 12, 6, 7, 15, 18, 16, 17
  *      Measure        1, 2, 3, 4, 5, 12, 6, 7, 8, 9
  *      Draw           1, 3, 4, 5, 12, 6, 7, 11
  *      TableFirst     1, 13, 3, 4, 5, 12, 6, 7, 15
@@ -220,53 +254,60 @@
  *
  * All memory is the caller's, and the library keeps no pointer after a call. Every list is lent
  * as a pointer and the number of its elements (bytes of a job, of pads or of ports, figures of a
- * table, entries of a layout or of a page, floats, numbers of a work list); all of them must be
- * there. NULL with 0 is an empty list; NULL with another number is not allowed. Job, pads and ports
- * may stand at any address; a table is aligned as uint32_t always is, layouts and pages as
- * uint16_t, floats as float, a work list as uint64_t. A list that a call writes must not overlap
- * another that it is lent: to go on from the last layout of a page, copy it out first.
+ * table, entries of a layout or of a page, floats, numbers of a work list or of a buffer); all of
+ * them must be there. NULL with 0 is an empty list; NULL with another number is not allowed. Job,
+ * pads and ports may stand at any address; a table is aligned as uint32_t always is, layouts and
+ * pages as uint16_t, floats as float, a work list and a buffer as uint64_t. A list that a call
+ * writes must not overlap another that it is lent: to go on from the last layout of a page, copy it
+ * out first.
  *
  *      the job, pads and ports,      never written
  *      the table
  *      the layout of Page, Measure,  never written
  *      TableMeasure, SlotsMeasure
  *      after a refusal, or the end   nothing was written: every lent list is as it was, but for
- *                                    the work list after the end or refusal 10 or 15
- *      each First and Next with a    entries 0 to n - 1 are replaced, those from n on unchanged
- *      total
+ *                                    the work list after the end or refusal 10 or 15, and for the
+ *                                    buffer after refusal 16 or 17
+ *      each First and Next, and      entries 0 to n - 1 are replaced, those from n on unchanged
+ *      Place, with a total
  *      SlotsFirst and SlotsNext      the whole work list may have been written, with anything
  *      with a total, the end or
  *      refusal 10 or 15
+ *      Count with a count, Place     the whole buffer may have been written, with anything
+ *      with a total, either with
+ *      refusal 16 or 17
  *      Page with k layouts           the page's entries 0 to k * n - 1 are replaced, those from
  *                                    k * n on unchanged
  *      Draw with 2 or 3 points       the first 4 or 6 floats are replaced, those after unchanged
  *
  * Reply and lists depend on the arguments and on what the lists hold, and on nothing else; what a
- * work list holds on entry makes no difference, and what it holds after a total, the end or refusal
- * 10 or 15 is left open.
+ * work list or a buffer holds on entry makes no difference. What a work list holds after a total,
+ * the end or refusal 10 or 15 is left open, and so is what a buffer holds after a count, a total
+ * or refusal 16 or 17.
  *
  * THREADS AND MEMORY
  *
  * The calls keep no state: no static variables, no heap, no locks, no files, no errno. Any
  * number of threads may call at once, on one job and one table too, as long as no list that one of
- * them writes, a work list included, is used by another meanwhile. The calls raise no
+ * them writes, a work list or a buffer included, is used by another meanwhile. The calls raise no
  * floating-point exception and leave modes and flags as they were, whatever the caller's registers
  * hold; rounding mode and treatment of denormals make no difference to them.
  *
- * Working memory is on the stack, and in the slots calls in the work list: at most 64 KiB of stack
- * in any call (CHEREMYSL_STACK_BYTES). As built, a call takes so many bytes of it at most, whatever
- * it is given, from its return address on:
+ * Working memory is on the stack, and in the slots calls in the work list, in Count and Place in
+ * the buffer: at most 64 KiB of stack in any call (CHEREMYSL_STACK_BYTES). As built, a call takes
+ * so many bytes of it at most, whatever it is given, from its return address on:
  *
- *      First 42,712   Next 42,888   Page 42,904   Measure 584   Draw 136
- *      TableFirst 26,264   TableNext 26,440   TableMeasure 568
+ *      First 41,944   Next 42,120   Page 42,136   Count 44,008   Place 44,008   Measure 584
+ *      Draw 136   TableFirst 25,496   TableNext 25,672   TableMeasure 568
  *      SlotsFirst 11,688   SlotsNext 11,832   SlotsMeasure 616
  *
  * tests/stack.c measures it at 64 records, and fails if a call takes 48 bytes more.
  *
  * First and Next take time that grows with n cubed, Measure with n squared, and each table call as
  * its namesake. What grows with n cubed is the finding of least totals, for every run of ports.
- * Page does as Next does, and finds them once for the whole page. SlotsFirst and SlotsNext take
- * time that grows with n times p cubed, SlotsMeasure as Measure and with p.
+ * Page does as Next does, and finds them once for the whole page. Count and Place take time that
+ * grows as First's, whatever the place. SlotsFirst and SlotsNext take time that grows with n times
+ * p cubed, SlotsMeasure as Measure and with p.
  *
  * COMPILERS AND PLATFORMS
  *
@@ -307,14 +348,14 @@
 /* ---- version ----------------------------------------------------------------------------- */
 
 #define CHEREMYSL_VERSION_MAJOR 2
-#define CHEREMYSL_VERSION_MINOR 1
+#define CHEREMYSL_VERSION_MINOR 2
 #define CHEREMYSL_VERSION_PATCH 0
 
-/* A number to compare, in #if too: 2001000 for 2.1.0. */
+/* A number to compare, in #if too: 2002000 for 2.2.0. */
 #define CHEREMYSL_VERSION_NUMBER \
     (1000000 * CHEREMYSL_VERSION_MAJOR + 1000 * CHEREMYSL_VERSION_MINOR + CHEREMYSL_VERSION_PATCH)
 
-/* A string: "2.1.0". */
+/* A string: "2.2.0". */
 #define CHEREMYSL_VERSION_TEXT \
     CHEREMYSL_JOIN(CHEREMYSL_VERSION_MAJOR, CHEREMYSL_VERSION_MINOR, CHEREMYSL_VERSION_PATCH)
 #define CHEREMYSL_JOIN(major, minor, patch) CHEREMYSL_JOIN_WORDS(major, minor, patch)
@@ -373,29 +414,37 @@ extern "C" {
 
 /* ---- limits ------------------------------------------------------------------------------ */
 
-#define CHEREMYSL_RECORD_BYTES 16              /* bytes of a record */
-#define CHEREMYSL_MAX_RECORDS 64               /* records of a job, so also entries of a layout */
-#define CHEREMYSL_MAX_JOB_BYTES 1024           /* bytes of a job */
-#define CHEREMYSL_MAX_FIGURES 4096             /* figures of a table, for the largest job */
-#define CHEREMYSL_PORT_BYTES 4                 /* bytes of a height in a list of ports */
-#define CHEREMYSL_MAX_SLOTS 128                /* heights of a list of ports */
-#define CHEREMYSL_MAX_PORT_BYTES 512           /* bytes of a list of ports */
-#define CHEREMYSL_MAX_SLOTS_WORK 2197000       /* numbers of a work list, for the largest job */
-#define CHEREMYSL_MAX_WEIGHT 1000              /* a weight; the smallest is 0 */
-#define CHEREMYSL_MAX_HALF_SIDE 2000           /* a pad's half-side; the smallest is 0 */
-#define CHEREMYSL_MAX_X 1000000                /* a pad's x; the smallest is 1 */
-#define CHEREMYSL_MAX_HEIGHT 1000000           /* a pad's y or a port height, up or down */
-#define CHEREMYSL_MIN_RISE 8                   /* from one port height to the next */
-#define CHEREMYSL_MAX_TOTAL 192000064000       /* no total by weights is larger */
-#define CHEREMYSL_MAX_TABLE_TOTAL 274877906880 /* no total by a table is larger */
-#define CHEREMYSL_DRAW_FLOATS 6                /* floats that Draw must be lent */
-#define CHEREMYSL_STACK_BYTES 65536            /* no call needs more stack */
+#define CHEREMYSL_RECORD_BYTES 16               /* bytes of a record */
+#define CHEREMYSL_MAX_RECORDS 64                /* records of a job, so also entries of a layout */
+#define CHEREMYSL_MAX_JOB_BYTES 1024            /* bytes of a job */
+#define CHEREMYSL_MAX_FIGURES 4096              /* figures of a table, for the largest job */
+#define CHEREMYSL_PORT_BYTES 4                  /* bytes of a height in a list of ports */
+#define CHEREMYSL_MAX_SLOTS 128                 /* heights of a list of ports */
+#define CHEREMYSL_MAX_PORT_BYTES 512            /* bytes of a list of ports */
+#define CHEREMYSL_MAX_SLOTS_WORK 2197000        /* numbers of a work list, for the largest job */
+#define CHEREMYSL_MAX_BUFFER 8712               /* numbers of a buffer, for the largest job */
+#define CHEREMYSL_MAX_WEIGHT 1000               /* a weight; the smallest is 0 */
+#define CHEREMYSL_MAX_HALF_SIDE 2000            /* a pad's half-side; the smallest is 0 */
+#define CHEREMYSL_MAX_X 1000000                 /* a pad's x; the smallest is 1 */
+#define CHEREMYSL_MAX_HEIGHT 1000000            /* a pad's y or a port height, up or down */
+#define CHEREMYSL_MIN_RISE 8                    /* from one port height to the next */
+#define CHEREMYSL_MAX_TOTAL 192000064000        /* no total by weights is larger */
+#define CHEREMYSL_MAX_TABLE_TOTAL 274877906880  /* no total by a table is larger */
+#define CHEREMYSL_MAX_COUNT 1000000000000000000 /* of more best layouts none has a place */
+#define CHEREMYSL_DRAW_FLOATS 6                 /* floats that Draw must be lent */
+#define CHEREMYSL_STACK_BYTES 65536             /* no call needs more stack */
 
 /*
  * Numbers of the work list that SlotsFirst and SlotsNext must be lent for n pads and p ports, as a
  * constant where n and p are: 2(n + 1)(p + 2)(p + 2). p is taken twice.
  */
 #define CHEREMYSL_SLOTS_WORK(n, p) (UINT64_C(2) * ((n) + 1) * ((p) + 2) * ((p) + 2))
+
+/*
+ * Numbers of the buffer that Count and Place must be lent for n records, as a constant where n is:
+ * 2(n + 2)(n + 2). n is taken twice.
+ */
+#define CHEREMYSL_BUFFER(n) (UINT64_C(2) * ((n) + 2) * ((n) + 2))
 
 /* ---- numbers in answers ------------------------------------------------------------------ */
 
@@ -417,6 +466,9 @@ enum cheremysl_refusal {
     CHEREMYSL_BAD_TABLE = 13,      /* a table of fewer or more than n * n figures */
     CHEREMYSL_TOO_FEW_PORTS = 14,  /* fewer ports than pads */
     CHEREMYSL_NO_LAYOUT = 15,      /* no layout is without a touching pair */
+    CHEREMYSL_TOO_MANY = 16,       /* more than 1,000,000,000,000,000,000 best layouts */
+    CHEREMYSL_PAST_COUNT = 17,     /* Place's place is the number of best layouts or more */
+    CHEREMYSL_NO_BUFFER_ROOM = 18, /* a buffer of fewer than 2(n + 2)(n + 2) numbers */
     CHEREMYSL_NO_WORK_ROOM = 24    /* a work list of fewer than 2(n + 1)(p + 2)(p + 2) numbers */
 };
 
@@ -492,6 +544,53 @@ int64_t cheremysl_page(const uint8_t *job, size_t job_bytes, uint32_t length_wei
                        uint32_t bend_weight, const uint16_t *layout, size_t entries,
                        uint16_t *page, size_t page_entries)
     CHEREMYSL_CALL CHEREMYSL_READS(1, 2) CHEREMYSL_READS(5, 6) CHEREMYSL_WRITES(7, 8);
+
+/*
+ * Count: how many best layouts there are.
+ *
+ *      job, job_bytes   the job; only read
+ *      length_weight    as for First: best means best for these weights
+ *      bend_weight
+ *      buffer, numbers  a lent list of at least CHEREMYSL_BUFFER(n) numbers; what it holds on entry
+ *                       makes no difference; it must not overlap the job
+ *
+ * Answers how many layouts First and then Next until the end give: 1 at least, and at most
+ * CHEREMYSL_MAX_COUNT. Or refuses with 1, 2, 4, 5, 12, 6, 7, 15, 18 or 16, checked in this order.
+ * What the buffer holds is left open after a count and refusal 16; the other refusals leave it as
+ * it was. Never answers the end.
+ */
+int64_t cheremysl_count(const uint8_t *job, size_t job_bytes, uint32_t length_weight,
+                        uint32_t bend_weight, uint64_t *buffer, size_t numbers)
+    CHEREMYSL_CALL CHEREMYSL_READS(1, 2) CHEREMYSL_WRITES(5, 6);
+
+/*
+ * Place: the best layout at a place, without those before it.
+ *
+ *      job, job_bytes   the job; only read
+ *      length_weight    as for Count
+ *      bend_weight
+ *      place            counted from 0, in the order of First and Next; below Count's number
+ *      layout, entries  a lent list of at least n entries, to be filled; what it holds on entry
+ *                       makes no difference
+ *      buffer, numbers  as for Count; it may be the same one, and need not be; it must overlap no
+ *                       other list
+ *
+ * Answers the layout's total, as First does; entries 0 to n - 1 hold the layout, the one that First
+ * and then so many calls of Next would leave there, and those from n on are unchanged. Or refuses
+ * with 1 to 5, 12, 6, 7, 15, 18, 16 or 17, checked in this order, and leaves the layout as it was.
+ * What the buffer holds is left open after a total and refusals 16 and 17; the other refusals leave
+ * it as it was. Never answers the end.
+ *
+ * A page of layouts from place k on is Place and then Page:
+ *
+ *      total = cheremysl_place(job, job_bytes, 1, 0, k, layout, n, buffer, numbers);
+ *      if (total >= 0)
+ *          written = cheremysl_page(job, job_bytes, 1, 0, layout, n, page, page_entries);
+ */
+int64_t cheremysl_place(const uint8_t *job, size_t job_bytes, uint32_t length_weight,
+                        uint32_t bend_weight, uint64_t place, uint16_t *layout, size_t entries,
+                        uint64_t *buffer, size_t numbers)
+    CHEREMYSL_CALL CHEREMYSL_READS(1, 2) CHEREMYSL_WRITES(6, 7) CHEREMYSL_WRITES(8, 9);
 
 /*
  * Measure: the total of a layout without a touching pair, best or not.
@@ -648,7 +747,7 @@ static inline int cheremysl_is_refusal(int64_t answer) { return answer < CHEREMY
 /* 1 if the answer is the end, else 0. */
 static inline int cheremysl_is_end(int64_t answer) { return answer == CHEREMYSL_END; }
 
-/* The refusal's number, 1 to 15 or 24; 0 if the answer is not a refusal. */
+/* The refusal's number, 1 to 18 or 24; 0 if the answer is not a refusal. */
 static inline int cheremysl_refusal_number(int64_t answer) {
     return cheremysl_is_refusal(answer) ? CHEREMYSL_CAST(int, answer / -65536 % 65536) : 0;
 }
@@ -706,6 +805,12 @@ static inline const char *cheremysl_refusal_text(int64_t answer) {
     case CHEREMYSL_NO_LAYOUT:
         return "On every sheet of this board a leader meets another leader or the square of "
                "another pad.";
+    case CHEREMYSL_TOO_MANY:
+        return "This board has more than 1,000,000,000,000,000,000 best sheets.";
+    case CHEREMYSL_PAST_COUNT:
+        return "There is no best sheet at this place: they are fewer.";
+    case CHEREMYSL_NO_BUFFER_ROOM:
+        return "The buffer is too short for so many pads.";
     case CHEREMYSL_NO_WORK_ROOM:
         return "The work list is too short for so many pads and ports.";
     }

@@ -7,8 +7,8 @@
 #include <stdio.h>
 #include <string.h>
 
-#if CHEREMYSL_VERSION_NUMBER < 2001000 || CHEREMYSL_VERSION_NUMBER >= 3000000
-#error "the version is not 2.1 or a later 2"
+#if CHEREMYSL_VERSION_NUMBER < 2002000 || CHEREMYSL_VERSION_NUMBER >= 3000000
+#error "the version is not 2.2 or a later 2"
 #endif
 
 /* These are refused by the compiler if a prototype is another. */
@@ -26,6 +26,10 @@ typedef int64_t fill_on_slots(const uint8_t *, size_t, const uint8_t *, size_t, 
 typedef int64_t read_on_slots(const uint8_t *, size_t, const uint8_t *, size_t, uint32_t, uint32_t,
                               const uint16_t *, size_t);
 
+typedef int64_t count_sheets(const uint8_t *, size_t, uint32_t, uint32_t, uint64_t *, size_t);
+typedef int64_t fill_at_place(const uint8_t *, size_t, uint32_t, uint32_t, uint64_t, uint16_t *,
+                              size_t, uint64_t *, size_t);
+
 static read_only *const measure_call = cheremysl_measure;
 static draw *const draw_call = cheremysl_draw;
 static read_by_table *const table_measure_call = cheremysl_table_measure;
@@ -38,6 +42,8 @@ static fill_by_table *const table_first_call = cheremysl_table_first;
 static fill_by_table *const table_next_call = cheremysl_table_next;
 static fill_on_slots *const slots_first_call = cheremysl_slots_first;
 static fill_on_slots *const slots_next_call = cheremysl_slots_next;
+static count_sheets *const count_call = cheremysl_count;
+static fill_at_place *const place_call = cheremysl_place;
 #endif
 
 static int passed, failed;
@@ -64,6 +70,7 @@ static void answers(void) {
     is_no_refusal(5, 0);
     is_no_refusal(CHEREMYSL_MAX_TOTAL, 0);
     is_no_refusal(CHEREMYSL_MAX_TABLE_TOTAL, 0);
+    is_no_refusal(CHEREMYSL_MAX_COUNT, 0);
     is_no_refusal(CHEREMYSL_END, 1);
     for (int number = CHEREMYSL_BAD_SIZE; number <= CHEREMYSL_NO_WORK_ROOM; number++)
         for (int record = 0; record < CHEREMYSL_MAX_SLOTS; record++)
@@ -83,7 +90,7 @@ static void pairs(void) {
 static const char *text(int number) { return cheremysl_refusal_text(-65536 * (int64_t)number); }
 
 static int is_known(int number) {
-    return number <= CHEREMYSL_NO_LAYOUT || number == CHEREMYSL_NO_WORK_ROOM;
+    return number <= CHEREMYSL_NO_BUFFER_ROOM || number == CHEREMYSL_NO_WORK_ROOM;
 }
 
 /* A sentence, and not one that a smaller number has, if that or this is known. */
@@ -97,7 +104,7 @@ static void is_sentence(int number) {
 
 /* All that are unknown share one. */
 static void texts(void) {
-    int unknown = CHEREMYSL_NO_LAYOUT + 1;
+    int unknown = CHEREMYSL_NO_BUFFER_ROOM + 1;
     for (int number = CHEREMYSL_BAD_SIZE; number <= CHEREMYSL_NO_WORK_ROOM + 1; number++)
         is_sentence(number);
     check(strcmp(text(23), text(unknown)) == 0 && strcmp(text(65535), text(unknown)) == 0);
@@ -119,6 +126,8 @@ static void calls(void) {
     is_refusal(slots_first_call(NULL, 0, NULL, 0, 0, 0, NULL, 0, NULL, 0), CHEREMYSL_BAD_SIZE, 0,
                0);
     is_refusal(slots_next_call(NULL, 0, NULL, 0, 0, 0, NULL, 0, NULL, 0), CHEREMYSL_BAD_SIZE, 0, 0);
+    is_refusal(count_call(NULL, 0, 0, 0, NULL, 0), CHEREMYSL_BAD_SIZE, 0, 0);
+    is_refusal(place_call(NULL, 0, 0, 0, 0, NULL, 0, NULL, 0), CHEREMYSL_BAD_SIZE, 0, 0);
 #endif
 }
 
@@ -137,6 +146,10 @@ static void limits(void) {
     check(CHEREMYSL_MAX_SLOTS_WORK ==
           CHEREMYSL_SLOTS_WORK(CHEREMYSL_MAX_RECORDS, CHEREMYSL_MAX_SLOTS));
     check(CHEREMYSL_SLOTS_WORK(3, 5) == 392 && CHEREMYSL_SLOTS_WORK(1 + 2, 2 + 3) == 392);
+    check(CHEREMYSL_TOO_MANY == 16 && CHEREMYSL_PAST_COUNT == 17 && CHEREMYSL_NO_BUFFER_ROOM == 18);
+    check(CHEREMYSL_MAX_BUFFER == CHEREMYSL_BUFFER(CHEREMYSL_MAX_RECORDS));
+    check(CHEREMYSL_BUFFER(3) == 50 && CHEREMYSL_BUFFER(1 + 2) == 50);
+    check(CHEREMYSL_MAX_COUNT / 1000000000 == 1000000000 && CHEREMYSL_MAX_COUNT % 1000000000 == 0);
 }
 
 static void version(void) {
@@ -189,6 +202,7 @@ static void no_room(void) {
 
 static const uint8_t two_ports[2 * CHEREMYSL_PORT_BYTES] = {0, 0, 0, 0, 8, 0, 0, 0};
 enum { PAD = sizeof one_pad, PORTS = sizeof two_ports, WORK = 64 }; /* numbers for one pad */
+enum { BUFFER = CHEREMYSL_BUFFER(1) };                              /* the same of a buffer */
 
 /* Each list in its turn: no ports, no room, no work list. */
 static void no_list(void) {
@@ -212,6 +226,23 @@ static void no_list(void) {
     }
 #endif
 }
+
+#ifndef NO_SEARCH
+/* No buffer is one that is too short, whatever the place; no layout comes before it. */
+static void no_buffer(void) {
+    uint16_t layout[1] = {0};
+    uint64_t buffer[BUFFER] = {0};
+    is_refusal(count_call(one_pad, PAD, 1, 0, NULL, 0), CHEREMYSL_NO_BUFFER_ROOM, 0, 0);
+    is_refusal(place_call(one_pad, PAD, 1, 0, 0, layout, 1, NULL, 0), CHEREMYSL_NO_BUFFER_ROOM, 0,
+               0);
+    is_refusal(place_call(one_pad, PAD, 1, 0, 1, layout, 1, NULL, 0), CHEREMYSL_NO_BUFFER_ROOM, 0,
+               0);
+    is_refusal(place_call(one_pad, PAD, 1, 0, 0, NULL, 0, NULL, 0), CHEREMYSL_NO_ROOM, 0, 0);
+    is_refusal(place_call(one_pad, PAD, 1, 0, 1, layout, 1, buffer, BUFFER), CHEREMYSL_PAST_COUNT,
+               0, 0);
+    is_refusal(place_call(NULL, 0, 1, 0, 0, layout, 1, buffer, BUFFER), CHEREMYSL_BAD_SIZE, 0, 0);
+}
+#endif
 
 /* A layout that was filled in part: entries from n on are not looked at. */
 static void measures(void) {
@@ -290,6 +321,32 @@ static void slots_next_keeps(uint16_t port, int64_t wanted) {
     check_own(layout, 1);
 }
 
+static void fill_buffer(uint64_t *buffer) {
+    for (int i = 0; i < BUFFER; i++) buffer[i] = 8000 + (uint64_t)i;
+}
+
+static void check_buffer(const uint64_t *buffer) {
+    for (int i = 0; i < BUFFER; i++) check(buffer[i] == 8000 + (uint64_t)i);
+}
+
+/* So many numbers lent: a refusal but 17 keeps them. */
+static void count_keeps(size_t job_bytes, size_t numbers, int64_t wanted) {
+    uint64_t buffer[BUFFER];
+    fill_buffer(buffer);
+    check(cheremysl_count(one_pad, job_bytes, 1, 0, buffer, numbers) == wanted);
+    if (wanted < 0) check_buffer(buffer);
+}
+
+static void place_keeps(uint64_t place, size_t numbers, int64_t wanted, int from) {
+    uint16_t layout[LENT];
+    uint64_t buffer[BUFFER];
+    memcpy(layout, own, sizeof own);
+    fill_buffer(buffer);
+    check(cheremysl_place(one_pad, PAD, 1, 0, place, layout, LENT, buffer, numbers) == wanted);
+    check_own(layout, from);
+    if (numbers < BUFFER) check_buffer(buffer);
+}
+
 static void page_keeps(uint16_t port, int64_t wanted) {
     uint16_t page[LENT];
     memcpy(page, own, sizeof own);
@@ -301,7 +358,7 @@ static void page_keeps(uint16_t port, int64_t wanted) {
 static const uint8_t in_square[2 * CHEREMYSL_RECORD_BYTES] = {
     1, 0, 1, 0, 5, 0, 0, 0, 0, 0, 0, 0, 0, 0, 0, 0, 2, 0, 0, 0, 6, 0, 0, 0, 1, 0, 0, 0, 8};
 
-/* No layout: each First keeps the list. */
+/* No layout: each First keeps the list, and so does Place. */
 static void none_keeps(void) {
     static const uint32_t figures[4] = {1, 2, 3, 4};
     int64_t none = -65536 * CHEREMYSL_NO_LAYOUT;
@@ -316,6 +373,9 @@ static void none_keeps(void) {
     check(cheremysl_table_first(in_square, sizeof in_square, figures, 4, layout, LENT) == none);
     check(none == cheremysl_slots_first(pads, sizeof pads, two_ports, PORTS, 1, 0, layout, LENT,
                                         work, NUMBERS));
+    check(cheremysl_count(in_square, sizeof in_square, 1, 0, work, NUMBERS) == none);
+    check(none == cheremysl_place(in_square, sizeof in_square, 1, 0, 0, layout, LENT, work,
+                                  NUMBERS));
     check_own(layout, 0);
 }
 #endif
@@ -341,6 +401,12 @@ static void lists(void) {
     slots_next_keeps(0, CHEREMYSL_END);
     slots_next_keeps(1, -65536 * CHEREMYSL_NOT_BEST);
     slots_next_keeps(2, bad_entry);
+    count_keeps(PAD, BUFFER, 1);
+    count_keeps(PAD, BUFFER - 1, -65536 * CHEREMYSL_NO_BUFFER_ROOM);
+    count_keeps(0, BUFFER, bad_size);
+    place_keeps(0, BUFFER, 5, 1);
+    place_keeps(0, BUFFER - 1, -65536 * CHEREMYSL_NO_BUFFER_ROOM, 0);
+    place_keeps(1, BUFFER, -65536 * CHEREMYSL_PAST_COUNT, 0);
 #endif
 }
 
@@ -352,6 +418,9 @@ int main(void) {
     no_table();
     no_room();
     no_list();
+#ifndef NO_SEARCH
+    no_buffer();
+#endif
     limits();
     version();
     measures();

@@ -64,6 +64,9 @@ void make_slots(uint8_t *pads, size_t n, uint8_t *ports, size_t p, enum board ki
 /* Straight pads, and so many pairs half way between two ports: weights 1, 0 have 2^pairs sheets. */
 void make_tied(uint8_t *job, size_t n, size_t pairs);
 
+/* 64 pads in the middle gap, of which any 32 go down: too many to have places, for all weights. */
+void make_plentiful(uint8_t *job);
+
 /* An accepted job of either form: n pads; p ports, their heights so many bytes apart. */
 #define MOST_PORTS 128
 struct plan {

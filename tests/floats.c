@@ -230,6 +230,8 @@ static const function entrances[CALLS] = {
     [TABLE_NEXT] = (function)cheremysl_table_next,
     [SLOTS_FIRST] = (function)cheremysl_slots_first,
     [SLOTS_NEXT] = (function)cheremysl_slots_next,
+    [COUNT] = (function)cheremysl_count,
+    [PLACE] = (function)cheremysl_place,
 #endif
 };
 

@@ -31,12 +31,13 @@ static uint32_t take_bits(struct bytes *b) { return take(b, (uint64_t)UINT32_MAX
 
 /*
  * How many pads and, where they stand apart, how many ports: few that can all be tried, or more; a
- * search on very many takes too long.
+ * search on very many takes too long, and so does counting all layouts.
  */
 static void take_counts(struct bytes *b, struct question *q) {
     static const size_t small[] = {1, 2, 3, 3, 4, 4, 5, 6};
     bool few = take(b, 8) > 0, apart = takes_slots(q->call);
-    size_t n = few ? small[take(b, 8)] : 1 + take(b, takes_work(q->call) ? 8 : 64);
+    size_t some = takes_work(q->call) ? 8 : takes_buffer(q->call) ? 20 : 64;
+    size_t n = few ? small[take(b, 8)] : 1 + take(b, some);
     size_t most = few ? PLAIN_PORTS : takes_work(q->call) ? 12 : MOST_PORTS;
     q->job_bytes = 16 * n;
     if (apart) q->port_bytes = 4 * (n + take(b, most - n + 1));
@@ -68,7 +69,22 @@ static void take_job(struct bytes *b, struct question *q) {
     }
     for (size_t i = 0; i < p; i++) set_port(q, i, scale * port[i]);
     take_squares(b, q, scale);
-    if (takes_work(q->call)) lend_work(q, take(b, 3));
+    if (takes_work(q->call) || takes_buffer(q->call)) lend_work(q, take(b, 3));
+}
+
+/* A job with too many sheets to have places. */
+static void take_plenty(struct question *q) {
+    make_plentiful(q->job);
+    q->job_bytes = 16 * 64;
+    q->count = 64;
+    lend_work(q, 0);
+}
+
+/* One that there may be, one of so many bits, or any. */
+static uint64_t take_place(struct bytes *b) {
+    uint32_t kind = take(b, 8);
+    uint64_t bits = kind < 6 ? take(b, kind < 4 ? 3 : 256) : (uint64_t)take_bits(b) << 32;
+    return kind < 6 ? bits : (bits | take_bits(b)) >> take(b, 64);
 }
 
 static uint32_t take_weight(struct bytes *b) {
@@ -146,17 +162,22 @@ static void damage_numbers(struct bytes *b, struct question *q, uint32_t *number
         *number = take_bits(b);
 }
 
-/* Pads or ports of another length, or another height; a work list shorter by any, or by up to 2. */
+/* A work list, or a buffer, shorter by any, or by up to 2. */
+static void damage_work(struct bytes *b, struct question *q) {
+    size_t less = take(b, take(b, 2) ? 3 : q->numbers + 1);
+    q->numbers -= less < q->numbers ? less : q->numbers;
+}
+
+/* Pads or ports of another length, or another height; or what the call works in. */
 static void damage_sizes(struct bytes *b, struct question *q) {
-    size_t p = ports_of(q), less;
-    switch (take(b, 4) && takes_slots(q->call) ? 1 + take(b, 4) : 0) {
+    size_t p = ports_of(q);
+    bool any = take(b, 4) > 0;
+    switch (any && takes_slots(q->call) ? 1 + take(b, 4) : any && takes_buffer(q->call) ? 4 : 0) {
     case 0: q->job_bytes = take(b, JOB_ROOM + 1); break;
     case 1: q->port_bytes = take(b, PORTS_ROOM + 1); break;
     case 2: q->port_bytes = 4 * take(b, records_of(q) + 1); break;
     case 3: put_number(q->ports + 4 * take(b, p + (p == 0)), 4, take_bits(b)); break;
-    default:
-        less = take(b, take(b, 2) ? 3 : q->numbers + 1);
-        q->numbers -= less < q->numbers ? less : q->numbers;
+    default: damage_work(b, q);
     }
 }
 
@@ -215,11 +236,13 @@ static void question_of(const uint8_t *data, size_t size, struct question *q) {
     if (takes_table(q->call)) take_table(&b, q);
     if (takes_layout(q->call)) take_layout(&b, q);
     if (q->call == PAGE) take_page(&b, q);
+    if (q->call == PLACE) q->place = take_place(&b);
+    if (takes_buffer(q->call) && take(&b, 32) == 31) take_plenty(q);
     uint32_t times = take(&b, 8);
     for (; times > 4; times--) damage(&b, q);
 }
 
-/* ---- replies that are too many to try: jobs of more than PLAIN_PORTS ports ---- */
+/* ---- replies that are too many to try: jobs of more than PLAIN_PORTS ports, not counted ---- */
 
 static int64_t measured(const struct question *q, const union list *list) {
     struct question m = *q;

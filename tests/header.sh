@@ -41,14 +41,24 @@ refuses() {
 cat >"$room/user.c" <<'C'
 #include <cheremysl.h>
 
-#if CHEREMYSL_VERSION_NUMBER < 2001000
+#if CHEREMYSL_VERSION_NUMBER < 2002000
 #error "too old"
 #endif
 #if CHEREMYSL_SLOTS_WORK(CHEREMYSL_MAX_RECORDS, CHEREMYSL_MAX_SLOTS) != CHEREMYSL_MAX_SLOTS_WORK
 #error "the largest work list"
 #endif
+#if CHEREMYSL_BUFFER(CHEREMYSL_MAX_RECORDS) != CHEREMYSL_MAX_BUFFER || CHEREMYSL_MAX_COUNT < CHEREMYSL_MAX_TABLE_TOTAL
+#error "the largest buffer and count"
+#endif
 
 static uint64_t work[CHEREMYSL_SLOTS_WORK(CHEREMYSL_MAX_RECORDS, CHEREMYSL_MAX_SLOTS)];
+
+static uint64_t buffer[CHEREMYSL_BUFFER(CHEREMYSL_MAX_RECORDS)];
+
+static size_t buffer_numbers(size_t job_bytes) {
+    size_t n = job_bytes / CHEREMYSL_RECORD_BYTES;
+    return CHEREMYSL_BUFFER(n);
+}
 
 static size_t numbers(size_t pad_bytes, size_t port_bytes) {
     size_t n = pad_bytes / CHEREMYSL_RECORD_BYTES, p = port_bytes / CHEREMYSL_PORT_BYTES;
@@ -69,6 +79,11 @@ int main(void) {
     if (cheremysl_is_end(answer)) return cheremysl_refusal_record(answer);
     answer = cheremysl_page(job, sizeof job, 1, 0, layout, CHEREMYSL_MAX_RECORDS, page, 2 * CHEREMYSL_MAX_RECORDS);
     if (answer == CHEREMYSL_END) return cheremysl_refusal_earlier(answer);
+    answer = cheremysl_count(job, sizeof job, 1, 0, buffer, CHEREMYSL_MAX_BUFFER);
+    if (cheremysl_refusal_number(answer) == CHEREMYSL_TOO_MANY || answer > CHEREMYSL_MAX_COUNT) return *text;
+    if (answer < 0) return cheremysl_refusal_number(answer) == CHEREMYSL_NO_BUFFER_ROOM;
+    answer = cheremysl_place(job, sizeof job, 1, 0, UINT64_C(7), layout, CHEREMYSL_MAX_RECORDS, buffer, buffer_numbers(sizeof job));
+    if (cheremysl_refusal_number(answer) == CHEREMYSL_PAST_COUNT) return *text;
     answer = cheremysl_measure(job, sizeof job, 1, 0, page, CHEREMYSL_MAX_RECORDS);
     if (cheremysl_refusal_number(answer) == CHEREMYSL_TOUCHING) return *text;
     if (cheremysl_refusal_number(answer) == CHEREMYSL_BAD_TABLE) return *text;
@@ -152,12 +167,17 @@ warned stringop-overflow 'uint16_t list[4] = {0}; return cheremysl_slots_next(jo
 warned stringop-overread 'uint16_t list[4] = {0}; return cheremysl_slots_measure(job, bytes, job, 4, 1, 0, list, 64);'
 warned stringop-overflow 'uint64_t work[35]; return cheremysl_slots_first(job, 16, job, 4, 1, 0, 0, 0, work, CHEREMYSL_SLOTS_WORK(1, 1));'
 warned stringop-overflow 'uint64_t work[35]; return cheremysl_slots_next(job, 16, job, 4, 1, 0, 0, 0, work, CHEREMYSL_SLOTS_WORK(1, 1));'
+warned stringop-overflow 'uint16_t list[4]; return cheremysl_place(job, bytes, 1, 0, 0, list, 64, 0, 0);'
+warned stringop-overflow 'uint64_t buffer[17]; return cheremysl_count(job, 16, 1, 0, buffer, CHEREMYSL_BUFFER(1));'
+warned stringop-overflow 'uint64_t buffer[17]; return cheremysl_place(job, 16, 1, 0, 0, 0, 0, buffer, CHEREMYSL_BUFFER(1));'
 
 warned stringop-overread 'uint8_t a[15] = {0}; uint16_t list[1]; return cheremysl_first(a, 16, 1, 0, list, 1);'
 warned stringop-overread 'uint8_t a[15] = {0}; uint16_t list[1] = {0}; return cheremysl_next(a, 16, 1, 0, list, 1);'
 warned stringop-overread 'uint8_t a[15] = {0}; return cheremysl_page(a, 16, 1, 0, given, 1, 0, 0);'
 warned stringop-overread 'uint8_t a[15] = {0}; return cheremysl_measure(a, 16, 1, 0, given, 1);'
 warned stringop-overread 'uint8_t a[15] = {0}; float points[6]; return cheremysl_draw(a, 16, 0, 0, points, 6);'
+warned stringop-overread 'uint8_t a[15] = {0}; return cheremysl_count(a, 16, 1, 0, 0, 0);'
+warned stringop-overread 'uint8_t a[15] = {0}; uint16_t list[1]; return cheremysl_place(a, 16, 1, 0, 0, list, 1, 0, 0);'
 warned stringop-overread 'uint8_t a[15] = {0}; uint16_t list[1]; return cheremysl_table_first(a, 16, table, 1, list, 1);'
 warned stringop-overread 'uint8_t a[15] = {0}; uint16_t list[1] = {0}; return cheremysl_table_next(a, 16, table, 1, list, 1);'
 warned stringop-overread 'uint8_t a[15] = {0}; return cheremysl_table_measure(a, 16, table, 1, given, 1);'
@@ -174,12 +194,16 @@ warned stringop-overread 'uint32_t t[3] = {0}; return cheremysl_table_measure(jo
 warned nonnull 'return cheremysl_first(job, bytes, 1, 0, 0, 1);'
 warned nonnull 'return cheremysl_measure(0, 16, 1, 0, given, 1);'
 warned nonnull 'return cheremysl_page(job, bytes, 1, 0, given, 1, 0, 1);'
+warned nonnull 'return cheremysl_count(job, bytes, 1, 0, 0, 18);'
+warned nonnull 'uint64_t buffer[18]; return cheremysl_place(job, bytes, 1, 0, 0, 0, 1, buffer, 18);'
+warned nonnull 'uint16_t list[1]; return cheremysl_place(job, bytes, 1, 0, 0, list, 1, 0, 18);'
 warned nonnull 'uint16_t list[1]; return cheremysl_table_first(job, bytes, 0, 1, list, 1);'
 warned nonnull 'return cheremysl_table_measure(job, bytes, 0, 1, given, 1);'
 warned nonnull 'uint16_t list[1]; return cheremysl_slots_first(job, bytes, job, 4, 1, 0, list, 1, 0, 36);'
 warned nonnull 'return cheremysl_slots_measure(job, bytes, 0, 4, 1, 0, given, 1);'
 quiet 'return cheremysl_first(0, 0, 1, 0, 0, 0) + cheremysl_next(0, 0, 1, 0, 0, 0) + cheremysl_measure(0, 0, 1, 0, 0, 0);'
 quiet 'return cheremysl_draw(0, 0, 0, 0, 0, 0) + cheremysl_page(job, bytes, 1, 0, given, 1, 0, 0);'
+quiet 'return cheremysl_count(0, 0, 1, 0, 0, 0) + cheremysl_place(0, 0, 1, 0, 0, 0, 0, 0, 0);'
 quiet 'return cheremysl_table_first(0, 0, 0, 0, 0, 0) + cheremysl_table_next(0, 0, 0, 0, 0, 0);'
 quiet 'return cheremysl_table_measure(job, bytes, 0, 0, given, 1);'
 quiet 'return cheremysl_slots_first(0, 0, 0, 0, 1, 0, 0, 0, 0, 0) + cheremysl_slots_next(0, 0, 0, 0, 1, 0, 0, 0, 0, 0);'
@@ -190,6 +214,8 @@ quiet 'uint16_t list[64]; return cheremysl_first(job, bytes, 1, 0, list, 64);'
 quiet 'uint16_t page[64]; return cheremysl_page(job, bytes, 1, 0, given, 4, page, 64);'
 quiet 'uint16_t list[64]; return cheremysl_table_first(job, bytes, table, 16, list, 64);'
 quiet 'uint16_t list[64]; uint64_t work[36]; return cheremysl_slots_first(job, bytes, job, 4, 1, 0, list, 64, work, 36);'
+quiet 'uint64_t buffer[18]; return cheremysl_count(job, bytes, 1, 0, buffer, 18);'
+quiet 'uint16_t list[64]; uint64_t buffer[18]; return cheremysl_place(job, bytes, 1, 0, 0, list, 64, buffer, 18);'
 quiet 'float points[6]; return cheremysl_draw(job, bytes, 0, 0, points, 6);'
 quiet 'uint16_t list[64]; list[0] = 1; list[1] = 0; return cheremysl_measure(job, 32, 1, 0, list, 64);'
 quiet 'uint16_t list[64]; list[0] = 1; list[1] = 0; return cheremysl_next(job, 32, 1, 0, list, 64);'
@@ -212,6 +238,8 @@ warned '\(maybe-\)*uninitialized' 'uint8_t heights[4]; return cheremysl_slots_me
 for ignored in 'uint16_t list[64]; cheremysl_first(job, bytes, 1, 0, list, 64)' \
     'uint16_t list[64] = {0}; cheremysl_next(job, bytes, 1, 0, list, 64)' \
     'uint16_t page[64]; cheremysl_page(job, bytes, 1, 0, given, 1, page, 64)' \
+    'uint64_t buffer[18]; cheremysl_count(job, bytes, 1, 0, buffer, 18)' \
+    'uint16_t list[64]; uint64_t buffer[18]; cheremysl_place(job, bytes, 1, 0, 0, list, 64, buffer, 18)' \
     'cheremysl_measure(job, bytes, 1, 0, given, 1)' \
     'float points[6]; cheremysl_draw(job, bytes, 0, 0, points, 6)' \
     'uint16_t list[64]; cheremysl_table_first(job, bytes, table, 16, list, 64)' \
@@ -233,6 +261,8 @@ cat >"$room/throw.c" <<'C'
 static_assert(noexcept(cheremysl_first(nullptr, 0, 0, 0, nullptr, 0)), "First");
 static_assert(noexcept(cheremysl_next(nullptr, 0, 0, 0, nullptr, 0)), "Next");
 static_assert(noexcept(cheremysl_page(nullptr, 0, 0, 0, nullptr, 0, nullptr, 0)), "Page");
+static_assert(noexcept(cheremysl_count(nullptr, 0, 0, 0, nullptr, 0)), "Count");
+static_assert(noexcept(cheremysl_place(nullptr, 0, 0, 0, 0, nullptr, 0, nullptr, 0)), "Place");
 static_assert(noexcept(cheremysl_measure(nullptr, 0, 0, 0, nullptr, 0)), "Measure");
 static_assert(noexcept(cheremysl_draw(nullptr, 0, 0, 0, nullptr, 0)), "Draw");
 static_assert(noexcept(cheremysl_table_first(nullptr, 0, nullptr, 0, nullptr, 0)), "First over a table");

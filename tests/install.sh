@@ -83,7 +83,7 @@ strict="-std=c99 -Wall -Wextra -Werror -pedantic"
 compile() { $cc $strict -o "$room/$1" "$2" $flags $libs -Wl,-rpath,"$lib"; }
 compile_archive() { $cc $strict $static -o "$room/sheets-archive" "$share/sheets.c" $flags "$lib/libcheremysl.a"; }
 uses_shared() { $readelf -d "$room/$1" | grep -qF "[$soname]"; }
-for program in sheets audit antenna slots; do
+for program in sheets audit antenna slots thumbs; do
     check "$program.c" compile $program "$share/$program.c"
     check "$program uses the shared library" uses_shared $program
 done
@@ -107,7 +107,7 @@ prints 1 'refused 1 record 0' $run "$room/sheets" "$share/sheets.c"
 # The trial of 01's worked sheets, and the header's own, with the shared library.
 trial() { $cc -std=c99 "$@" -o "$room/trial" $flags $libs -Wl,-rpath,"$lib" && $run "$room/trial" | tail -n 1 | grep -xE '[1-9][0-9]* passed, 0 failed'; }
 check "the header, with the shared library" trial tests/abi.c
-check "01's sheets, with the shared library" trial tests/sheets.c tests/trial.c tests/questions.c tests/guard.c tests/boards.c tests/plain.c
+check "01's sheets, with the shared library" trial tests/sheets.c tests/trial.c tests/questions.c tests/guard.c tests/boards.c tests/plain.c tests/ranked.c
 
 # Page by page, four sheets each: eight sheets end within the second page, five with a full first one.
 ports_of() { $run "$room/sheets" "$1" | awk '/^total/ { printf line; line = "\n" } /to port/ { printf "%d", $5 }'; }
@@ -201,12 +201,51 @@ prints 0 "refused 15 record 0: $no_sheet" slots "$room/inside.pads" "$share/row.
 prints 1 "refused 15 record 0: $no_sheet" antenna "$room/enlarged.job" $area
 for words in '' one 'one two three'; do prints 0 'usage: slots PADS PORTS: a file of pads, and one of port heights' slots $words; done
 
+# The strip of thumbnails: amid the sheets with the fewest bends, as the README shows it, at the last of them from too far, at both of J3; of 63 pads in one gap
+# so many as any 32 of them are, and of 64 more than have places; what is refused.
+thumbs() { $run "$room/thumbs" "$@" 2>&1 | sed "s|$room/||"; }
+amid='sheets: 16856, bends: 22
+8428: 22 21 20 23 15 17 18 13 16 14 10 9 19 8 11 7 5 6 4 3 2 1 12 0
+8429: 21 22 20 23 15 17 18 13 16 14 10 9 19 8 11 7 5 6 4 3 2 1 12 0
+8430: 22 20 21 23 15 17 18 13 16 14 10 9 19 8 11 7 5 6 4 3 2 1 12 0
+8431: 21 20 22 23 15 17 18 13 16 14 10 9 19 8 11 7 5 6 4 3 2 1 12 0
+-------------------------------#--------------------------------'
+prints 0 "$amid" $run "$room/thumbs" "$share/sequencer.job" 8428
+check "the README's thumbnails" [ "$(sed -n '/^    sheets: 16856/,/^    -*#-*$/p' README.md)" = "$(echo "$amid" | sed 's/^/    /')" ]
+for place in 16855 16856 18446744073709551616; do
+    prints 0 'sheets: 16856, bends: 22
+16855: 21 20 22 19 15 17 18 13 14 16 9 10 23 8 7 6 5 4 3 2 1 0 12 11
+---------------------------------------------------------------#' thumbs "$share/sequencer.job" $place
+done
+prints 0 'sheets: 2, bends: 2
+0: 1 0
+1: 0 1
+#---------------------------------------------------------------' thumbs "$share/J3.job" 0
+in_one_gap() { awk -v n="$1" 'BEGIN { for (i = 0; i < n; i++) print i + 1, i + 10, 316, 10 * i }' | "$share/mkjob" >"$room/gap.job" && thumbs "$room/gap.job" 7 | sed 's/^\([0-9]*:\).*/\1/'; }
+prints 0 'sheets: 916312070471295267, bends: 63
+7:
+8:
+9:
+10:
+#---------------------------------------------------------------' in_one_gap 63
+prints 0 'This board has more than 1,000,000,000,000,000,000 best sheets.
+0:
+1:
+2:
+3:' in_one_gap 64
+check "the README's too many sheets" grep -qxF '    This board has more than 1,000,000,000,000,000,000 best sheets.' README.md
+prints 1 "refused 1 record 0: $size" $run "$room/thumbs" "$share/thumbs.c" 0
+prints 1 "refused 15 record 0: $no_sheet" $run "$room/thumbs" "$room/enlarged.job" 0
+for words in '' one 'one 2 three'; do prints 0 'usage: thumbs JOB PLACE: a job file, and a place counted from 0' thumbs $words; done
+for word in -1 x 1x ''; do prints 0 "thumbs: '$word' is not a place" thumbs "$share/J3.job" "$word"; done
+
 # A file that is not there is named.
 unopened() { $run "$@" 2>&1 | sed "s|.*cannot open $room/none: No such|No such|"; }
 prints 0 'No such file or directory' unopened "$room/sheets" "$room/none"
 prints 0 'No such file or directory' unopened "$room/audit" "$room/none" 0
 prints 0 'No such file or directory' unopened "$room/antenna" "$room/none" $area
 prints 0 'No such file or directory' unopened "$room/slots" "$share/sensor.pads" "$room/none"
+prints 0 'No such file or directory' unopened "$room/thumbs" "$room/none" 0
 
 # The README's example is the one that was compiled.
 readme_example() { sed -n '/^```c$/,/^```$/{/^```/!p}' README.md | cmp - examples/sheets.c; }
@@ -270,7 +309,7 @@ for page in "$installed"/share/man/man?/*; do
 done
 for program in "$installed"/bin/*; do check "manual" [ -f "$installed/share/man/man1/${program##*/}.1" ]; done
 functions=$(sed -nE 's/^(static inline |int64_t ).*(cheremysl_[a-z_]+)\(.*/\2/p' include/cheremysl.h)
-check "functions of the header: $functions" [ "$(echo $functions | wc -w)" -ge 17 ]
+check "functions of the header: $functions" [ "$(echo $functions | wc -w)" -ge 19 ]
 for function in $functions; do
     check "manual of each function" grep -q "$function(" "$installed/share/man/man3/$function.3"
 done

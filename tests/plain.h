@@ -1,8 +1,8 @@
 /*
  * plain.h: the calls in plain C, written from the paper's text alone. They share nothing with the
  * library: touching is sharing a point of hand or arm with the other's hand, arm or square, and
- * First, Next and Page try every assignment of ports to pads. The tests hold the library to this
- * account.
+ * First, Next, Page, Count and Place try every assignment of ports to pads. The tests hold the
+ * library to this account.
  */
 #ifndef PLAIN_H
 #define PLAIN_H
@@ -11,9 +11,11 @@
 #include <stddef.h>
 #include <stdint.h>
 
-#define PLAIN_PORTS 7           /* these three try every assignment up to so many ports .. */
+#define PLAIN_PORTS 7           /* these five try every assignment up to so many ports .. */
 #define PLAIN_UNKNOWN INT64_MIN /* .. and answer this for an accepted job with more */
 #define PLAIN_SHEETS 5040       /* assignments of seven pads, or of six, to seven ports */
+
+#define PLAIN_LIMIT 1000000000000000000 /* of more best layouts none has a place */
 
 #define PLAIN_REFUSALS 25 /* one more than the largest refusal number */
 
@@ -21,10 +23,11 @@
 extern const int first_checks[], next_checks[], measure_checks[], draw_checks[];
 extern const int table_first_checks[], table_next_checks[], table_measure_checks[];
 extern const int slots_first_checks[], slots_next_checks[], slots_measure_checks[];
+extern const int count_checks[], place_checks[];
 
 /*
- * What a call is given. First's and Draw's lists and the work list have a size only; Draw has no
- * weights.
+ * What a call is given. First's and Draw's lists, the work list and the buffer have a size only;
+ * Draw has no weights.
  */
 struct given {
     const uint8_t *job; /* in the second form the pads .. */
@@ -32,7 +35,7 @@ struct given {
     bool slots;           /* .. whose ports stand apart, .. */
     const uint8_t *ports; /* .. here */
     size_t port_bytes;
-    size_t numbers; /* of the work list */
+    size_t numbers; /* of the work list, or of the buffer */
     uint32_t length_weight, bend_weight;
     const uint32_t *table;
     size_t figures;
@@ -42,12 +45,15 @@ struct given {
     uint32_t record, port;
     size_t floats;
     bool draw; /* refusal 3 is about the floats */
+    uint64_t place;
 };
 
 /* The calls, over weights or a table. What they write may be the list that they are given. */
 int64_t plain_first(const struct given *g, uint16_t *layout);
 int64_t plain_next(const struct given *g, uint16_t *layout);
 int64_t plain_page(const struct given *g, uint16_t *page, size_t page_entries);
+int64_t plain_count(const struct given *g);
+int64_t plain_place(const struct given *g, uint16_t *layout);
 int64_t plain_measure(const struct given *g);
 int64_t plain_draw(const struct given *g, float *points);
 

@@ -2,7 +2,7 @@
 """tests/python.py TEXTS [LIBRARY JOBS SEED]: the Python binding, examples/cheremysl.py. Its sentences against those in the file TEXTS, from the C header; its
 job maker; and, given the shared library, every call on random jobs against 01 worked out in plain Python, all assignments tried, and the binding as a program.
 The last line has the counts."""
-import contextlib, ctypes, importlib.util, io, itertools, os, random, signal, struct, subprocess, sys
+import contextlib, ctypes, importlib.util, io, itertools, math, os, random, signal, struct, subprocess, sys
 
 def module_at(path, *words):
     """A Python file as a module; a program runs with these words, and its definitions stay."""
@@ -134,6 +134,24 @@ def try_weights(library, job, board, weights, given):
         bad = board.refusal(layout, second)
         if bad or layout[:board.n] not in best:
             check('page', reply(library.page, job, layout, 2, *weights), bad or (10, 0, None))
+    try_places(library, job, board.refusal(None, second), every, weights)
+
+def try_places(library, job, bad, every, weights):
+    """The number of best sheets, and each at its place, with a buffer that holds anything, and too short by one number."""
+    buffer = binding.buffer_of(job)
+    ctypes.memset(buffer, len(job) % 251, ctypes.sizeof(buffer))
+    held = bytes(buffer)
+    short = (ctypes.c_uint64 * (len(buffer) - 1)).from_buffer(buffer)
+    check('count, a short buffer', reply(library.count, job, *weights, short), bad or (18, 0, None))
+    check('place, a short buffer', reply(library.place, job, 2 ** 64 - 1, *weights, short), bad or (18, 0, None))
+    check('a buffer after a refusal', bytes(buffer), held)
+    check('count', reply(library.count, job, *weights), bad or len(every))
+    for place in [*range(min(len(every), 30)), len(every) - 1] if every else ():
+        check('place', reply(library.place, job, place, *weights), every[place])
+        check('place, the same buffer', reply(library.place, job, place, *weights, buffer), every[place])
+    check('count, the same buffer', reply(library.count, job, *weights, buffer), bad or len(every))
+    for place in len(every), len(every) + 1, 2 ** 63, 2 ** 64 - 1:
+        check('a place past the last', reply(library.place, job, place, *weights, buffer), bad or (17, 0, None))
 
 def try_table(library, job, board, table, given):
     calls = lambda: library.table_first(job, table), lambda f: library.table_next(job, tuple(table), f), lambda f: library.table_measure(job, table, f)
@@ -249,6 +267,17 @@ def try_numbers(library):
         check('figure', reply(library.table_first, job, [bad]), TypeError)
     for bad in 16, 'x' * 16, [0] * 16, None:
         check('job', reply(library.measure, bad, [0]), TypeError)
+    for bad in -1, 2 ** 64:
+        check('place', reply(library.place, job, bad), OverflowError)
+    for bad in -1, 2 ** 32:
+        check('weight', reply(library.count, job, bad, 0), OverflowError)
+        check('weight', reply(library.place, job, 0, 0, bad), OverflowError)
+    check('places', [reply(library.place, job, k) for k in range(2)], [(5, [0]), (17, 0, None)])
+    for n in 8, 62:
+        check('count', library.count(many(n)), math.comb(n, n // 2))
+        check('last place', library.next_(many(n), library.place(many(n), math.comb(n, n // 2) - 1)[1]), None)
+    check('too many', reply(library.count, many(64)), (16, 0, None))
+    check('too many', reply(library.place, many(64), 0), (16, 0, None))
     check('job', library.first(bytearray(job)), (5, [0]))
     check('largest half-side', library.first(binding.job_of([(101, 5, 3, 3)], 2000)), (5, [0]))
     check('a larger one', reply(library.first, binding.job_of([(101, 5, 3, 3)], 2001)), (4, 0, None))
@@ -299,6 +328,7 @@ def try_jobs():
     check('job', binding.job_of([(1, 2, 3, 4), (5, 6, 7, 8)], [9, 65535]), struct.pack('<HHIiiHHIii', 1, 9, 2, 3, 4, 5, 65535, 6, 7, 8))
     check('ports', binding.ports_of(range(10, 640, 20)), ports)
     check('work', len(binding.work_of(pads, ports)), 2 * 10 * 34 * 34)
+    check('buffer', [len(binding.buffer_of(job)) for job in (b'', pads, bytes(1024), bytes(2000))], [8, 242, 8712, 8712])
 
 def try_program(library, texts):
     """The binding as a program: its status, and what it writes."""

@@ -51,17 +51,49 @@ static void any_pads(struct question *q, size_t n, size_t p) {
     if (takes_slots(q->call)) {
         q->port_bytes = 4 * p;
         make_slots(q->job, n, q->ports, p, kind);
-        lend_work(q, below(2) ? 0 : below(4));
     } else {
         make_board(q->job, n, kind);
     }
+    if (takes_work(q->call) || takes_buffer(q->call)) lend_work(q, below(2) ? 0 : below(4));
     struct plan plan = plan_of(q);
     any_squares(q->job, &plan);
 }
 
-/* A search on slots takes time that grows with n times p cubed: large ones are not for here. */
+/*
+ * A search on slots takes time that grows with n times p cubed: large ones are not for here. Nor
+ * are many large ones for those that the plain account counts.
+ */
 static size_t any_count(enum call call) {
-    return 1 + below(below(3) ? 5 : takes_work(call) ? 10 : 64);
+    size_t some = takes_work(call) ? 10 : takes_buffer(call) && below(16) ? 12 : 64;
+    return 1 + below(below(3) ? 5 : (uint32_t)some);
+}
+
+void plentiful_job(struct question *q) {
+    q->job_bytes = 16 * 64;
+    q->count = 64 + below(2);
+    make_plentiful(q->job);
+    lend_work(q, below(2));
+}
+
+static uint64_t any_number(void) { return ((uint64_t)any_bits() << 32 | any_bits()) >> below(64); }
+
+/* The number of best layouts, if they can have places. */
+static uint64_t counted(const struct question *q) {
+    struct question c = *q;
+    c.call = COUNT;
+    int64_t count = plain_reply(&c).answer;
+    return count > 0 ? (uint64_t)count : 1;
+}
+
+uint64_t likely_place(const struct question *q) {
+    switch (below(8)) {
+    case 0: return counted(q) - 1;
+    case 1: return counted(q) + below(2);
+    case 2: return below(4) ? any_number() : UINT64_MAX;
+    case 3: return counted(q) - 1 + ((uint64_t)1 << (8 + below(56)));
+    case 4: return below(3);
+    default: return any_number() % counted(q);
+    }
 }
 
 /* Of few pads the plain account finds a best layout, which takes it long on many ports. */
@@ -95,6 +127,8 @@ void sound_question(struct question *q, enum call call) {
     else if (takes_layout(call))
         any_layout(q, q->list.layout);
     if (call == PAGE) lend_page(q, any_room(n));
+    if (takes_buffer(call) && below(64) == 0) plentiful_job(q);
+    if (call == PLACE) q->place = likely_place(q);
 }
 
 void sound_job_of(struct question *q, enum call call, size_t n, size_t p) {
@@ -206,21 +240,25 @@ static void damage_table(struct question *q) {
     }
 }
 
-/* A work list of one number too few, of any length up to that, of just enough, of more. */
+/* A work list, or a buffer: one number too few, any length up to that, just enough, more. */
 static void damage_work(struct question *q) {
     lend_work(q, 0);
     size_t enough = q->numbers, others[] = {enough - 1, 0, below((uint32_t)enough), enough};
     q->numbers = below(5) ? others[below(4)] : enough + below(9);
 }
 
-/* The numbers, or the table that a call has in their place; or the work list. */
+/* The numbers, or the table that a call has in their place; or what it works in; or the place. */
 static void damage_numbers(struct question *q) {
     if (takes_table(q->call)) {
         damage_table(q);
         return;
     }
-    if (takes_work(q->call) && below(2)) {
+    if ((takes_work(q->call) || takes_buffer(q->call)) && below(2)) {
         damage_work(q);
+        return;
+    }
+    if (q->call == PLACE && below(2)) {
+        q->place = any_number();
         return;
     }
     uint32_t *number = below(2) ? &q->a : &q->b;

@@ -23,6 +23,12 @@ void damage(struct question *q);
 /* How many entries a page has: room for none, or for some, exactly or with a remainder; n pads. */
 size_t any_room(size_t n);
 
+/* Gives the question, of Count or Place, a job with too many sheets. */
+void plentiful_job(struct question *q);
+
+/* A place, often one that there is: the first ones, the last, any; often one just past the last. */
+uint64_t likely_place(const struct question *q);
+
 /* Prints how often each refusal of a call came; each must have, 9 in both forms. By outcome. */
 void report_refusals(const char *title, enum call call, const long *came);
 

@@ -5,12 +5,14 @@
  * every record of up to 64, alone, twice and beside every other fault of a field. Squares that are
  * too large, at every record, and squares that leave no layout, for 1 to 64 pads. Tables of other
  * lengths than the right one, for 1 to 64 pads, and of lengths that no memory has. Work lists of
- * just enough numbers and of one too few, for up to 64 pads and 128 ports.
+ * just enough numbers and of one too few, for up to 64 pads and 128 ports; buffers so for 1 to 64
+ * pads. Every other refusal on a board with too many sheets: 16 comes after all but 17.
  */
 #include <stdio.h>
 #include <string.h>
 
 #include "boards.h"
+#include "questions.h"
 #include "trial.h"
 
 #define N 6
@@ -35,7 +37,7 @@ static struct question good(enum call call) {
     for (size_t i = 0; i < N; i++) put_record(q.job, i, 101 + (int64_t)i, x[i], y[i], 0);
     for (size_t i = 0; i < ports_of(&q); i++)
         set_port(&q, i, 10 * (int64_t)i + (i < N ? 0 : 100000));
-    if (takes_work(call)) lend_work(&q, 0);
+    if (takes_work(call) || takes_buffer(call)) lend_work(&q, 0);
     memset(&q.list, 0xC3, sizeof q.list);
     lend_page(&q, 2 * N + 1);
     if (call == DRAW) {
@@ -111,6 +113,21 @@ static void short_work(struct question *q, int way) {
     q->numbers = others[way];
 }
 
+/* The same of a buffer. */
+static void short_buffer(struct question *q, int way) {
+    size_t n2 = (N + 2) * (N + 2), enough = 2 * n2;
+    size_t others[LENGTHS] = {enough - 1, 0, 1, n2, 2 * (N + 1) * (N + 1), 2 * N * N, enough - 2,
+                              (N + 1) * (N + 2)};
+    q->numbers = others[way];
+}
+
+/* A place past the only best layout. */
+static void late_place(struct question *q, int way) {
+    static const uint64_t places[LENGTHS] = {
+        1, 2, 255, 65536, (uint64_t)1 << 32, INT64_MAX, (uint64_t)1 << 63, UINT64_MAX};
+    q->place = places[way];
+}
+
 /* Those of the whole input name record 0. */
 static bool is_whole(int number) {
     return number <= 3 || number == 10 || number == 11 || number == 13 || number >= 14;
@@ -152,6 +169,8 @@ static bool spoil(struct question *q, int number, size_t i, int way) {
     case 13: q->figures = tables[way % LENGTHS]; return way < LENGTHS;
     case 14: q->port_bytes = 4 * (size_t)(N - 1 - way); return way < N - 1;
     case 15: return bad_squares(q, way);
+    case 17: late_place(q, way % LENGTHS); return way < LENGTHS;
+    case 18: short_buffer(q, way % LENGTHS); return way < LENGTHS;
     case 24: short_work(q, way % LENGTHS); return way < LENGTHS;
     default: return false;
     }
@@ -208,9 +227,13 @@ static long both(enum call call, int one, int other) {
     return deserved;
 }
 
-/* 10 is of a layout that has all its ports and no touching pair, and with it its total. */
+/*
+ * 10 is of a layout that has all its ports and no touching pair, and with it its total. 16 is of
+ * more pads than these.
+ */
 static bool exclude_each_other(int one, int other) {
-    return other == 10 && (one == 3 || one == 8 || one == 9 || one == 13 || one == 14);
+    bool no_layout = one == 3 || one == 8 || one == 9 || one == 13 || one == 14;
+    return (other == 10 && no_layout) || one == 16 || other == 16;
 }
 
 static void pairs(enum call call) {
@@ -238,10 +261,11 @@ static size_t record_for(int number) {
     return records[number];
 }
 
-/* All refusals deserved at once, then mended in order. */
+/* All refusals deserved at once, but for 16, then mended in order. */
 static void mended_one_by_one(enum call call) {
     for (const int *unmended = refusals_of[call]; *unmended != 0; unmended++) {
         struct question q = good(call);
+        if (*unmended == 16) continue;
         for (const int *number = unmended; *number != 0; number++)
             spoil(&q, *number, record_for(*number), 0);
         is_refused(q, *unmended, (int)record_for(*unmended));
@@ -273,7 +297,7 @@ static struct question straight(enum call call, size_t n, size_t p) {
         put_record(q.job, i, 101 + (int64_t)i, 1 + (int64_t)i, 10 * (int64_t)i, 0);
     for (size_t i = 0; i < ports_of(&q); i++) set_port(&q, i, 10 * (int64_t)i);
     if (takes_table(call)) lend_table(&q, q.table, ZEROS);
-    if (takes_work(call)) lend_work(&q, 0);
+    if (takes_work(call) || takes_buffer(call)) lend_work(&q, 0);
     return q;
 }
 
@@ -345,7 +369,7 @@ static void just_too_large(enum call call, size_t n, size_t i) {
     int record = i > 0 ? (int)i : 1;
     if (n == 1 || call == DRAW)
         check(ask(&q, AT_END).answer >= -1, &q, "this square passes");
-    else if (gives_first(call))
+    else if (gives_first(call) || takes_buffer(call))
         is_refused(q, 15, 0);
     else
         expect(&q, keeps(&q, refused_pair(record, record - 1)));
@@ -440,6 +464,67 @@ static void works(enum call call) {
     }
 }
 
+/* ---- buffers of another length ---- */
+
+/* Just enough numbers pass, fewer do not, whatever the place; 15 comes first. */
+static void buffer_lengths(enum call call, size_t n) {
+    struct question q = straight(call, n, n);
+    size_t enough = q.numbers, fewer[] = {enough - 1, 0, enough / 2, 2 * (n + 1) * (n + 1),
+                                          2 * (n + 1) * (n + 2), enough - n - 2};
+    check(ask(&q, AT_END).answer >= 0, &q, "just enough numbers");
+    for (size_t k = 0; k < sizeof fewer / sizeof *fewer; k++) {
+        q.numbers = fewer[k];
+        q.place = k % 2 ? UINT64_MAX : 0;
+        is_refused(q, 18, 0);
+    }
+    put_half(q.job, 0, 10);
+    if (n > 1) is_refused(q, 15, 0);
+}
+
+static void buffers(enum call call) {
+    for (size_t n = 1; n <= 64; n++) buffer_lengths(call, n);
+    endless_work(call);
+}
+
+/* ---- too many sheets ---- */
+
+static struct question plentiful(enum call call) {
+    struct question q = straight(call, 64, 64);
+    plentiful_job(&q);
+    any_weights(&q.a, &q.b);
+    return q;
+}
+
+/* Every other refusal but 17 comes before 16. */
+static void beside_sixteen(enum call call, int number, size_t i) {
+    for (int way = 0; way < WAYS; way++) {
+        struct question q = plentiful(call);
+        if (!is_there(&q, number, i) || !spoil(&q, number, i, way)) continue;
+        int found = number == 15 || number == 17 ? 0 : fault_of(&q, number);
+        check(found >= 0, &q, "the plain account finds no record");
+        is_refused(q, number == 17 ? 16 : number, found);
+    }
+}
+
+/* All refusals at once, then mended in order. */
+static void sixteen_mended(enum call call) {
+    for (const int *unmended = refusals_of[call]; *unmended != 0; unmended++) {
+        struct question q = plentiful(call);
+        for (const int *number = unmended; *number != 0; number++)
+            spoil(&q, *number, record_for(*number), 0);
+        is_refused(q, *unmended == 17 ? 16 : *unmended, (int)record_for(*unmended));
+    }
+}
+
+static void too_many(enum call call) {
+    static const size_t records[] = {0, 1, 5, 32, 63};
+    for (const int *number = refusals_of[call]; *number != 0; number++)
+        for (size_t k = 0; k < sizeof records / sizeof *records; k++)
+            beside_sixteen(call, *number, records[k]);
+    for (int k = 0; k < 20; k++) is_refused(plentiful(call), 16, 0);
+    sixteen_mended(call);
+}
+
 /* Nothing at all: NULL with 0 for every list. */
 static void nothing(enum call call) {
     struct question q;
@@ -460,6 +545,8 @@ int main(void) {
         names_of_0(call);
         squares(call);
         if (takes_work(call)) works(call);
+        if (takes_buffer(call)) buffers(call);
+        if (takes_buffer(call)) too_many(call);
         if (!takes_table(call)) continue;
         for (size_t n = 1; n <= 64; n++) table_lengths(call, n);
         endless_tables(call);

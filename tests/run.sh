@@ -91,7 +91,7 @@ finish() {
 }
 
 # Random trials are so many a call; under the emulator, so many fewer that all take as long as those of eight calls.
-calls_tried=11
+calls_tried=13
 [ -z "$run" ] || calls_tried=8
 [ $part = rest ] || {
     both fuzz $((50000 * calls_tried)) $((5000 * calls_tried))
@@ -100,7 +100,7 @@ calls_tried=11
 [ $part != random ] || finish
 
 # The archive exports nothing but the calls, has no variables, and needs nothing but memcpy and its kin.
-calls='first|next|page|measure|draw|(table|slots)_(first|next|measure)'
+calls='first|next|page|count|place|measure|draw|(table|slots)_(first|next|measure)'
 exports=$($nm -g --defined-only "$archive" | sed -En "/ cheremysl_($calls)\$/!s/.* . //p")
 others=$($nm "$archive" | sed -En '/ [BbCDdGgSs] | U /{/ U (mem(cpy|set|move|cmp)|_GLOBAL_OFFSET_TABLE_)$/!s/.* //p}')
 [ -z "$exports" ] && passed=$((passed + 1)) || fail "the archive exports" $exports
@@ -122,6 +122,7 @@ if [ $search ]; then
     both every $((3750 * calls_tried)) $((375 * calls_tried))
     both large 150 15
     both pages 200 20
+    both places 200 20
 fi
 # Traps and registers as they happen to be are not for the sanitizers.
 build floats floats "" $plain && try floats $out/floats $((600 * times)) $seed

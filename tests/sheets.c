@@ -364,6 +364,45 @@ static const struct {
     {"J5", J5, {10, 0, 0}, 3, {0, 10, 20}, 3, PAGE, 1, 0, {0}, {1, 0, 2}, TOUCHING(1, 0), NONE},
 };
 
+/* How many best layouts, and each by its place; the buffer has so many numbers. */
+static const struct {
+    const char *mark;
+    const struct record *job;
+    size_t n;
+    enum call call;
+    uint32_t length_weight, bend_weight;
+    uint64_t place;
+    size_t numbers;
+    int64_t answer;
+    int written[3];
+} place_sheets[] = {
+    {"J1", J1, 1, COUNT, 1, 0, 0, 18, 1, NONE},
+    {"J1", J1, 1, PLACE, 1, 0, 0, 18, 5, {0}},
+    {"J1", J1, 1, PLACE, 1, 0, 1, 18, REFUSED(17, 0), NONE},
+    {"J3", J3, 2, COUNT, 1, 0, 0, 32, 2, NONE},
+    {"J3, P5", J3, 2, PLACE, 1, 0, 0, 32, 40, {1, 0}},
+    {"J3, P6", J3, 2, PLACE, 1, 0, 1, 32, 40, {0, 1}},
+    {"J3, P7", J3, 2, PLACE, 1, 0, 2, 32, REFUSED(17, 0), NONE},
+    {"J3 and three pads", J3_plus, 3, COUNT, 1, 0, 0, 50, 3, NONE},
+    {"J3 and three pads", J3_plus, 3, PLACE, 1, 0, 0, 50, 85, {1, 2, 0}},
+    {"J3 and three pads", J3_plus, 3, PLACE, 1, 0, 1, 50, 85, {1, 0, 2}},
+    {"J3 and three pads", J3_plus, 3, PLACE, 1, 0, 2, 50, 85, {0, 1, 2}},
+    {"J3 and three pads", J3_plus, 3, PLACE, 1, 0, 3, 50, REFUSED(17, 0), NONE},
+    {"J4", J4, 2, COUNT, 1, 0, 0, 32, 1, NONE},
+    {"J4, weights 0, 0", J4, 2, COUNT, 0, 0, 0, 32, 2, NONE},
+    {"J4, weights 0, 0", J4, 2, PLACE, 0, 0, 0, 32, 0, {1, 0}},
+    {"J4, weights 0, 0", J4, 2, PLACE, 0, 0, 1, 32, 0, {0, 1}},
+    {"J5", J5, 3, COUNT, 2, 3, 0, 50, 1, NONE},
+    {"J5, P11", J5, 3, PLACE, 2, 3, 0, 50, 183, {1, 2, 0}},
+    {"J5, by far", J5, 3, PLACE, 2, 3, UINT64_MAX, 50, REFUSED(17, 0), NONE},
+    /* A buffer of one number too few, which comes before the place. */
+    {"J3, 31 numbers", J3, 2, COUNT, 1, 0, 0, 31, REFUSED(18, 0), NONE},
+    {"J3, 31 numbers", J3, 2, PLACE, 1, 0, 0, 31, REFUSED(18, 0), NONE},
+    {"J3, 31 numbers", J3, 2, PLACE, 1, 0, 2, 31, REFUSED(18, 0), NONE},
+    {"ports 7 apart", J2_7, 2, COUNT, 1, 0, 0, 0, REFUSED(12, 1), NONE},
+    {"ports 7 apart", J2_7, 2, PLACE, 1, 0, 9, 0, REFUSED(12, 1), NONE},
+};
+
 static void put_layout(uint16_t *list, const int *layout, size_t n) {
     if (layout[0] < 0) return;
     for (size_t i = 0; i < n; i++) list[i] = (uint16_t)layout[i];
@@ -431,6 +470,19 @@ static void worked_squares(void) {
             memcpy(q.table, square_sheets[k].figures, sizeof square_sheets[k].figures);
         worked(q, square_sheets[k].mark, square_sheets[k].given, square_sheets[k].answer,
                square_sheets[k].written);
+    }
+}
+
+static void worked_places(void) {
+    static const int none[] = NONE;
+    for (size_t k = 0; k < sizeof place_sheets / sizeof *place_sheets; k++) {
+        if (place_sheets[k].call >= CALLS) continue;
+        struct question q = about(place_sheets[k].call, place_sheets[k].n, place_sheets[k].job);
+        q.a = place_sheets[k].length_weight;
+        q.b = place_sheets[k].bend_weight;
+        q.place = place_sheets[k].place;
+        q.numbers = place_sheets[k].numbers;
+        worked(q, place_sheets[k].mark, none, place_sheets[k].answer, place_sheets[k].written);
     }
 }
 
@@ -562,8 +614,10 @@ static void is_refused(const struct question *q, int number, int record) {
 static void is_straight(const struct question *q) {
     int64_t n = (int64_t)records_of(q);
     int64_t none_follows = q->call == PAGE ? 0 : END;
+    bool fills_list = gives_first(q->call) || q->call == PLACE;
     struct reply r = keeps(q, takes_best(q->call) ? none_follows : 5 * n * (n + 1));
-    for (int64_t i = 0; i < n && gives_first(q->call); i++) r.list.layout[i] = (uint16_t)i;
+    if (q->call == COUNT) r.answer = 1;
+    for (int64_t i = 0; i < n && fills_list; i++) r.list.layout[i] = (uint16_t)i;
     if (q->call == DRAW)
         drawn(q, 2, (const uint32_t[]){0x40200000, 0, 0, 0});
     else
@@ -692,6 +746,23 @@ static void works(enum call call) {
     is_refused(&q, 3, 0);
 }
 
+/* The same of a buffer, which is looked at after the job. */
+static void buffers(enum call call) {
+    if (!takes_buffer(call)) return;
+    struct question q = good(call, 3);
+    size_t enough = q.numbers;
+    check(enough == 50, &q, "2 times 5 times 5");
+    for (q.numbers = enough; q.numbers < enough + 40; q.numbers += 13) passes(&q);
+    for (q.numbers = 0; q.numbers < enough; q.numbers++) is_refused(&q, 18, 0);
+    q.numbers = enough - 1;
+    q.place = 1;
+    is_refused(&q, 18, 0);
+    put_half(q.job, 1, 10);
+    is_refused(&q, 15, 0);
+    put_x(q.job, 0, 0);
+    is_refused(&q, 4, 0);
+}
+
 static void weights(enum call call) {
     struct question q = good(call, 3);
     if (call == DRAW || takes_table(call)) return;
@@ -741,6 +812,7 @@ static void tables(enum call call) {
 static void room(enum call call) {
     struct question q = good(call, 3);
     size_t enough = call == DRAW ? 6 : 3;
+    if (call == COUNT) return;
     q.count = enough;
     passes(&q);
     q.count = enough + 20;
@@ -979,6 +1051,7 @@ int main(void) {
     worked_tables();
     worked_slots();
     worked_squares();
+    worked_places();
     worked_short_list();
     bends_can_cost();
     drawn_sheets();
@@ -990,6 +1063,7 @@ int main(void) {
         port_sizes(call);
         strips(call);
         works(call);
+        buffers(call);
         weights(call);
         tables(call);
         room(call);

@@ -31,8 +31,9 @@ typedef void (*function)(void);
 /* So many bytes more than stated fail: less than a list of one byte a pad. */
 #define SLACK 48
 
-/* No slots call may take more, whatever is stated. */
+/* No slots call may take more, whatever is stated; nor Count, which recurses, and Place. */
 #define SLOTS_STACK 16384
+#define BUFFER_STACK 61440
 
 /* The calls, and how many bytes of stack each takes, as the header and the README say. */
 static const struct {
@@ -44,13 +45,15 @@ static const struct {
     [TABLE_MEASURE] = {(function)cheremysl_table_measure, 568},
     [SLOTS_MEASURE] = {(function)cheremysl_slots_measure, 616},
 #ifndef NO_SEARCH
-    [FIRST] = {(function)cheremysl_first, 42712},
-    [NEXT] = {(function)cheremysl_next, 42888},
-    [PAGE] = {(function)cheremysl_page, 42904},
-    [TABLE_FIRST] = {(function)cheremysl_table_first, 26264},
-    [TABLE_NEXT] = {(function)cheremysl_table_next, 26440},
+    [FIRST] = {(function)cheremysl_first, 41944},
+    [NEXT] = {(function)cheremysl_next, 42120},
+    [PAGE] = {(function)cheremysl_page, 42136},
+    [TABLE_FIRST] = {(function)cheremysl_table_first, 25496},
+    [TABLE_NEXT] = {(function)cheremysl_table_next, 25672},
     [SLOTS_FIRST] = {(function)cheremysl_slots_first, 11688},
     [SLOTS_NEXT] = {(function)cheremysl_slots_next, 11832},
+    [COUNT] = {(function)cheremysl_count, 44008},
+    [PLACE] = {(function)cheremysl_place, 44008},
 #endif
 };
 
@@ -153,10 +156,10 @@ static void make_job(enum board board, enum squares squares) {
     if (takes_slots(question.call)) {
         question.port_bytes = n < PADS ? 4 * (n + 4) : CHEREMYSL_MAX_PORT_BYTES;
         make_slots(question.job, n, question.ports, ports_of(&question), board);
-        lend_work(&question, 0);
     } else {
         make_board(question.job, n, board);
     }
+    lend_work(&question, 0);
     struct plan plan = plan_of(&question);
     give_squares(question.job, &plan, squares);
     if (!takes_slots(question.call)) lend_table(&question, table, below(FIGURES));
@@ -178,7 +181,16 @@ static void make_question(enum call call, enum board board, enum squares squares
     put_y(question.job, PADS - 1, get_port(question.job, 0));
 }
 
-/* A best layout for the calls that take one; Draw's leader gets a bend. */
+/* Of the best layouts; 0 if they are too many to have places. */
+static uint64_t last_place(void) {
+    static struct question counted;
+    counted = question;
+    counted.call = COUNT;
+    int64_t count = plain_reply(&counted).answer;
+    return count > 0 ? (uint64_t)count - 1 : 0;
+}
+
+/* A best layout for the calls that take one, any place of those; Draw's leader gets a bend. */
 static void make_accepted(void) {
     enum call call = question.call;
     if (takes_layout(call) && FIRST < CALLS) {
@@ -187,6 +199,12 @@ static void make_accepted(void) {
         question.call = call;
     }
     if (call == DRAW) put_y(question.job, PADS - 1, get_port(question.job, 1));
+    if (call == PLACE) question.place = last_place() - last_place() / 3;
+}
+
+/* Are there too many best layouts to have places? */
+static bool plenty(void) {
+    return takes_buffer(question.call) && cheremysl_refusal_number(answer) == 16;
 }
 
 /*
@@ -198,11 +216,12 @@ static void on_board(enum call call, enum board board, enum squares squares) {
     make_question(call, board, squares);
     ask_on_small_stack();
     bool touches = squares != POINTS && cheremysl_refusal_number(answer) == 9;
-    check(answer >= -1 || answer == refused(10, 0) || touches, &question, "another refusal");
+    check(answer >= -1 || answer == refused(10, 0) || touches || plenty(), &question,
+          "another refusal");
     make_accepted();
     for (int steps = can_end(call) ? 4 : 1; steps > 0; steps--) {
         ask_on_small_stack();
-        check(answer >= -1, &question, "refused");
+        check(answer >= -1 || plenty(), &question, "refused");
     }
     sound = question;
     int times = takes_work(call) && records_of(&sound) == PADS ? DAMAGED / 10 : DAMAGED;
@@ -228,6 +247,7 @@ static void hold_to_figure(enum call call) {
              stated);
     check(used < stated + SLACK, NULL, what);
     check(!takes_slots(call) || used <= SLOTS_STACK, NULL, "more than a slots call may take");
+    check(!takes_buffer(call) || used <= BUFFER_STACK, NULL, "more than Count and Place may take");
 }
 
 int main(void) {

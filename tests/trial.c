@@ -10,6 +10,7 @@
 
 #include "boards.h"
 #include "cheremysl.h"
+#include "ranked.h"
 
 #define FAILURES_SHOWN 5
 
@@ -19,13 +20,15 @@ const int *const refusals_of[] = {
     [NEXT] = next_checks,       [TABLE_NEXT] = table_next_checks,
     [PAGE] = next_checks,       [SLOTS_MEASURE] = slots_measure_checks,
     [DRAW] = draw_checks,       [SLOTS_FIRST] = slots_first_checks,
-    [SLOTS_NEXT] = slots_next_checks,
+    [SLOTS_NEXT] = slots_next_checks, [COUNT] = count_checks,
+    [PLACE] = place_checks,
 };
 const char *const call_names[] = {
     [MEASURE] = "Measure", [TABLE_MEASURE] = "TableMeasure", [SLOTS_MEASURE] = "SlotsMeasure",
     [FIRST] = "First",     [TABLE_FIRST] = "TableFirst",     [SLOTS_FIRST] = "SlotsFirst",
     [NEXT] = "Next",       [TABLE_NEXT] = "TableNext",       [SLOTS_NEXT] = "SlotsNext",
-    [PAGE] = "Page",       [DRAW] = "Draw",
+    [PAGE] = "Page",       [DRAW] = "Draw",                  [COUNT] = "Count",
+    [PLACE] = "Place",
 };
 
 /* ---- counting ---- */
@@ -48,6 +51,10 @@ static void show_floats(const float *list, size_t count) {
 }
 
 static void show_lists(const struct question *q, const union list *list, const uint16_t *page) {
+    if (q->call == COUNT) {
+        printf("no list\n");
+        return;
+    }
     printf("list of %zu:", q->count);
     if (q->call == DRAW)
         show_floats(list->points, q->count);
@@ -81,6 +88,8 @@ static void show(const struct question *q) {
     if (takes_table(q->call)) show_table(q);
     if (takes_slots(q->call)) show_bytes("ports", q->ports, q->port_bytes);
     if (takes_work(q->call)) printf("work list of %zu, %s, ", q->numbers, content_name());
+    if (takes_buffer(q->call)) printf("buffer of %zu, %s, ", q->numbers, content_name());
+    if (q->call == PLACE) printf("place %" PRIu64 ", ", q->place);
     show_lists(q, &q->list, q->page);
 }
 
@@ -143,6 +152,7 @@ static bool in_family(int family, enum call call) {
 bool takes_table(enum call call) { return in_family(1, call); }
 bool takes_slots(enum call call) { return in_family(2, call); }
 bool takes_work(enum call call) { return takes_slots(call) && !measures(call); }
+bool takes_buffer(enum call call) { return call == COUNT || call == PLACE; }
 
 static enum call turned(enum call call, int family) {
     int kind = kind_of(call);
@@ -179,7 +189,8 @@ struct question by_table(const struct question *q, uint32_t *table) {
 
 void lend_work(struct question *q, size_t more) {
     size_t n = records_of(q), p = ports_of(q);
-    q->numbers = 2 * (n + 1) * (p + 2) * (p + 2) + more;
+    size_t rows = takes_buffer(q->call) ? n + 2 : (n + 1) * (p + 2);
+    q->numbers = 2 * rows * (p + 2) + more;
 }
 
 struct question by_slots(const struct question *q) {
@@ -230,7 +241,7 @@ struct given given_of(const struct question *q) {
                       .entries = q->count, .floats = q->count, .draw = draw,
                       .table = q->table, .figures = q->figures, .by_table = by_table,
                       .ports = q->ports, .port_bytes = q->port_bytes, .numbers = q->numbers,
-                      .slots = takes_slots(q->call)};
+                      .slots = takes_slots(q->call), .place = q->place};
     if (draw) {
         g.record = q->a;
         g.port = q->b;
@@ -285,6 +296,21 @@ struct reply stepped(const struct question *q) {
     return r;
 }
 
+/* Count's or Place's where all trials before 15 were passed. */
+static struct reply ranked_reply(const struct question *q, const struct given *g) {
+    struct reply r = keeps(q, 0);
+    rank_job(g);
+    uint64_t count = ranked_count();
+    bool place = q->call == PLACE;
+    if (count == 0) return keeps(q, refused(15, 0));
+    if (plain_fault(g, 18) >= 0) return keeps(q, refused(18, 0));
+    if (count > PLAIN_LIMIT) return keeps(q, refused(16, 0));
+    if (place && q->place >= count) return keeps(q, refused(17, 0));
+    r.answer = place ? ranked_total() : (int64_t)count;
+    if (place) ranked_sheet(q->place, r.list.layout);
+    return r;
+}
+
 struct reply plain_reply(const struct question *q) {
     struct reply r = keeps(q, 0);
     struct given g = given_of(q);
@@ -293,7 +319,10 @@ struct reply plain_reply(const struct question *q) {
     if (gives_first(q->call)) r.answer = plain_first(&g, r.list.layout);
     if (can_end(q->call)) r.answer = plain_next(&g, r.list.layout);
     if (q->call == PAGE) r.answer = plain_page(&g, r.page, q->page_entries);
-    return r;
+    if (q->call == COUNT) r.answer = plain_count(&g);
+    if (q->call == PLACE) r.answer = plain_place(&g, r.list.layout);
+    bool unknown = takes_buffer(q->call) && r.answer == PLAIN_UNKNOWN;
+    return unknown ? ranked_reply(q, &g) : r;
 }
 
 int fault_of(const struct question *q, int number) {
@@ -306,7 +335,9 @@ int earlier_of(const struct question *q, int record) {
     return plain_earlier(&g, (size_t)record);
 }
 
+/* Count has no list. */
 static size_t bytes_of(const struct question *q) {
+    if (q->call == COUNT) return 0;
     return q->count * (q->call == DRAW ? sizeof(float) : sizeof(uint16_t));
 }
 
@@ -320,7 +351,7 @@ static size_t table_bytes_of(const struct question *q) {
     return q->figures <= TABLE_ROOM ? q->figures * sizeof *q->table : 0;
 }
 
-/* ---- the work list ---- */
+/* ---- the work list, and the buffer ---- */
 
 /* What it holds when it is lent: in turn, what the last call left, zeros, ones, any numbers. */
 enum content { LEFT, ALL_ZEROS, ALL_ONES, ANY_NUMBERS, CONTENTS };
@@ -352,9 +383,11 @@ static void change_held(size_t bytes) {
 #define SMALL_WORK ((size_t)4400) /* bytes; the largest has room for WORK_ROOM numbers */
 #define WORK_SIZES 13
 
+static bool takes_numbers(enum call call) { return takes_work(call) || takes_buffer(call); }
+
 /* More numbers than there is room for are lent with no memory behind them. */
 static size_t work_bytes_of(const struct question *q) {
-    return takes_work(q->call) && q->numbers <= WORK_ROOM ? q->numbers * sizeof *held : 0;
+    return takes_numbers(q->call) && q->numbers <= WORK_ROOM ? q->numbers * sizeof *held : 0;
 }
 
 /* ---- asking the library ---- */
@@ -393,6 +426,10 @@ static int64_t call_over(const struct question *q, struct lent at) {
     case SLOTS_NEXT:
         return cheremysl_slots_next(at.job, bytes, at.ports, q->port_bytes, q->a, q->b, at.list,
                                     count, at.work, q->numbers);
+    case COUNT: return cheremysl_count(at.job, bytes, q->a, q->b, at.work, q->numbers);
+    case PLACE:
+        return cheremysl_place(at.job, bytes, q->a, q->b, q->place, at.list, count, at.work,
+                               q->numbers);
 #endif
     default: abort();
     }
@@ -403,9 +440,10 @@ int64_t call_library(struct question *q) {
     return call_over(q, own);
 }
 
-/* Job, then ports or table if it takes them, weights, layout, page or work list. */
+/* Job, then ports or table if it takes them, weights, place, layout, page or work list. */
 void put_arguments(struct question *q, uint64_t *arguments) {
     bool tabled = takes_table(q->call), apart = takes_slots(q->call);
+    bool works = apart || takes_buffer(q->call);
     *arguments++ = (uintptr_t)q->job;
     *arguments++ = q->job_bytes;
     if (tabled || apart) {
@@ -416,10 +454,13 @@ void put_arguments(struct question *q, uint64_t *arguments) {
         *arguments++ = q->a;
         *arguments++ = q->b;
     }
-    *arguments++ = (uintptr_t)&q->list;
-    *arguments++ = q->count;
-    *arguments++ = apart ? (uintptr_t)held : (uintptr_t)q->page;
-    *arguments++ = apart ? q->numbers : q->page_entries;
+    if (q->call == PLACE) *arguments++ = q->place;
+    if (q->call != COUNT) {
+        *arguments++ = (uintptr_t)&q->list;
+        *arguments++ = q->count;
+    }
+    *arguments++ = works ? (uintptr_t)held : (uintptr_t)q->page;
+    *arguments++ = works ? q->numbers : q->page_entries;
 }
 
 /* Can the call answer so? A refusal is one of its own; 9, and no other, names an earlier record. */
@@ -475,7 +516,7 @@ static struct lent lend(const struct question *q, enum side side, bool spared) {
     at.list = guard_put(memory_of(q->call), side, &q->list, bytes_of(q));
     if (takes_table(q->call)) at.table = guard_put(&tables, side, q->table, table_bytes_of(q));
     if (takes_slots(q->call)) at.ports = guard_put(&ports, side, q->ports, q->port_bytes);
-    if (takes_work(q->call)) at.work = lend_held(q, side, spared);
+    if (takes_numbers(q->call)) at.work = lend_held(q, side, spared);
     if (q->call == PAGE) at.page = guard_put(&pages, side, q->page, page_bytes_of(q));
     return at;
 }
@@ -486,15 +527,17 @@ static bool kept(struct guarded *memory, enum side side, const void *list, size_
     return guard_get(memory, side, now, bytes) && (bytes == 0 || memcmp(now, list, bytes) == 0);
 }
 
-static bool spares_work(int64_t answer) {
+/* A refusal but 10 or 15, and of a buffer but 16 or 17. */
+static bool spares_work(enum call call, int64_t answer) {
     int number = cheremysl_refusal_number(answer);
+    if (takes_buffer(call)) return number != 0 && number != 16 && number != 17;
     return number != 0 && number != 10 && number != 15;
 }
 
-/* False if a refusal but 10 or 15 changed the work list, or anything was written beside it. */
+/* False if such a refusal changed the work list, or anything was written beside it. */
 static bool kept_work(const struct question *q, enum side side, int64_t answer) {
     size_t bytes = work_bytes_of(q);
-    bool spares = spares_work(answer);
+    bool spares = spares_work(q->call, answer);
     if (q->numbers > WORK_ROOM) return true;
     if (!guard_get(work_memory(bytes), side, spares ? after : held, bytes)) return false;
     return !spares || memcmp(after, held, bytes) == 0;
@@ -519,8 +562,8 @@ static struct reply ask_sparing(const struct question *q, enum side side, bool s
         (q->call == PAGE && !guard_get(&pages, side, r.page, page_bytes_of(q))))
         check(false, q, "written beside the list");
     check_kept(q, side);
-    if (takes_work(q->call) && !spared && !kept_work(q, side, r.answer))
-        check(false, q, "the work list was changed, or something beside it");
+    if (takes_numbers(q->call) && !spared && !kept_work(q, side, r.answer))
+        check(false, q, "the work list or the buffer was changed, or something beside it");
     if (!can_answer(q->call, r.answer)) check(false, q, "an answer that the call does not have");
     return r;
 }
@@ -543,7 +586,7 @@ static bool same(const struct question *q, const struct reply *r, const struct r
 bool expect(const struct question *q, struct reply expected) {
     bool ok = true, large = work_bytes_of(q) > 8 * SMALL_WORK;
     for (enum side side = AT_END; side < SIDES; side++) {
-        struct reply r = ask_sparing(q, side, large && spares_work(expected.answer));
+        struct reply r = ask_sparing(q, side, large && spares_work(q->call, expected.answer));
         ok &= same(q, &r, &expected);
     }
     return check(ok, q, "another reply");

@@ -16,12 +16,12 @@
 /* With NO_SEARCH the tests keep to the calls that search for nothing: the first four. */
 enum call {
     MEASURE, DRAW, TABLE_MEASURE, SLOTS_MEASURE,
-    FIRST, NEXT, PAGE, TABLE_FIRST, TABLE_NEXT, SLOTS_FIRST, SLOTS_NEXT
+    FIRST, NEXT, PAGE, TABLE_FIRST, TABLE_NEXT, SLOTS_FIRST, SLOTS_NEXT, COUNT, PLACE
 };
 #ifdef NO_SEARCH
 #define CALLS 4
 #else
-#define CALLS 11
+#define CALLS 13
 #endif
 
 #define JOB_ROOM 1056 /* two records more than the largest job */
@@ -44,12 +44,13 @@ struct question {
     size_t port_bytes;
     uint32_t a, b; /* length weight and bend weight; Draw: record number and port number */
     union list list;
-    size_t count; /* of the list's entries or floats */
+    size_t count; /* of the list's entries or floats; Count has no list */
     uint16_t page[PAGE_ROOM]; /* Page alone has it; its list is the given layout */
     size_t page_entries;
     uint32_t *table; /* the table calls have it in place of the numbers; copies share it */
     size_t figures; /* more than TABLE_ROOM stand nowhere, and must not be read */
-    size_t numbers; /* of the work list; the same for more than WORK_ROOM */
+    size_t numbers; /* of the work list, or of the buffer; the same for more than WORK_ROOM */
+    uint64_t place;
 };
 
 struct reply {
@@ -67,9 +68,10 @@ bool takes_layout(enum call call);
 bool takes_best(enum call call);
 bool takes_table(enum call call);
 
-/* Is the job of the second form? And is a work list lent? */
+/* Is the job of the second form? And is a work list lent? Is a buffer, to Count or Place? */
 bool takes_slots(enum call call);
 bool takes_work(enum call call);
+bool takes_buffer(enum call call);
 
 /* Does it give the first layout? Can it answer the end? */
 bool gives_first(enum call call);
@@ -90,7 +92,7 @@ void lend_weights(struct question *q, uint32_t *table, uint32_t length_weight,
 struct question by_table(const struct question *q, uint32_t *table);
 struct question by_slots(const struct question *q);
 
-/* As many numbers in the work list as pads and ports need, and so many more. */
+/* As many numbers in the work list, or in the buffer, as are needed, and so many more. */
 void lend_work(struct question *q, size_t more);
 
 /* Where port number i stands, in the job or apart: its height, and another one. */
@@ -127,7 +129,10 @@ struct reply fills(const struct question *q, const uint16_t *layouts, size_t apa
 /* The reply to Page that calls of the library's Next make: one a layout that fits, and one more. */
 struct reply stepped(const struct question *q);
 
-/* The plain account's reply; its word on one refusal number, and on a record's first touch. */
+/*
+ * The plain account's reply, to Count and Place on many ports that of the layouts by their place
+ * (ranked.h); its word on one refusal number, and on a record's first touch.
+ */
 struct reply plain_reply(const struct question *q);
 int fault_of(const struct question *q, int number);
 int earlier_of(const struct question *q, int record);
@@ -142,8 +147,8 @@ void put_arguments(struct question *q, uint64_t *arguments);
 /*
  * The library's reply. It fails if anything but the list that it may write was changed, or if the
  * answer is none that the call can give. A work list holds something else each time: what an
- * earlier call left, zeros, ones, any numbers. Refusals but 10 and 15 must leave all of it as it
- * was.
+ * earlier call left, zeros, ones, any numbers; and so does a buffer. Refusals but 10 and 15, of a
+ * buffer but 16 and 17, must leave all of it as it was.
  */
 struct reply ask(const struct question *q, enum side side);
 

@@ -1,8 +1,8 @@
 -- Laws of strips that have a pad for each port: their rightmost pad, by the table's heads, and their two parts.
-use mathlib.Core.Path.{_≡_, refl, sym, ap, _∙_}
+use mathlib.Core.Path.{_≡_, refl, sym, ap, _∙_, subst}
 use mathlib.Core.Bool.{Bool, true, false, _&&_}
 use mathlib.Core.List.{List, [], _∷_, _++_}
-use Prim.Native.Nat.{ℕ, _+_, _-_, _≤_, _<_, zero-le}
+use Prim.Native.Nat.{ℕ, _+_, _-_, _*_, _^_, _≤_, _<_, zero-le}
 use native.Mathlib.Omega.{arith}
 use native.Mathlib.Decide.{decLe}
 use lib.Dec.{leb, ltb}
@@ -15,10 +15,12 @@ use Rattle.strips.specs.Grid as strip
 use Rattle.strips.specs.Strips.{local-parts}
 use Rattle.strips.specs.Prefix.{lies, lies-yes, yes-lies}
 use Rattle.strips.specs.Room.{full-parts}
-use Rattle.pads.specs.Pads.{spans, padsIn, sidesOf}
+use Rattle.pads.specs.Pads.{spans, padsIn, sidesOf, Pads}
 use Rattle.pads.specs.Counts.{drop-at, drop-split}
 use Rattle.totals.specs.Strip.{bestWithin}
-use Rattle.totals.specs.Cell.{figures, gridOf, place, Cell, Table, FullFrom, Leads}
+use Rattle.totals.specs.Cell.{noTotal, figures, gridOf, coded, place, Cell, Table, FullFrom, Leads}
+use Rattle.totals.specs.Totals.{Capped, most-best}
+use Rattle.totals.proofs.Cells.{figures-cheap}
 use Rattle.totals.proofs.Leading.{count-keep}
 use Rattle.counting.specs.Counting.{padsFrom, Solved}
 
@@ -200,3 +202,11 @@ module _ {hs ts order cs bs lo hi : List ℕ} (T : Table order cs bs lo hi hs ts
     full = let k = ap (keep (lies B a b)) (drop-at order s inside) ∙ keep-yes (lies B a b) (getD order s 0) (drop (s + 1) order) here in
         let l = ap length k in let f = full in omega arith;
   }
+
+  -- Its total is one, and not the sign of none.
+  pub best-some : Pads order lo hi (length order) → coded (bestWithin (sidesOf lo hi) C (drop (h - 1) order) a b) ≡ noTotal → ⊥
+  best-some P e =
+      let m : getD ts (place a b) 0 ≤ padsIn (sidesOf lo hi) a b (drop s order) * 2 ^ 32 = subst (Capped (padsIn (sidesOf lo hi) a b (drop s order) * 2 ^ 32)) (cell .value s next)
+      (most-best (sidesOf lo hi) C (P .level) (figures-cheap (T .sizes)) (drop s order) a b) in
+      let w : getD ts (place a b) 0 ≡ noTotal = sym (ap coded (cell .value s next)) ∙ e in
+      let f = cell .full s next in omega (arith, O .high, P .few)

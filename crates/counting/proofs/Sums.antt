@@ -12,9 +12,9 @@ use Rattle.strips.specs.Grid.{Grid, below, above}
 use Rattle.strips.specs.Prefix.{lies, Lies, yes-lies}
 use Rattle.strips.specs.FirstNext.{Listed}
 use Rattle.strips.specs.ByPlace.{sumTo}
-use Rattle.ways.specs.Tree.{ways-nil, sum-skip, sum-none, sum-more}
+use Rattle.ways.specs.Tree.{ways-nil, sum-mono, sum-skip, sum-none, sum-more}
 use Rattle.ways.specs.Count.{mayTake, many, isChoice, choice-yes, yes-choice, many-cons}
-use Rattle.totals.specs.Cell.{FullFrom, Leads, NextPort}
+use Rattle.totals.specs.Cell.{FullFrom, Leads}
 use Rattle.counting.specs.Counting.{limit, capped, padsFrom, numberAt, StripCount}
 use Rattle.counting.proofs.Strips.{nil-of, full-length, full-whole, below-strip, above-strip, full-below, full-above}
 
@@ -56,7 +56,6 @@ capped-times x y = go (decLe (limit + 1) x) (decLe (limit + 1) y)
 pub record Summing (B : Grid) (order : List ℕ) (r a b q sum : ℕ) : Type 0 where
   pub low : a ≤ q
   pub high : q ≤ b
-  pub here : q < b → Leads B order r a b q
   pub adds : sum ≡ capped (sumTo (numberAt B order r a b) q)
 
 distinct-drop : (xs : List ℕ) (k : ℕ) → Distinct xs → Distinct (drop k xs)
@@ -109,34 +108,44 @@ module _ {B : Grid} {order : List ℕ} (L : Listed B (length order) order) (r a 
       lie : All (Lies B a b) rest
       lie k m = yes-lies B a b k (kept-mem (lies B a b) (drop (r + 1) order) m .1)
 
-  pub summing-none : (q : ℕ) → NextPort (Leads B order r a b) a b q → Summing B order r a b q 0
-  summing-none q N = record {
-    low = N .start;
-    high = N .within;
-    here = N .found;
-    adds = let e = sum-skip F 0 q zero-le (λ i u v. number-none i (λ l. N .passed i (l .low) v l)) in sym (ap capped (e ∙ sum-none F));
+  pub summing-none : Summing B order r a b a 0
+  summing-none = record {
+    low = omega arith;
+    high = omega (arith, R .full);
+    adds = sym (ap capped (sum-skip F 0 a zero-le (λ i u v. number-none i (λ l. omega (arith, l .low))) ∙ sum-none F));
   }
 
-  pub summing-more : (q sum u v q′ : ℕ) → Summing B order r a b q sum → q < b → StripCount B order a q u → StripCount B order (q + 1) b v
-      → NextPort (Leads B order r a b) (q + 1) b q′ → Summing B order r a b q′ (capped (sum + capped (u * v)))
-  summing-more q sum u v q′ S h M N X = record {
-    low = omega (arith, S .low, X .start);
-    high = X .within;
-    here = X .found;
-    adds =
-        (λ i. capped (S .adds i + sym (number-capped q u v (S .here h) M N) i))
-        ∙ sym (capped-plus (sumTo F q) (F q))
-        ∙ ap capped (sym (sum-more F q) ∙ sym (sum-skip F (q + 1) q′ (X .start) (λ i x y. number-none i (X .passed i x y))));
+  -- One port more, which is not locally best, or is.
+  pub summing-skip : (q sum : ℕ) → Summing B order r a b q sum → q < b → (Leads B order r a b q → ⊥) → Summing B order r a b (q + 1) sum
+  summing-skip q sum S h n = record {
+    low = omega (arith, S .low);
+    high = omega arith;
+    adds = let e = sum-more F q in let z = number-none q n in S .adds ∙ ap capped (omega arith);
+  }
+
+  pub summing-more : (q sum u v : ℕ) → Summing B order r a b q sum → q < b → Leads B order r a b q → StripCount B order a q u → StripCount B order (q + 1) b v
+      → Summing B order r a b (q + 1) (capped (sum + capped (u * v)))
+  summing-more q sum u v S h l M N = record {
+    low = omega (arith, S .low);
+    high = omega arith;
+    adds = (λ i. capped (S .adds i + sym (number-capped q u v l M N) i)) ∙ sym (capped-plus (sumTo F q) (F q)) ∙ ap capped (sym (sum-more F q));
+  }
+
+  -- With all ports behind, or above the limit already, it is the strip's number.
+  summing-all : (sum : ℕ) → sum ≡ capped (sumTo F b) → StripCount B order a b sum
+  summing-all sum e = record {
+    is = λ k u f. e ∙ ap capped (sym number-all ∙ ap (λ (xs : List ℕ). many B (length order) xs a b) (sym (full-whole B order r a b R k f)));
   }
 
   pub summing-done : (q sum : ℕ) → Summing B order r a b q sum → b ≤ q → StripCount B order a b sum
-  summing-done q sum S h = record {
-    is = λ k u f. S .adds ∙ ap capped (ap (sumTo F) same ∙ sym number-all
-        ∙ ap (λ (xs : List ℕ). many B (length order) xs a b) (sym (full-whole B order r a b R k f)));
-  }
+  summing-done q sum S h = let same : q ≡ b = omega (arith, S .high) in summing-all sum (rw same at (S .adds))
+
+  pub summing-most : (q sum : ℕ) → Summing B order r a b q sum → sum ≡ limit + 1 → StripCount B order a b sum
+  summing-most q sum S m = go (decLe b q)
     where
-      same : q ≡ b
-      same = let l = S .high in omega arith
+      go : Dec (b ≤ q) → StripCount B order a b sum
+      go (yes h) = summing-done q sum S h
+      go (no h) = summing-all sum (omega (arith, m, S .adds, sum-mono F q b (omega arith)))
 
 -- A strip of no ports has one layout.
 pub empty-count : (B : Grid) (order : List ℕ) (a b : ℕ) → a ≡ b → StripCount B order a b 1

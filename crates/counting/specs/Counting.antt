@@ -1,9 +1,7 @@
 -- What counting is about, and what it promises. `order` has the record numbers, rightmost pad first, and B is their board, with as many ports as pads.
 use mathlib.Core.Path.{_≡_}
-use mathlib.Core.Bool.{cond}
 use mathlib.Core.List.{List}
 use Prim.Native.Nat.{ℕ, _+_, _-_, _*_, _≤_, _<_, min}
-use lib.Dec.{eqb}
 use lib.ListN.{length, getD, take, drop}
 use Rattle.numbers.specs.Arrangement.{Arrangement}
 use Rattle.numbers.specs.Kept.{KeptFrom}
@@ -142,7 +140,8 @@ module _ (B : Grid) (order : List ℕ) where
   PlaceIs w k v Past = PastIs w k v
   PlaceIs w k v TooMany = AboveIs w v
 
--- The lent buffer has the table's totals, and after them, from base on, a number for each strip: how many best layouts it has, or 0, not counted yet.
+-- The lent buffer has the table's totals, and after them, from base on, a number for each strip: how many best layouts it has, or 0, not counted yet. A strip of
+-- no ports has one.
 abbrev pub baseOf : List ℕ → ℕ
 baseOf order = cornerOf (length order + 1)
 
@@ -151,13 +150,17 @@ pub record Buffer (order cs bs lo hi hs bf : List ℕ) : Type 0 where
   pub room : baseOf order + baseOf order ≤ length bf
   pub right : (a b : ℕ) → a ≤ b → b ≤ length order → 0 < getD bf (baseOf order + place a b) 0
       → StripCount (gridOf order cs bs lo hi) order a b (getD bf (baseOf order + place a b) 0)
-
--- What it has of a strip; a strip of no ports has one layout.
-abbrev pub keptFor : List ℕ → ℕ → ℕ → ℕ → ℕ
-keptFor bf base a b = cond (eqb a b) 1 (getD bf (base + place a b) 0)
+  pub empty : (b : ℕ) → b ≤ length order → getD bf (baseOf order + place b b) 0 ≡ 1
 
 -- The first i numbers are forgotten, and the totals are kept.
 pub record Cleared (base i : ℕ) (before after : List ℕ) : Type 0 where
   pub long : length after ≡ length before
   pub early : (k : ℕ) → k < base → getD after k 0 ≡ getD before k 0
   pub zeros : (k : ℕ) → k < i → getD after (base + k) 0 ≡ 0
+
+-- The first n strips of no ports have the number 1, and all else is kept.
+pub record EmptyKept (base n : ℕ) (before after : List ℕ) : Type 0 where
+  pub long : length after ≡ length before
+  pub early : (k : ℕ) → k < base → getD after k 0 ≡ getD before k 0
+  pub ones : (b : ℕ) → b < n → getD after (base + place b b) 0 ≡ 1
+  pub others : (a b : ℕ) → a < b → getD after (base + place a b) 0 ≡ getD before (base + place a b) 0

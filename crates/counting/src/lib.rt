@@ -7,9 +7,9 @@ ghost use mathlib.Core.Path.{_≡_};
 ghost use Prim.Native.Nat.{ℕ, _+_, _*_, _≤_, _<_};
 ghost use lib.ListN.{length};
 ghost use Rattle.strips.specs.ByPlace.{sumTo};
-ghost use Rattle.totals.specs.Cell.{gridOf, cornerOf, place, Table, FullFrom};
+ghost use Rattle.totals.specs.Cell.{gridOf, cornerOf, Table, FullFrom};
 ghost use Rattle.places.specs.Places.{Placed};
-ghost use Rattle.counting.specs.Counting.{limit, capped, ProperBoard, Solvable, Solved, StripCount, Buffer, keptFor, Cleared, CountIs};
+ghost use Rattle.counting.specs.Counting.{limit, capped, ProperBoard, Solvable, Solved, StripCount, Buffer, Cleared, EmptyKept, CountIs};
 ghost use Rattle.counting.specs.Counting.{numberWith, waysFrom, Begun, PickedIs, ChosenIs, Walkable, WalkIs, PlaceIs};
 
 // A port, how many layouts have it after the ports chosen before, and the place among these.
@@ -60,17 +60,6 @@ fn base_of(n: usize) -> usize
     totals::corner(n) + n + 1
 }
 
-// The number that is kept for the strip a .. b - 1, or 0; a strip of no ports has one layout.
-fn kept(buffer: &[u64], base: usize, a: usize, b: usize) -> u64
-    requires { ⌜ (a ≤ b) × (b ≤ 64) × (base ≤ 2145) × (base + place a b < length (now buffer)) ⌝ }
-    ensures { λ r. ⌜ r ≡ keptFor (now (buffer .entry)) base a b ⌝ }
-{
-    if a == b {
-        return 1;
-    }
-    buffer[base + totals::corner(b) + a]
-}
-
 // Counts the best layouts of the strip a .. b - 1, and keeps the number: with the strip's rightmost pad on a locally best
 // port, they are those of the part below the pad's arm, each with each of those of the part above.
 fn count_strip(
@@ -95,19 +84,29 @@ fn count_strip(
 {
     let i = totals::corner(b) + a;
     let r = heads[i] as usize - 1;
+    let s = totals::strip_at(heads, buffer, order, cost, bars, lo, hi, r, a, b);
+    let above = base + totals::corner(b) + 1;
+    let mut below = totals::corner(a) + a;
+    let mut q = a;
     let mut sum: u64 = 0;
-    let mut q = totals::next_port(heads, buffer, order, cost, bars, lo, hi, r, a, b, a);
     while q < b {
-        let mut under = kept(buffer, base, a, q);
-        if under == 0 {
-            under = count_strip(heads, order, cost, bars, lo, hi, buffer, base, a, q);
+        if totals::leads(heads, buffer, order, cost, bars, lo, hi, s, q, below) {
+            let mut under = buffer[base + below];
+            if under == 0 {
+                under = count_strip(heads, order, cost, bars, lo, hi, buffer, base, a, q);
+            }
+            let mut over = buffer[above + q];
+            if over == 0 {
+                over = count_strip(heads, order, cost, bars, lo, hi, buffer, base, q + 1, b);
+            }
+            sum = plus(sum, times(under, over));
+            if sum == MOST {
+                // more layouts change nothing
+                break;
+            }
         }
-        let mut over = kept(buffer, base, q + 1, b);
-        if over == 0 {
-            over = count_strip(heads, order, cost, bars, lo, hi, buffer, base, q + 1, b);
-        }
-        sum = plus(sum, times(under, over));
-        q = totals::next_port(heads, buffer, order, cost, bars, lo, hi, r, a, b, q + 1);
+        q += 1;
+        below += q;
     }
     buffer[base + i] = sum;
     sum
@@ -134,7 +133,7 @@ fn number(
         (now (buffer .exit)) ⌝ }
 {
     let base = base_of(order.len());
-    let k = kept(buffer, base, a, b);
+    let k = buffer[base + totals::corner(b) + a];
     if 0 < k {
         return k;
     }
@@ -150,6 +149,20 @@ fn clear(buffer: &mut [u64], base: usize)
     while i < base {
         buffer[base + i] = 0;
         i += 1;
+    }
+}
+
+// Keeps the number of each strip of no ports, among those of n ports: it has one layout.
+fn keep_empty(buffer: &mut [u64], base: usize, n: usize)
+    requires { ⌜ (n ≤ 64) × (base ≡ cornerOf (n + 1)) × (base + base ≤ length (now buffer)) ⌝ }
+    ensures { λ _. ⌜ EmptyKept base (n + 1) (now (buffer .entry)) (now (buffer .exit)) ⌝ }
+{
+    let mut b = 0;
+    let mut at = base;
+    while b <= n {
+        buffer[at] = 1;
+        b += 1;
+        at += b + 1;
     }
 }
 
@@ -175,6 +188,7 @@ pub fn count(
     let n = order.len();
     let base = base_of(n);
     clear(buffer, base);
+    keep_empty(buffer, base, n);
     if n == 0 {
         return 1;
     }

@@ -1,6 +1,6 @@
 -- What the table holds, and what its inputs are.
 use mathlib.Core.Path.{_≡_}
-use mathlib.Core.Bool.{Bool, cond, _&&_}
+use mathlib.Core.Bool.{Bool, true, false, cond, _&&_}
 use lib.Dec.{ltb, eqb}
 use Rattle.strips.specs.Least.{Least, none, some}
 use mathlib.Core.List.{List}
@@ -12,6 +12,7 @@ use Rattle.strips.specs.Grid as strip
 use Rattle.strips.specs.Prefix.{lies, Lies}
 use Rattle.pads.specs.Pads.{Sides, padsIn, sidesOf, Head}
 use Rattle.totals.specs.Strip.{grid, bestWithin, localWithin}
+use Rattle.totals.specs.declared.Laid.{Laid}
 
 -- the figures that slices hold: none where a bar, a number other than 0, says that the pad may not use the port
 abbrev pub figures : List ℕ → List ℕ → ℕ → ℕ → ℕ → Least
@@ -138,9 +139,24 @@ pub record FullFrom (B : Grid) (order : List ℕ) (r a b : ℕ) : Type 0 where
   pub here : Lies B a b (getD order r 0)
   pub full : length (keep (lies B a b) (drop (r + 1) order)) + 1 ≡ b - a
 
+-- such a strip, with where the pad's figures begin and the best total of the pads
+abbrev pub laidOf : List ℕ → List ℕ → List ℕ → List ℕ → List ℕ → ℕ → ℕ → ℕ → Laid
+laidOf order cs bs lo hi r a b = record {
+  r = r;
+  a = a;
+  b = b;
+  row = getD order r 0 * length order;
+  best = coded (bestWithin (sidesOf lo hi) (figures cs bs (length order)) (drop r order) a b);
+}
+
 -- port q is a locally best one for the pad at place r, in the strip a .. b - 1
 abbrev pub Leads : Grid → List ℕ → ℕ → ℕ → ℕ → ℕ → Type 0
 Leads B order r a b q = LocalBest B (getD order r 0) (keep (lies B a b) (drop (r + 1) order)) a b q
+
+-- x says whether Q holds
+pub record Says (Q : Type 0) (x : Bool) : Type 0 where
+  pub yes : x ≡ true → Q
+  pub no : x ≡ false → Q → ⊥
 
 -- q is the first of the ports p .. b - 1 of which Q holds, or b
 pub record NextPort (Q : ℕ → Type 0) (p b q : ℕ) : Type 0 where

@@ -12,8 +12,17 @@ ghost use lib.Dec.{eqb};
 ghost use lib.ListN.{length, getD};
 ghost use Rattle.strips.specs.Least.{least};
 ghost use Rattle.pads.specs.Pads.{sidesOf, Pads, Head};
-ghost use Rattle.totals.specs.Cell.{noTotal, figures, gridOf, choice, coded, Sizes, Strip, FullFrom, Leads, NextPort};
-ghost use Rattle.totals.specs.Cell.{PartsOf, Table, cornerOf, Port, opens, sumAt, portTotal, Valued, CopiedRow};
+ghost use Rattle.totals.specs.Cell.{noTotal, figures, gridOf, choice, coded, Sizes, Strip, FullFrom, laidOf, Leads, Says, NextPort};
+ghost use Rattle.totals.specs.Cell.{PartsOf, Table, cornerOf, place, Port, opens, sumAt, portTotal, Valued, CopiedRow};
+
+// A strip a .. b - 1, the place r of its rightmost pad, where the pad's row of figures starts, and the strip's best total, or NONE.
+pub struct Laid {
+    pub r: usize,
+    pub a: usize,
+    pub b: usize,
+    pub row: usize,
+    pub best: u64,
+}
 
 const NONE: u64 = 18446744073709551615;
 
@@ -225,6 +234,72 @@ pub fn kept(h: usize, v: u64) -> usize
     if v == NONE { 0 } else { h }
 }
 
+// The strip a .. b - 1 whose rightmost pad stands at place r, with what its ports are tested by.
+pub fn strip_at(
+    heads: &[u8],
+    totals: &[u64],
+    order: &[u8],
+    cost: &[u32],
+    bars: &[u8],
+    lo: &[u8],
+    hi: &[u8],
+    r: usize,
+    a: usize,
+    b: usize,
+) -> Laid
+    requires { ⌜ Pads (now order) (now lo) (now hi) (length (now order)) ⌝ }
+    requires { ⌜ Table (now order) (now cost) (now bars) (now lo) (now hi) (now heads) (now totals) ⌝ }
+    requires { ⌜ FullFrom (gridOf (now order) (now cost) (now bars) (now lo) (now hi)) (now order) r a b ⌝ }
+    ensures { λ s. ⌜ s ≡ laidOf (now (order .entry)) (now (cost .entry)) (now (bars .entry)) (now (lo .entry)) (now (hi .entry)) r a b ⌝ }
+{
+    let row = order[r] as usize * order.len();
+    let best = totals[corner(b) + a];
+    Laid {
+        r: r,
+        a: a,
+        b: b,
+        row: row,
+        best: best,
+    }
+}
+
+// Whether port q leads the rightmost pad of a strip that has a layout in a best one; `below` is the place of the ports below q.
+pub fn leads(
+    heads: &[u8],
+    totals: &[u64],
+    order: &[u8],
+    cost: &[u32],
+    bars: &[u8],
+    lo: &[u8],
+    hi: &[u8],
+    s: Laid,
+    q: usize,
+    below: usize,
+) -> bool
+    requires { ⌜ Pads (now order) (now lo) (now hi) (length (now order)) ⌝ }
+    requires { ⌜ Table (now order) (now cost) (now bars) (now lo) (now hi) (now heads) (now totals) ⌝ }
+    requires { ⌜ FullFrom (gridOf (now order) (now cost) (now bars) (now lo) (now hi)) (now order) (s .r) (s .a) (s .b) ⌝ }
+    requires { ⌜ s ≡ laidOf (now order) (now cost) (now bars) (now lo) (now hi) (s .r) (s .a) (s .b) ⌝ }
+    requires { ⌜ (s .best ≡ noTotal → ⊥) × (s .a ≤ q) × (q < s .b) × (below ≡ place (s .a) q) ⌝ }
+    ensures { λ x. ⌜ Says (Leads (gridOf (now (order .entry)) (now (cost .entry)) (now (bars .entry)) (now (lo .entry)) (now (hi .entry)))
+        (now (order .entry)) (s .r) (s .a) (s .b) q) x ⌝ }
+{
+    let past = (s.r + 1) as u8;
+    let above = corner(s.b) + 1 + q;
+    attains(
+        heads,
+        totals,
+        cost,
+        bars,
+        s.best,
+        past,
+        s.row,
+        q,
+        below,
+        above,
+    )
+}
+
 // The smallest port of the strip a .. b - 1, from `from` on, that leads its rightmost pad, at place
 // r, in a best layout of the strip; b where there is none.
 pub fn next_port(
@@ -247,28 +322,14 @@ pub fn next_port(
     ensures { λ q. ⌜ NextPort (Leads (gridOf (now (order .entry)) (now (cost .entry)) (now (bars .entry)) (now (lo .entry)) (now (hi .entry)))
         (now (order .entry)) r a b) from b q ⌝ }
 {
-    let row = order[r] as usize * order.len();
-    let past = (r + 1) as u8;
-    let base = corner(b);
-    let best = totals[base + a];
-    if best == NONE {
+    let s = strip_at(heads, totals, order, cost, bars, lo, hi, r, a, b);
+    if s.best == NONE {
         return b;
     }
     let mut below = corner(from) + a;
     let mut q = from;
     while q < b {
-        if attains(
-            heads,
-            totals,
-            cost,
-            bars,
-            best,
-            past,
-            row,
-            q,
-            below,
-            base + 1 + q,
-        ) {
+        if leads(heads, totals, order, cost, bars, lo, hi, s, q, below) {
             return q;
         }
         q += 1;
