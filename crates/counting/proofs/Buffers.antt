@@ -121,8 +121,8 @@ empty-more base n at before after is h E = record {
     go b l (no e) = getD-set-other after at (base + place b b) 1 0 (λ d. e (place-end b b n n (omega arith) (omega arith) (omega arith))) ∙ E .ones b (omega arith)
 
 -- What is kept for a strip, if anything is, is its number; for a strip of no ports something is.
-module _ {order cs bs lo hi hs bf : List ℕ} (U : Buffer order cs bs lo hi hs bf) (base a b at : ℕ) (is : base ≡ baseOf order) (here : at ≡ base + place a b) (h : a ≤ b)
-    (k : b ≤ length order) where
+module _ {order cs bs lo hi hs bf : List ℕ} (U : Buffer order cs bs lo hi hs bf) (base a b at : ℕ) (is : base ≡ baseOf order)
+    (here : at ≡ base + place a b) (h : a ≤ b) (k : b ≤ length order) where
   pub kept-room : at < length bf
   kept-room = let l = place-listed a b (length order) h k in omega (arith, U .room)
 

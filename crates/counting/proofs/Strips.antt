@@ -206,7 +206,8 @@ module _ {hs ts order cs bs lo hi : List ℕ} (T : Table order cs bs lo hi hs ts
   -- Its total is one, and not the sign of none.
   pub best-some : Pads order lo hi (length order) → coded (bestWithin (sidesOf lo hi) C (drop (h - 1) order) a b) ≡ noTotal → ⊥
   best-some P e =
-      let m : getD ts (place a b) 0 ≤ padsIn (sidesOf lo hi) a b (drop s order) * 2 ^ 32 = subst (Capped (padsIn (sidesOf lo hi) a b (drop s order) * 2 ^ 32)) (cell .value s next)
+      let m : getD ts (place a b) 0 ≤ padsIn (sidesOf lo hi) a b (drop s order) * 2 ^ 32
+      = subst (Capped (padsIn (sidesOf lo hi) a b (drop s order) * 2 ^ 32)) (cell .value s next)
       (most-best (sidesOf lo hi) C (P .level) (figures-cheap (T .sizes)) (drop s order) a b) in
       let w : getD ts (place a b) 0 ≡ noTotal = sym (ap coded (cell .value s next)) ∙ e in
       let f = cell .full s next in omega (arith, O .high, P .few)

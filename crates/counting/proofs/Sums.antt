@@ -116,20 +116,22 @@ module _ {B : Grid} {order : List ℕ} (L : Listed B (length order) order) (r a 
   }
 
   -- One port more, which is not locally best, or is.
-  pub summing-skip : (q sum : ℕ) → Summing B order r a b q sum → q < b → (Leads B order r a b q → ⊥) → Summing B order r a b (q + 1) sum
-  summing-skip q sum S h n = record {
-    low = omega (arith, S .low);
-    high = omega arith;
-    adds = let e = sum-more F q in let z = number-none q n in S .adds ∙ ap capped (omega arith);
-  }
+  module _ (q next sum : ℕ) (S : Summing B order r a b q sum) (h : q < b) (is : q + 1 ≡ next) where
+    pub summing-skip : (Leads B order r a b q → ⊥) → Summing B order r a b next sum
+    summing-skip n = record {
+      low = omega (arith, S .low);
+      high = omega arith;
+      adds = S .adds ∙ ap capped (sym (omega (arith, sum-more F q, number-none q n)) ∙ ap (sumTo F) is);
+    }
 
-  pub summing-more : (q sum u v : ℕ) → Summing B order r a b q sum → q < b → Leads B order r a b q → StripCount B order a q u → StripCount B order (q + 1) b v
-      → Summing B order r a b (q + 1) (capped (sum + capped (u * v)))
-  summing-more q sum u v S h l M N = record {
-    low = omega (arith, S .low);
-    high = omega arith;
-    adds = (λ i. capped (S .adds i + sym (number-capped q u v l M N) i)) ∙ sym (capped-plus (sumTo F q) (F q)) ∙ ap capped (sym (sum-more F q));
-  }
+    pub summing-more : (u v : ℕ) → Leads B order r a b q → StripCount B order a q u → StripCount B order next b v
+        → Summing B order r a b next (capped (sum + capped (u * v)))
+    summing-more u v l M N = record {
+      low = omega (arith, S .low);
+      high = omega arith;
+      adds = (λ i. capped (S .adds i + sym (number-capped q u v l M (rw (← is) at N)) i)) ∙ sym (capped-plus (sumTo F q) (F q))
+          ∙ ap capped (sym (sum-more F q) ∙ ap (sumTo F) is);
+    }
 
   -- With all ports behind, or above the limit already, it is the strip's number.
   summing-all : (sum : ℕ) → sum ≡ capped (sumTo F b) → StripCount B order a b sum

@@ -85,19 +85,21 @@ fn count_strip(
     let i = totals::corner(b) + a;
     let r = heads[i] as usize - 1;
     let s = totals::strip_at(heads, buffer, order, cost, bars, lo, hi, r, a, b);
-    let above = base + totals::corner(b) + 1;
+    let above = base + totals::corner(b);
     let mut below = totals::corner(a) + a;
-    let mut q = a;
+    let mut next = a + 1;
     let mut sum: u64 = 0;
-    while q < b {
+    // as q comes to b, `below` comes to i
+    while below < i {
+        let q = next - 1;
         if totals::leads(heads, buffer, order, cost, bars, lo, hi, s, q, below) {
             let mut under = buffer[base + below];
             if under == 0 {
                 under = count_strip(heads, order, cost, bars, lo, hi, buffer, base, a, q);
             }
-            let mut over = buffer[above + q];
+            let mut over = buffer[above + next];
             if over == 0 {
-                over = count_strip(heads, order, cost, bars, lo, hi, buffer, base, q + 1, b);
+                over = count_strip(heads, order, cost, bars, lo, hi, buffer, base, next, b);
             }
             sum = plus(sum, times(under, over));
             if sum == MOST {
@@ -105,8 +107,8 @@ fn count_strip(
                 break;
             }
         }
-        q += 1;
-        below += q;
+        below += next;
+        next += 1;
     }
     buffer[base + i] = sum;
     sum

@@ -44,3 +44,10 @@ place-end a b a′ b′ h h′ e =
 
 pub place-start : (a b a′ b′ : ℕ) → a ≤ b → a′ ≤ b′ → place a b ≡ place a′ b′ → a ≡ a′
 place-start a b a′ b′ h h′ e = let n = place-end a b a′ b′ h h′ e in let m : cornerOf b ≡ cornerOf b′ = rw n refl in omega arith
+
+-- of two strips that start together the narrower has the earlier place
+pub place-before : (a q b : ℕ) → place a q < place a b → q < b
+place-before a q b h = ⊎-elim (λ (u : b ≤ q). absurd (let m = corner-mono b q u in omega arith)) (λ (u : q < b). u) (le-or-lt b q)
+
+pub place-after : (a q b : ℕ) → place a b ≤ place a q → b ≤ q
+place-after a q b h = ⊎-elim (λ (u : b ≤ q). u) (λ (u : q < b). absurd (let n = corner-next q b u in omega arith)) (le-or-lt b q)

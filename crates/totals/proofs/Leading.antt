@@ -9,7 +9,6 @@ use lib.Dec.{eqb}
 use borrow.Author.Tests.{eqb-true, eqb-false}
 use Rattle.strips.specs.Least.{Least}
 use Rattle.strips.specs.Lists.{keep, keep-if}
-use Rattle.strips.specs.Grid as strip
 use Rattle.pads.specs.Pads.{Sides, fits, bit, padsIn, sidesOf, Pads}
 use Rattle.totals.specs.Strip.{bestWithin}
 use Rattle.totals.specs.Cell.{noTotal, figures, gridOf, choice, place, coded, Strip, FullFrom, Table, Leads, Says, Parts, Port, portTotal}
@@ -59,7 +58,8 @@ module _ {hs ts order cs bs lo hi : List ℕ} (P : Pads order lo hi (length orde
       (most-best S C (P .level) (figures-cheap (T .sizes)) (drop r order) a b) (omega (arith, headed, O .ports, P .few)) e
 
   -- what `attains` asks of a port, and what its answer says of it
-  module _ (q : ℕ) (aq : a ≤ q) (qb : q < b) (row below above : ℕ) (er : row ≡ getD order r 0 * length order) (eb : below ≡ place a q) (ea : above ≡ place (q + 1) b) where
+  module _ (q : ℕ) (aq : a ≤ q) (qb : q < b) (row below above : ℕ) (er : row ≡ getD order r 0 * length order)
+      (eb : below ≡ place a q) (ea : above ≡ place (q + 1) b) where
     lower : Lower hs ts hs ts a q below
     lower = in-table (T .sizes) a q below aq (omega (arith, O .ports)) (omega (arith, O .ports, P .few)) eb
 

@@ -23,14 +23,17 @@ clear-requires c κs = let s = c .before .before .before .before .before .before
     let m = c .before .base-of .ensures in (m .1, omega (arith, m .0, room-enough (length (s .args .order .now)), s .pre .1 .1 .1))
 
 keep-empty-requires : tie.Need-keep-empty-requires
-keep-empty-requires c κs = let s = c .before .before .before .before .before .before .before .before .before .before .before .before .before in let m = c .before .before .before .before .before .base-of .ensures .0 in
+keep-empty-requires c κs = let s = c .before .before .before .before .before .before .before .before .before .before .before .before .before in
+    let m = c .before .before .before .before .before .base-of .ensures .0 in
     (s .pre .0 .pads .few, m, omega (arith, m, room-enough (length (s .args .order .now)), s .pre .1 .1 .1, c .before .before .before .clear .kept .0))
 
 -- What the buffer has then.
 ready : (c : tie.After-slice-known3) → let x = start c .args in
     Buffer (x .order .now) (x .cost .now) (x .bars .now) (x .lo .now) (x .hi .now) (x .heads .now) (c .before .before .keep-empty .last .0)
-ready c = let s = start c in let x = s .args in let p = s .pre in let e = c .before .before .before .before .before .before .before .before .base-of .ensures .0 in
-    buffer-none (p .1 .0) (omega (arith, room-enough (length (x .order .now)), p .1 .1 .1)) (rw e at (c .before .before .before .before .before .before .clear .ensures)) (rw e at (c .before .before .keep-empty .ensures))
+ready c = let s = start c in let x = s .args in let p = s .pre in
+    let e = c .before .before .before .before .before .before .before .before .base-of .ensures .0 in
+    buffer-none (p .1 .0) (omega (arith, room-enough (length (x .order .now)), p .1 .1 .1))
+    (rw e at (c .before .before .before .before .before .before .clear .ensures)) (rw e at (c .before .before .keep-empty .ensures))
 
 same-length : tie.Need-same-length
 same-length c = search needs

@@ -1,8 +1,8 @@
 -- `counting::keep_empty` meets its contract. The loop's invariant: the first b strips of no ports have 1, and `at` is the place of the next. Assumes nothing.
 use mathlib.Core.Path.{_≡_}
-use Prim.Native.Nat.{ℕ, _+_, _-_, _≤_, _<_}
+use Prim.Native.Nat.{_+_, _-_, _≤_, _<_}
 use native.Mathlib.Omega.{arith}
-use Rattle.totals.specs.Cell.{cornerOf, place}
+use Rattle.totals.specs.Cell.{place}
 use Rattle.totals.proofs.Corners.{corner-step, place-listed}
 use Rattle.counting.specs.Counting.{EmptyKept}
 use Rattle.counting.proofs.Buffers.{base-few, place-first, empty-none, empty-more}

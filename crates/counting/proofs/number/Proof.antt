@@ -12,7 +12,8 @@ use Rattle.counting.proofs.number.Tie as tie
 abbrev start : tie.After-slice-known2 → tie.Start
 start c = c .before .before .before .before .before .before .before .before .before .before
 
-here : (c : tie.After-slice-known2) → let x = start c .args in c .before .before .base-of .result + c .before .corner .result + x .a ≡ c .before .before .base-of .result + place (x .a) (x .b)
+here : (c : tie.After-slice-known2) → let x = start c .args in
+    c .before .before .base-of .result + c .before .corner .result + x .a ≡ c .before .before .base-of .result + place (x .a) (x .b)
 here c = omega (arith, c .before .corner .ensures .0)
 
 base-of-requires : tie.Need-base-of-requires
@@ -25,10 +26,12 @@ add-k : tie.Need-add-k
 add-k c = omega (arith, c .before .base-of .ensures .1, c .corner .ensures .1)
 
 add-k-2 : tie.Need-add-k-2
-add-k-2 c = let p = c .before .before .before .before .before .before .before .before .before .pre in omega (arith, c .before .base-of .ensures .1, c .corner .ensures .1, p .1 .0 .low, p .1 .0 .high, p .0 .pads .few)
+add-k-2 c = let p = c .before .before .before .before .before .before .before .before .before .pre in
+    omega (arith, c .before .base-of .ensures .1, c .corner .ensures .1, p .1 .0 .low, p .1 .0 .high, p .0 .pads .few)
 
 mul-k : tie.Need-mul-k
-mul-k c = let p = c .before .before .before .before .before .before .before .before .before .pre in omega (arith, c .before .base-of .ensures .1, c .corner .ensures .1, p .1 .0 .low, p .1 .0 .high, p .0 .pads .few)
+mul-k c = let p = c .before .before .before .before .before .before .before .before .before .pre in
+    omega (arith, c .before .base-of .ensures .1, c .corner .ensures .1, p .1 .0 .low, p .1 .0 .high, p .0 .pads .few)
 
 slice-read-k : tie.Need-slice-read-k
 slice-read-k c = let s = start c in let x = s .args in let p = s .pre in

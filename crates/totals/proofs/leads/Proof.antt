@@ -1,5 +1,5 @@
 -- `totals::leads` meets its contract: the port's total is the strip's. Assumes nothing.
-use mathlib.Core.Path.{_≡_, ap}
+use mathlib.Core.Path.{ap}
 use native.Mathlib.Omega.{arith}
 use Rattle.totals.specs.declared.Laid.{Laid}
 use Rattle.totals.proofs.Leading.{port-here, attains-says}
@@ -27,8 +27,8 @@ add-above-2 c = search needs
 
 attains-requires : tie.Need-attains-requires
 attains-requires c κs = let s = start c in let x = s .args in let p = s .pre in let f = p .1 .1 .1 .1 in (
-  port-here (p .0) (p .1 .0) (x .s .r) (x .s .a) (x .s .b) (p .1 .1 .0) (x .q) (f .1) (f .2) (x .s .row) (x .below) _ (ap (λ (t : Laid). t .row) (p .1 .1 .1 .0)) (f .3)
-      (omega (arith, c .corner .ensures .0)),
+  port-here (p .0) (p .1 .0) (x .s .r) (x .s .a) (x .s .b) (p .1 .1 .0) (x .q) (f .1) (f .2) (x .s .row) (x .below) _
+      (ap (λ (t : Laid). t .row) (p .1 .1 .1 .0)) (f .3) (omega (arith, c .corner .ensures .0)),
   f .0,
 )
 

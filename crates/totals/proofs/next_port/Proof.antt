@@ -1,6 +1,6 @@
 -- `totals::next_port` meets its contract. The loop's invariant: `below` is the place of a .. q - 1, and no port from `from` to q - 1 is locally best. Assumes nothing.
 use mathlib.Core.Path.{_≡_, refl, sym, ap, _∙_}
-use Prim.Native.Nat.{ℕ, _+_, _-_, _≤_, _<_}
+use Prim.Native.Nat.{ℕ, _-_, _≤_, _<_}
 use mathlib.Core.Logic.{⊎-elim}
 use Rattle.totals.specs.declared.Laid.{Laid}
 use Rattle.totals.specs.Cell.{gridOf, Leads, Says, place}
@@ -76,7 +76,8 @@ loop-again c = let l = c .before .before .before .loop in (
   omega arith,
   omega arith,
   omega (arith, l .inv .2, corner-step (l .q)),
-  λ i u v. ⊎-elim (λ (w : l .q ≤ i). let e : i ≡ l .q = omega arith in rw e (says (c .before) .no (c .if2 .left))) (λ (w : i < l .q). l .inv .3 i u w) (le-or-lt (l .q) i),
+  λ i u v. ⊎-elim (λ (w : l .q ≤ i). let e : i ≡ l .q = omega arith in rw e (says (c .before) .no (c .if2 .left)))
+      (λ (w : i < l .q). l .inv .3 i u w) (le-or-lt (l .q) i),
 )
 
 returns-3 : tie.Need-returns-3 Inv-loop μ-loop

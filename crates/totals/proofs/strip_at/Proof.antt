@@ -1,9 +1,8 @@
 -- `totals::strip_at` meets its contract. Assumes nothing.
-use mathlib.Core.Path.{_≡_, ap, _∙_}
+use mathlib.Core.Path.{ap, _∙_}
 use Prim.Native.Nat.{ℕ, _+_, _*_}
 use native.Mathlib.Omega.{arith}
 use lib.ListN.{length, getD}
-use Rattle.totals.specs.declared.Laid.{Laid}
 use Rattle.totals.proofs.Corners.{place-listed}
 use Rattle.totals.proofs.Ports.{row-small}
 use Rattle.totals.proofs.Leading.{table-best}
