@@ -53,7 +53,8 @@ fn copy(from: &[u64], n: usize, to: &mut [u64])
 }
 
 // The lists of the board, its bars and the table of least totals, in the buffer, with the least of all. Where there is no
-// layout, or the buffer is too short, that is told, and the buffer is as it was: the totals are worked out in room of its own.
+// layout, or the buffer is too short, that is told, and the buffer is as it was: the totals are worked out in room of its
+// own, which is given back before the counting goes deep.
 fn lend(
     job: &[u8],
     figures: &[u32],
