@@ -7,7 +7,7 @@
 
 const char *const measured_names[ALL_KINDS] = {"random", "even",           "middle",       "ties",         "right", "above", "level",
                                                "tall",   "random-squares", "even-squares", "tall-squares", "free",
-                                               "free-even"};
+                                               "free-even", "free-mixed"};
 
 enum measured points_of(enum measured kind) {
     return kind == RANDOM_SQUARES ? RANDOM : kind == EVEN_SQUARES ? EVEN_SPREAD : kind == TALL_SQUARES ? TALL : kind;
@@ -17,7 +17,7 @@ enum measured points_of(enum measured kind) {
 static bool at_the_right(enum measured kind) { return kind == RIGHT || kind == ABOVE_ALL; }
 
 /* On these every untouching sheet is best. */
-static bool unweighted(enum measured kind) { return kind == MIDDLE || kind == FREE || kind == FREE_EVEN; }
+static bool unweighted(enum measured kind) { return kind == MIDDLE || kind >= FREE; }
 
 /* Of pad i of n beside p ports. */
 static int64_t height(enum measured kind, int n, int p, int i) {
@@ -27,6 +27,7 @@ static int64_t height(enum measured kind, int n, int p, int i) {
     case FREE: return below((uint32_t)(10 * p));
     case EVEN_SPREAD:
     case FREE_EVEN: return 10 * (i * p / n) + 5;
+    case FREE_MIXED: return 10 * i - 5;
     case MIDDLE: return 5 * p - 5;
     case AT_PORTS: return 10 * below((uint32_t)p);
     case RIGHT: return 10 * i - 2;
@@ -55,6 +56,20 @@ static void place_tall(int n, int *x) {
     for (int i = 0; i < n / 2; i++) x[i] = 10 * (i + 1);
 }
 
+/* The lower the further right, but for pairs that change places: of 400 such boards one of the costliest to count. */
+static void place_mixed(int n, int *x) {
+    int pad[64];
+    seed_random(79);
+    for (int i = 0; i < n; i++) pad[i] = i;
+    for (uint32_t k = below(120); k > 0; k--) {
+        uint32_t i = below((uint32_t)n), j = below((uint32_t)n);
+        int kept = pad[i];
+        pad[i] = pad[j];
+        pad[j] = kept;
+    }
+    for (int i = 0; i < n; i++) x[pad[i]] = 10 * (n - i);
+}
+
 static void put_squares(enum measured kind, uint8_t *pads, const struct plan *plan) {
     int n = (int)plan->n;
     if (kind == RANDOM_SQUARES) give_squares(pads, plan, FITTED);
@@ -66,6 +81,8 @@ static void place_pads(enum measured kind, int n, int *x) {
     seed_random((uint64_t)(100 * (int)kind + n));
     if (kind == TALL)
         place_tall(n, x);
+    else if (kind == FREE_MIXED)
+        place_mixed(n, x);
     else
         place(kind, n, x);
 }
