@@ -20,7 +20,8 @@ enum measured {
     TALL_SQUARES,     /* .. on tall those far right, each level with all ports of the lower half */
     FREE,             /* as random with length weight 0, so that a great many sheets are best; for counting alone .. */
     FREE_EVEN,        /* .. and as even: every run of ports can be filled, with many ports for its rightmost pad .. */
-    FREE_MIXED,       /* .. and with a pad in each gap, x falling but for some pairs: made to be costly to count */
+    FREE_MIXED,       /* .. and with a pad in each gap, x falling but for some pairs: made to be costly to count .. */
+    FREE_WORST,       /* .. and the costliest to count that a search over heights and x came to */
     ALL_KINDS
 };
 

@@ -15,14 +15,16 @@ use Rattle.strips.specs.Grid as strip
 use Rattle.strips.specs.Strips.{local-parts}
 use Rattle.strips.specs.Prefix.{lies, lies-yes, yes-lies}
 use Rattle.strips.specs.Room.{full-parts}
+use Rattle.strips.specs.FirstNext.{Listed}
 use Rattle.pads.specs.Pads.{spans, padsIn, sidesOf, Pads}
 use Rattle.pads.specs.Counts.{drop-at, drop-split}
 use Rattle.totals.specs.Strip.{bestWithin}
-use Rattle.totals.specs.Cell.{noTotal, figures, gridOf, coded, place, Cell, Table, FullFrom, Leads}
+use Rattle.totals.specs.Cell.{figures, gridOf, cornerOf, place, Cell, Table, FullFrom, Leads, Marks, MarkedFrom}
 use Rattle.totals.specs.Totals.{Capped, most-best}
 use Rattle.totals.proofs.Cells.{figures-cheap}
+use Rattle.totals.proofs.Corners.{place-listed}
 use Rattle.totals.proofs.Leading.{count-keep}
-use Rattle.counting.specs.Counting.{padsFrom, Solved}
+use Rattle.counting.specs.Counting.{padsFrom, Solved, Led, Marked}
 
 pub nil-of : (xs : List ℕ) → length xs ≡ 0 → xs ≡ []
 nil-of [] e = refl
@@ -203,11 +205,28 @@ module _ {hs ts order cs bs lo hi : List ℕ} (T : Table order cs bs lo hi hs ts
         let l = ap length k in let f = full in omega arith;
   }
 
-  -- Its total is one, and not the sign of none.
-  pub best-some : Pads order lo hi (length order) → coded (bestWithin (sidesOf lo hi) C (drop (h - 1) order) a b) ≡ noTotal → ⊥
-  best-some P e =
-      let m : getD ts (place a b) 0 ≤ padsIn (sidesOf lo hi) a b (drop s order) * 2 ^ 32
-      = subst (Capped (padsIn (sidesOf lo hi) a b (drop s order) * 2 ^ 32)) (cell .value s next)
-      (most-best (sidesOf lo hi) C (P .level) (figures-cheap (T .sizes)) (drop s order) a b) in
-      let w : getD ts (place a b) 0 ≡ noTotal = sym (ap coded (cell .value s next)) ∙ e in
-      let f = cell .full s next in omega (arith, O .high, P .few)
+-- So a list that begins with the ports that lead each strip of a right table marks the board.
+pub marked-by : {hs ts order cs bs lo hi : List ℕ} (ms : List ℕ) → Listed (gridOf order cs bs lo hi) (length order) order → Table order cs bs lo hi hs ts
+    → MarkedFrom order cs bs lo hi hs ms 0 → cornerOf (length order + 1) ≤ length ms → (bf : List ℕ)
+    → ((i : ℕ) → i < cornerOf (length order + 1) → getD bf i 0 ≡ getD ms i 0) → Marked (gridOf order cs bs lo hi) order bf
+marked-by {order = order} ms L T K long bf same = record {
+  listed = L;
+  led = λ a b l O. let p = place-listed a b (length order) (O .low) (O .high) in record {
+    head = _;
+    full = head-full T a b O l;
+    marks = rw (same (place a b) p) (K a b zero-le l (O .high) (omega arith) (head-some T a b O l));
+  };
+}
+
+-- From whatever place on the strip is full, the same ports lead its rightmost pad.
+pub marks-at : {B : Grid} {order : List ℕ} (m a b : ℕ) {x : ℕ} → FullFrom B order m a b → Led B order a b x → Marks B order m a b x
+marks-at {B} {order} m a b R O = record { picks = O .marks .picks; set = O .marks .set; says = λ q u. rw (pad, rest) (O .marks .says q u) }
+  where
+    same : (getD order m 0 ∷ keep (lies B a b) (drop (m + 1) order)) ≡ (getD order (O .head) 0 ∷ keep (lies B a b) (drop (O .head + 1) order))
+    same = sym (full-here B order m a b R) ∙ full-whole B order (O .head) a b (O .full) m (full-length B order m a b R)
+
+    pad : getD order m 0 ≡ getD order (O .head) 0
+    pad = ap (λ (xs : List ℕ). getD xs 0 0) same
+
+    rest : keep (lies B a b) (drop (m + 1) order) ≡ keep (lies B a b) (drop (O .head + 1) order)
+    rest = ap (drop 1) same

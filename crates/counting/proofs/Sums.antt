@@ -2,10 +2,13 @@
 use mathlib.Core.Path.{_≡_, refl, sym, ap, _∙_}
 use mathlib.Core.Bool.{Bool, true, false, cond}
 use mathlib.Core.List.{List, [], _∷_}
-use Prim.Native.Nat.{ℕ, zero, suc, _+_, _*_, _≤_, _<_, zero-le}
+use Prim.Native.Nat.{ℕ, zero, suc, _+_, _-_, _*_, _≤_, _<_, zero-le}
 use native.Mathlib.Omega.{arith}
 use native.Mathlib.Decide.{decLe, decLt}
+use lib.Bits.{bitAnd}
+use lib.Count.{trailingZeros}
 use native.Mathlib.Nat.{le-mul-of-pos-right, mul-comm, mul-zero}
+use Rattle.numbers.specs.Sets.{setOf, set-none, Least, set-gone, set-next}
 use lib.ListN.{length, getD, drop}
 use Rattle.strips.specs.Lists.{All, keep, Distinct, keep-distinct, kept-mem}
 use Rattle.strips.specs.Grid.{Grid, below, above}
@@ -14,7 +17,7 @@ use Rattle.strips.specs.FirstNext.{Listed}
 use Rattle.strips.specs.ByPlace.{sumTo}
 use Rattle.ways.specs.Tree.{ways-nil, sum-mono, sum-skip, sum-none, sum-more}
 use Rattle.ways.specs.Count.{mayTake, many, isChoice, choice-yes, yes-choice, many-cons}
-use Rattle.totals.specs.Cell.{FullFrom, Leads}
+use Rattle.totals.specs.Cell.{FullFrom, Leads, Marks}
 use Rattle.counting.specs.Counting.{limit, capped, padsFrom, numberAt, StripCount}
 use Rattle.counting.proofs.Strips.{nil-of, full-length, full-whole, below-strip, above-strip, full-below, full-above}
 
@@ -52,11 +55,11 @@ capped-times x y = go (decLe (limit + 1) x) (decLe (limit + 1) y)
 
 -- ---- the number of a strip whose rightmost pad stands at place r
 
--- What the loop over the ports of a strip has when it comes to port q.
-pub record Summing (B : Grid) (order : List ℕ) (r a b q sum : ℕ) : Type 0 where
-  pub low : a ≤ q
-  pub high : q ≤ b
-  pub adds : sum ≡ capped (sumTo (numberAt B order r a b) q)
+-- What the loop over the ports of a strip has, with those below `at` behind and a set of others left.
+pub record Summing (B : Grid) (order : List ℕ) (r a b : ℕ) (picks : ℕ → Bool) (at rest sum : ℕ) : Type 0 where
+  pub high : at ≤ b
+  pub left : rest + setOf picks at ≡ setOf picks b
+  pub adds : capped sum ≡ capped (sumTo (numberAt B order r a b) at)
 
 distinct-drop : (xs : List ℕ) (k : ℕ) → Distinct xs → Distinct (drop k xs)
 unfolding Distinct
@@ -108,46 +111,68 @@ module _ {B : Grid} {order : List ℕ} (L : Listed B (length order) order) (r a 
       lie : All (Lies B a b) rest
       lie k m = yes-lies B a b k (kept-mem (lies B a b) (drop (r + 1) order) m .1)
 
-  pub summing-none : Summing B order r a b a 0
-  summing-none = record {
-    low = omega arith;
-    high = omega (arith, R .full);
-    adds = sym (ap capped (sum-skip F 0 a zero-le (λ i u v. number-none i (λ l. omega (arith, l .low))) ∙ sum-none F));
-  }
-
-  -- One port more, which is not locally best, or is.
-  module _ (q next sum : ℕ) (S : Summing B order r a b q sum) (h : q < b) (is : q + 1 ≡ next) where
-    pub summing-skip : (Leads B order r a b q → ⊥) → Summing B order r a b next sum
-    summing-skip n = record {
-      low = omega (arith, S .low);
-      high = omega arith;
-      adds = S .adds ∙ ap capped (sym (omega (arith, sum-more F q, number-none q n)) ∙ ap (sumTo F) is);
-    }
-
-    pub summing-more : (u v : ℕ) → Leads B order r a b q → StripCount B order a q u → StripCount B order next b v
-        → Summing B order r a b next (capped (sum + capped (u * v)))
-    summing-more u v l M N = record {
-      low = omega (arith, S .low);
-      high = omega arith;
-      adds = (λ i. capped (S .adds i + sym (number-capped q u v l M (rw (← is) at N)) i)) ∙ sym (capped-plus (sumTo F q) (F q))
-          ∙ ap capped (sym (sum-more F q) ∙ ap (sumTo F) is);
-    }
-
-  -- With all ports behind, or above the limit already, it is the strip's number.
   summing-all : (sum : ℕ) → sum ≡ capped (sumTo F b) → StripCount B order a b sum
   summing-all sum e = record {
     is = λ k u f. e ∙ ap capped (sym number-all ∙ ap (λ (xs : List ℕ). many B (length order) xs a b) (sym (full-whole B order r a b R k f)));
   }
 
-  pub summing-done : (q sum : ℕ) → Summing B order r a b q sum → b ≤ q → StripCount B order a b sum
-  summing-done q sum S h = let same : q ≡ b = omega (arith, S .high) in summing-all sum (rw same at (S .adds))
+  module _ {m : ℕ} (K : Marks B order r a b m) (few : b ≤ 64) where
+    abbrev picks : ℕ → Bool
+    picks = K .picks
 
-  pub summing-most : (q sum : ℕ) → Summing B order r a b q sum → sum ≡ limit + 1 → StripCount B order a b sum
-  summing-most q sum S m = go (decLe b q)
-    where
-      go : Dec (b ≤ q) → StripCount B order a b sum
-      go (yes h) = summing-done q sum S h
-      go (no h) = summing-all sum (omega (arith, m, S .adds, sum-mono F q b (omega arith)))
+    pub summing-none : Summing B order r a b picks 0 m 0
+    summing-none = record {
+      high = zero-le;
+      left = let z = set-none picks 0 (λ q u. absurd (omega arith)) in let e = K .set in omega arith;
+      adds = ap capped (sym (sum-none F));
+    }
+
+    module _ (at rest sum : ℕ) (S : Summing B order r a b picks at rest sum) where
+      -- Ports that the set leaves out have none.
+      nothing : (i : ℕ) → i < b → picks i ≡ false → F i ≡ 0
+      nothing i u e = number-none i (K .says i u .no e)
+
+      -- The next port.
+      module _ (some : rest ≡ 0 → ⊥) where
+        abbrev q : ℕ
+        q = trailingZeros 64 rest
+
+        here : Least picks at b q
+        here = set-next picks at b rest (S .high) few (S .left) some .0
+
+        pub next-from : at ≤ q
+        next-from = here .from
+
+        pub next-below : q < b
+        next-below = here .below
+
+        pub next-leads : Leads B order r a b q
+        next-leads = K .says q next-below .yes (here .picked)
+
+        -- The sum with it.
+        pub summing-more : (u v sum′ : ℕ) → StripCount B order a q u → StripCount B order (q + 1) b v → capped sum′ ≡ capped (sum + u * v)
+            → Summing B order r a b picks (q + 1) (bitAnd rest (rest - 1)) sum′
+        summing-more u v sum′ M N e =
+            let skip = sum-skip F at q next-from (λ i x y. nothing i (let z = next-below in omega arith) (here .passed i x y)) in
+            let more = sum-more F q in
+            record {
+              high = let z = next-below in omega arith;
+              left = set-next picks at b rest (S .high) few (S .left) some .1;
+              adds = e ∙ capped-plus sum (u * v) ∙ (λ i. capped (S .adds i + sym (number-capped q u v next-leads M N) i)) ∙ sym (capped-plus (sumTo F at) (F q))
+                  ∙ ap capped (omega arith);
+            }
+
+      -- With none left, or above the limit already, it is the strip's number.
+      pub summing-done : rest ≡ 0 → StripCount B order a b (capped sum)
+      summing-done z = summing-all (capped sum)
+          (S .adds ∙ ap capped (sym (sum-skip F at b (S .high) (λ i x y. nothing i y (set-gone picks at b rest (S .high) few (S .left) z i x y)))))
+
+      pub summing-most : limit + 1 ≤ sum → StripCount B order a b (capped sum)
+      summing-most h = go (decLt at b)
+        where
+          go : Dec (at < b) → StripCount B order a b (capped sum)
+          go (yes l) = summing-all (capped sum) (omega (arith, S .adds, sum-mono F at b l))
+          go (no l) = let e : at ≡ b = omega (arith, S .high) in summing-all (capped sum) (S .adds ∙ ap (λ (k : ℕ). capped (sumTo F k)) e)
 
 -- A strip of no ports has one layout.
 pub empty-count : (B : Grid) (order : List ℕ) (a b : ℕ) → a ≡ b → StripCount B order a b 1

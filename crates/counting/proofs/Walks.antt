@@ -1,14 +1,17 @@
 -- Laws of the way to a place: the port on which it falls, pad by pad.
 use mathlib.Core.Path.{_≡_, refl, sym, ap, _∙_, subst}
-use mathlib.Core.Bool.{Bool, true}
+use mathlib.Core.Bool.{Bool, true, false}
 use mathlib.Core.List.{List, [], _∷_, _++_, List·Memᴰ, List·Memᴰ·head, List·Memᴰ·tail, Memᴰ·append-left, Memᴰ·append-right}
 use Prim.Native.Nat.{ℕ, zero, _+_, _-_, _*_, _/_, _%_, _≤_, _<_, zero-le}
 use native.Mathlib.Omega.{arith}
 use native.Mathlib.Decide.{decLt}
 use native.Mathlib.Nat.{mod-eq-of-lt, le-mul-of-pos-right, mul-comm, mul-zero, zero-mul, div-eq-of-eq-mul-left}
+use lib.Bits.{bitAnd}
+use lib.Count.{trailingZeros}
 use lib.ListN.{length, getD, take, drop, set, drop-of-length-le}
 use lib.Seq.{take-all}
 use Rattle.numbers.specs.Kept.{KeptFrom, kept-all}
+use Rattle.numbers.specs.Sets.{setOf, set-none, Least, set-gone, set-next}
 use Rattle.strips.specs.Lists.{nil-all, keep, Distinct}
 use Rattle.strips.specs.Least.{some}
 use Rattle.strips.specs.Grid.{Grid, best, BestIn}
@@ -22,7 +25,7 @@ use Rattle.ways.specs.Tree.{waysAt, waysAt-cong, waysAt-self, rank, rank-nil, r
 use Rattle.ways.specs.Count.{mayTake, looks, many, manyAt, choice-yes, share, Share}
 use Rattle.ways.specs.Ranks.{rank-place}
 use Rattle.pads.specs.Counts.{drop-at}
-use Rattle.totals.specs.Cell.{FullFrom, Leads, NextPort}
+use Rattle.totals.specs.Cell.{FullFrom, Leads, Marks}
 use Rattle.places.specs.Places.{portIn, Entered}
 use Rattle.places.proofs.Ports.{entered-more}
 use Rattle.choices.specs.Source.{source}
@@ -37,12 +40,11 @@ use Rattle.counting.proofs.Whole.{some-best}
 
 -- ---- one strip: the ports in rising order
 
--- What the loop over the ports has at port q, of place k.
-pub record Picking (B : Grid) (order : List ℕ) (m a b others k q rest : ℕ) : Type 0 where
-  pub low : a ≤ q
-  pub high : q ≤ b
-  pub here : q < b → Leads B order m a b q
-  pub passed : k ≡ sumTo (numberWith B order m a b others) q + rest
+-- What the loop over the ports has, of place k, with those below `at` behind and a set of others left.
+pub record Picking (B : Grid) (order : List ℕ) (m a b others k : ℕ) (picks : ℕ → Bool) (at left rest : ℕ) : Type 0 where
+  pub high : at ≤ b
+  pub left-is : left + setOf picks at ≡ setOf picks b
+  pub passed : k ≡ sumTo (numberWith B order m a b others) at + rest
 
 module _ {B : Grid} {order : List ℕ} (L : Listed B (length order) order) (m a b : ℕ) (R : FullFrom B order m a b) (others k : ℕ) where
   abbrev F : ℕ → ℕ
@@ -54,27 +56,19 @@ module _ {B : Grid} {order : List ℕ} (L : Listed B (length order) order) (m a 
   none-at : (q : ℕ) → (Leads B order m a b q → ⊥) → G q ≡ 0
   none-at q h = ap (others *_) (number-none L m a b R q h) ∙ mul-zero others
 
-  pub picking-none : (q : ℕ) → NextPort (Leads B order m a b) a b q → Picking B order m a b others k q k
-  picking-none q N = record {
-    low = N .start;
-    high = N .within;
-    here = N .found;
-    passed = let e = sum-skip G 0 q zero-le (λ i u v. none-at i (λ l. N .passed i (l .low) v l)) ∙ sum-none G in omega arith;
-  }
-
   module _ (pos : 0 < others) (few : sumTo G b ≤ limit) where
     at-most : (q : ℕ) → q < b → G q ≤ limit
     at-most q h = omega (arith, sum-mono G q b h)
 
     -- The numbers of the parts are below the limit here, and so exact.
-    pub exact : (q u v : ℕ) → q < b → Leads B order m a b q → StripCount B order a q u → StripCount B order (q + 1) b v → u * v ≡ F q
+    exact : (q u v : ℕ) → q < b → Leads B order m a b q → StripCount B order a q u → StripCount B order (q + 1) b v → u * v ≡ F q
     exact q u v h l M N =
         let e = number-capped L m a b R q u v l M N in
         let g = le-mul-of-pos-right (F q) pos in
         let x = mul-comm (F q) others in
         omega (arith, at-most q h)
 
-    pub exact-few : (q u v : ℕ) → q < b → Leads B order m a b q → StripCount B order a q u → StripCount B order (q + 1) b v
+    exact-few : (q u v : ℕ) → q < b → Leads B order m a b q → StripCount B order a q u → StripCount B order (q + 1) b v
         → (u * v ≤ limit) × (others * (u * v) ≤ limit)
     exact-few q u v h l M N =
         let e = exact q u v h l M N in
@@ -82,28 +76,64 @@ module _ {B : Grid} {order : List ℕ} (L : Listed B (length order) order) (m a 
         let x = mul-comm (F q) others in
         (omega (arith, at-most q h), rw e (at-most q h))
 
-    module _ (q rest u v : ℕ) (S : Picking B order m a b others k q rest) (h : q < b) (M : StripCount B order a q u) (N : StripCount B order (q + 1) b v) where
-      pub picking-found : rest < others * (u * v) → PickedIs B order m a b others k (record { port = q; rest = rest; ways = others * (u * v) })
-      picking-found l = record {
-        leads = S .here h;
-        falls = record { passed = S .passed; count = ap (others *_) (exact q u v h (S .here h) M N); small = l };
-      }
+  module _ {x : ℕ} (K : Marks B order m a b x) (b64 : b ≤ 64) where
+    abbrev picks : ℕ → Bool
+    picks = K .picks
 
-      pub picking-more : (q′ : ℕ) → others * (u * v) ≤ rest → NextPort (Leads B order m a b) (q + 1) b q′
-          → Picking B order m a b others k q′ (rest - others * (u * v))
-      picking-more q′ l X = record {
-        low = omega (arith, S .low, X .start);
-        high = X .within;
-        here = X .found;
-        passed =
-            let e = ap (others *_) (exact q u v h (S .here h) M N) in
-            let t = sum-skip G (q + 1) q′ (X .start) (λ i x y. none-at i (X .passed i x y)) in
-            omega (arith, S .passed, sum-more G q);
-      }
+    pub picking-none : Picking B order m a b others k picks 0 x k
+    picking-none = record {
+      high = zero-le;
+      left-is = let z = set-none picks 0 (λ q u. absurd (omega arith)) in let e = K .set in omega arith;
+      passed = let e = sum-none G in omega arith;
+    }
 
-    -- The ports do not run out before place k.
-    pub picking-never : (q rest : ℕ) → Picking B order m a b others k q rest → b ≤ q → k < sumTo G b → ⊥
-    picking-never q rest S l h = let e : q ≡ b = omega (arith, S .high) in let t = ap (sumTo G) e in omega (arith, S .passed)
+    module _ (at left rest : ℕ) (S : Picking B order m a b others k picks at left rest) where
+      nothing : (i : ℕ) → i < b → picks i ≡ false → G i ≡ 0
+      nothing i u e = none-at i (K .says i u .no e)
+
+      -- The ports do not run out before place k.
+      pub picking-never : left ≡ 0 → k < sumTo G b → ⊥
+      picking-never z h =
+          let t = sum-skip G at b (S .high) (λ i u v. nothing i v (set-gone picks at b left (S .high) b64 (S .left-is) z i u v)) in
+          omega (arith, S .passed)
+
+      -- The next port.
+      module _ (some-left : left ≡ 0 → ⊥) where
+        abbrev q : ℕ
+        q = trailingZeros 64 left
+
+        first : Least picks at b q
+        first = set-next picks at b left (S .high) b64 (S .left-is) some-left .0
+
+        pub picking-leads : Leads B order m a b q
+        picking-leads = K .says q (first .below) .yes (first .picked)
+
+        skip : sumTo G q ≡ sumTo G at
+        skip = sum-skip G at q (first .from) (λ i u v. nothing i (let z = first .below in omega arith) (first .passed i u v))
+
+        module _ (pos : 0 < others) (few : sumTo G b ≤ limit) (u v : ℕ) (M : StripCount B order a q u) (N : StripCount B order (q + 1) b v) where
+          pub picking-few : (u * v ≤ limit) × (others * (u * v) ≤ limit)
+          picking-few = exact-few pos few q u v (first .below) picking-leads M N
+
+          pub picking-found : rest < others * (u * v) → PickedIs B order m a b others k (record { port = q; rest = rest; ways = others * (u * v) })
+          picking-found l = record {
+            leads = picking-leads;
+            falls = record {
+              passed = let e = skip in omega (arith, S .passed);
+              count = ap (others *_) (exact pos few q u v (first .below) picking-leads M N);
+              small = l;
+            };
+          }
+
+          pub picking-more : others * (u * v) ≤ rest → Picking B order m a b others k picks (q + 1) (bitAnd left (left - 1)) (rest - others * (u * v))
+          picking-more l = record {
+            high = let z = first .below in omega arith;
+            left-is = set-next picks at b left (S .high) b64 (S .left-is) some-left .1;
+            passed =
+                let e = ap (others *_) (exact pos few q u v (first .below) picking-leads M N) in
+                let t = skip in
+                omega (arith, S .passed, sum-more G q);
+          }
 
 -- ---- the strip of the next pad
 

@@ -9,13 +9,13 @@ use Rattle.strips.specs.Least.{some}
 use Rattle.strips.specs.Lists.{keep}
 use Rattle.strips.specs.Grid.{Grid, Sol, best}
 use Rattle.strips.specs.Prefix.{lies}
-use Rattle.strips.specs.FirstNext.{Extends, At}
+use Rattle.strips.specs.FirstNext.{Listed, Extends, At}
 use Rattle.strips.specs.ByPlace.{sumTo}
 use Rattle.ways.specs.Tree.{ways, waysAt}
 use Rattle.ways.specs.Count.{mayTake, many, manyAt}
 use Rattle.ways.specs.Place.{AtPlace, HowMany}
 use Rattle.pads.specs.Pads.{Pads}
-use Rattle.totals.specs.Cell.{gridOf, cornerOf, place, Table, Leads}
+use Rattle.totals.specs.Cell.{gridOf, cornerOf, place, FullFrom, Leads, Marks}
 use Rattle.places.specs.Places.{portIn}
 use Rattle.counting.specs.declared.Picked.{Picked}
 use Rattle.counting.specs.declared.Reply.{Reply}
@@ -28,6 +28,10 @@ limit = 1000000000000000000
 -- A number as the code holds it: those above the limit are all told by the first of them.
 abbrev pub capped : ℕ → ℕ
 capped c = min c (limit + 1)
+
+-- What stands where a number is not counted yet.
+abbrev pub notYet : ℕ
+notYet = 4611686018427387904
 
 -- A proper board: 64 pads at most, each listed once, and as many ports.
 pub record ProperBoard (order lo hi : List ℕ) : Type 0 where
@@ -56,6 +60,17 @@ module _ (B : Grid) (order : List ℕ) where
   -- c is the number of their best layouts in it. (From whatever place there is a pad for each port, they are the same pads.)
   pub record StripCount (a b c : ℕ) : Type 0 where
     pub is : (k : ℕ) → k ≤ length order → length (padsFrom a b k) ≡ b - a → c ≡ capped (many B (length order) (padsFrom a b k) a b)
+
+  -- The strip has a layout: the place of its rightmost pad, and the ports that lead it, as a set.
+  pub record Led (a b m : ℕ) : Type 0 where
+    pub head : ℕ
+    pub full : FullFrom B order head a b
+    pub marks : Marks B order head a b m
+
+  -- The board is one that the theory of strips speaks of, and ms has these sets of ports, for each strip that has a layout.
+  pub record Marked (ms : List ℕ) : Type 0 where
+    pub listed : Listed B (length order) order
+    pub led : (a b : ℕ) → a < b → Solved a b → Led a b (getD ms (place a b) 0)
 
   -- How many of them have port q at the rightmost pad, which stands at place r ..
   abbrev pub numberAt : ℕ → ℕ → ℕ → ℕ → ℕ
@@ -140,23 +155,42 @@ module _ (B : Grid) (order : List ℕ) where
   PlaceIs w k v Past = PastIs w k v
   PlaceIs w k v TooMany = AboveIs w v
 
--- The lent buffer has the table's totals, and after them, from base on, a number for each strip: how many best layouts it has, or 0, not counted yet. A strip of
--- no ports has one.
-abbrev pub baseOf : List ℕ → ℕ
-baseOf order = cornerOf (length order + 1)
+-- The lent buffer has a set of ports for each strip, and after these, from base on, a number: how many best layouts the strip has, or that it is not counted
+-- yet. A number is right on every board that the sets mark, ..
+abbrev pub CountOf : List ℕ → ℕ → ℕ → ℕ → ℕ → Type 0
+CountOf ms n a b c = (B : Grid) (order : List ℕ) → length order ≡ n → Marked B order ms → Solved B order a b → StripCount B order a b c
 
-pub record Buffer (order cs bs lo hi hs bf : List ℕ) : Type 0 where
-  pub table : Table order cs bs lo hi hs bf
-  pub room : baseOf order + baseOf order ≤ length bf
-  pub right : (a b : ℕ) → a ≤ b → b ≤ length order → 0 < getD bf (baseOf order + place a b) 0
-      → StripCount (gridOf order cs bs lo hi) order a b (getD bf (baseOf order + place a b) 0)
-  pub empty : (b : ℕ) → b ≤ length order → getD bf (baseOf order + place b b) 0 ≡ 1
+-- .. and to be counted, a strip has a layout on one of them.
+pub record Countable (ms : List ℕ) (n a b : ℕ) : Type 0 where
+  pub board : Grid
+  pub order : List ℕ
+  pub long : length order ≡ n
+  pub marked : Marked board order ms
+  pub solved : Solved board order a b
 
--- The first i numbers are forgotten, and the totals are kept.
+-- Such numbers, of n ports. A strip of no ports has one layout.
+pub record Numbers (n : ℕ) (bf : List ℕ) : Type 0 where
+  pub few : n ≤ 64
+  pub room : cornerOf (n + 1) + cornerOf (n + 1) ≤ length bf
+  pub small : (a b : ℕ) → a ≤ b → b ≤ n → getD bf (cornerOf (n + 1) + place a b) 0 ≤ notYet
+  pub right : (a b : ℕ) → a ≤ b → b ≤ n → getD bf (cornerOf (n + 1) + place a b) 0 < notYet → CountOf bf n a b (getD bf (cornerOf (n + 1) + place a b) 0)
+  pub empty : (b : ℕ) → b ≤ n → getD bf (cornerOf (n + 1) + place b b) 0 ≡ 1
+
+-- The sets of ports are kept.
+pub record SamePorts (n : ℕ) (before after : List ℕ) : Type 0 where
+  pub long : length after ≡ length before
+  pub early : (i : ℕ) → i < cornerOf (n + 1) → getD after i 0 ≡ getD before i 0
+
+-- The sets and the numbers of the board that the lists have.
+pub record Buffer (order cs bs lo hi bf : List ℕ) : Type 0 where
+  pub marked : Marked (gridOf order cs bs lo hi) order bf
+  pub numbers : Numbers (length order) bf
+
+-- The first i numbers are forgotten, and the sets are kept.
 pub record Cleared (base i : ℕ) (before after : List ℕ) : Type 0 where
   pub long : length after ≡ length before
   pub early : (k : ℕ) → k < base → getD after k 0 ≡ getD before k 0
-  pub zeros : (k : ℕ) → k < i → getD after (base + k) 0 ≡ 0
+  pub blank : (k : ℕ) → k < i → getD after (base + k) 0 ≡ notYet
 
 -- The first n strips of no ports have the number 1, and all else is kept.
 pub record EmptyKept (base n : ℕ) (before after : List ℕ) : Type 0 where

@@ -1,15 +1,17 @@
 // How many best layouts there are, and the layout at any place of their order, over plain numbers, for as many ports as pads:
 // `order` has the record numbers, rightmost pad first; `lo` and `hi` say how many ports lie below a pad, and how many at its
-// height or below; `cost` and `bars` have n × n entries, by pad and port; `heads` is the table's.
-// `buffer` is lent. It has the table's totals and, after them, a number for each strip, in the same order: how many best
-// layouts the strip's pads have in it, or 0: not counted yet. A number above 10^18 is told by MOST, the first of them.
+// height or below.
+// `buffer` is lent. It has for each strip, in the table's order, the ports that lead its rightmost pad in a best layout, as a
+// set: binary digit q for port q. After these it has a number for each strip, in the same order: how many best layouts the
+// strip's pads have in it, or NOT_YET. A number above 10^18 is told by MOST, the first of them.
+// `cost` and `bars`, n × n entries by pad and port, are in the contracts alone: the sets say all that is read of them.
 ghost use mathlib.Core.Path.{_≡_};
 ghost use Prim.Native.Nat.{ℕ, _+_, _*_, _≤_, _<_};
 ghost use lib.ListN.{length};
 ghost use Rattle.strips.specs.ByPlace.{sumTo};
-ghost use Rattle.totals.specs.Cell.{gridOf, cornerOf, Table, FullFrom};
+ghost use Rattle.totals.specs.Cell.{gridOf, cornerOf, FullFrom};
 ghost use Rattle.places.specs.Places.{Placed};
-ghost use Rattle.counting.specs.Counting.{limit, capped, ProperBoard, Solvable, Solved, StripCount, Buffer, Cleared, EmptyKept, CountIs};
+ghost use Rattle.counting.specs.Counting.{limit, capped, ProperBoard, Solvable, Solved, Marked, CountOf, Countable, Numbers, SamePorts, Buffer, Cleared, EmptyKept, CountIs};
 ghost use Rattle.counting.specs.Counting.{numberWith, waysFrom, Begun, PickedIs, ChosenIs, Walkable, WalkIs, PlaceIs};
 
 // A port, how many layouts have it after the ports chosen before, and the place among these.
@@ -28,31 +30,29 @@ pub enum Reply {
 
 const MOST: u64 = 1000000000000000001;
 
-// The product, up to MOST: where a factor is large, a quotient tells whether it comes that far, before anything can overflow.
+const NOT_YET: u64 = 4611686018427387904;
+
+// Two numbers that have less than this together are multiplied, and up to 64 products added, without a look at MOST.
+const SMALL: u64 = 400000000;
+
+// A number up to MOST.
+fn told(x: u64) -> u64
+    ensures { λ r. ⌜ r ≡ capped x ⌝ }
+{
+    if x < MOST { x } else { MOST }
+}
+
+// The product, up to MOST: a quotient tells whether it comes that far, before anything can overflow.
 fn times(x: u64, y: u64) -> u64
     ensures { λ r. ⌜ r ≡ capped (x * y) ⌝ }
 {
-    if x < 1000000000 {
-        if y < 1000000000 {
-            return x * y;
-        }
-    }
     if x == 0 {
         return 0;
     }
     if MOST / x < y { MOST } else { x * y }
 }
 
-// The sum of two numbers up to MOST, up to MOST.
-fn plus(x: u64, y: u64) -> u64
-    requires { ⌜ (x ≤ limit + 1) × (y ≤ limit + 1) ⌝ }
-    ensures { λ r. ⌜ r ≡ capped (x + y) ⌝ }
-{
-    let s = x + y;
-    if s < MOST { s } else { MOST }
-}
-
-// Where the numbers of n pads begin in the buffer: after the totals.
+// Where the numbers of n pads begin in the buffer: after the sets.
 fn base_of(n: usize) -> usize
     requires { ⌜ n ≤ 64 ⌝ }
     ensures { λ r. ⌜ (r ≡ cornerOf (n + 1)) × (r ≤ 2145) ⌝ }
@@ -60,96 +60,66 @@ fn base_of(n: usize) -> usize
     totals::corner(n) + n + 1
 }
 
-// Counts the best layouts of the strip a .. b - 1, and keeps the number: with the strip's rightmost pad on a locally best
-// port, they are those of the part below the pad's arm, each with each of those of the part above.
-fn count_strip(
-    heads: &[u8],
-    order: &[u8],
-    cost: &[u32],
-    bars: &[u8],
-    lo: &[u8],
-    hi: &[u8],
-    buffer: &mut [u64],
-    base: usize,
-    a: usize,
-    b: usize,
-) -> u64
-    requires { ⌜ ProperBoard (now order) (now lo) (now hi) × (a < b) × (base ≡ cornerOf (length (now order) + 1)) ⌝ }
-    requires { ⌜ Solved (gridOf (now order) (now cost) (now bars) (now lo) (now hi)) (now order) a b ⌝ }
-    requires { ⌜ Buffer (now order) (now cost) (now bars) (now lo) (now hi) (now heads) (now buffer) ⌝ }
-    ensures { λ c. ⌜ StripCount (gridOf (now (order .entry)) (now (cost .entry)) (now (bars .entry)) (now (lo .entry)) (now (hi .entry)))
-        (now (order .entry)) a b c ⌝ }
-    ensures { λ _. ⌜ Buffer (now (order .entry)) (now (cost .entry)) (now (bars .entry)) (now (lo .entry)) (now (hi .entry)) (now (heads .entry))
-        (now (buffer .exit)) ⌝ }
+// Counts the best layouts of the strip a .. b - 1, and keeps the number: with the strip's rightmost pad on a port that leads
+// it, they are those of the part below the pad's arm, each with each of those of the part above.
+fn count_strip(buffer: &mut [u64], n: usize, base: usize, a: usize, b: usize) -> u64
+    requires { ⌜ Numbers n (now buffer) × (base ≡ cornerOf (n + 1)) × (a < b) ⌝ }
+    requires { ⌜ Countable (now buffer) n a b ⌝ }
+    ensures { λ c. ⌜ CountOf (now (buffer .entry)) n a b c × (c ≤ limit + 1) ⌝ }
+    ensures { λ _. ⌜ Numbers n (now (buffer .exit)) × SamePorts n (now (buffer .entry)) (now (buffer .exit)) ⌝ }
 {
     let i = totals::corner(b) + a;
-    let r = heads[i] as usize - 1;
-    let s = totals::strip_at(heads, buffer, order, cost, bars, lo, hi, r, a, b);
-    let above = base + totals::corner(b);
-    let mut below = totals::corner(a) + a;
-    let mut next = a + 1;
+    let above = base + totals::corner(b) + 1;
+    let mut rest = buffer[i];
     let mut sum: u64 = 0;
-    // as q comes to b, `below` comes to i
-    while below < i {
-        let q = next - 1;
-        if totals::leads(heads, buffer, order, cost, bars, lo, hi, s, q, below) {
-            let mut under = buffer[base + below];
-            if under == 0 {
-                under = count_strip(heads, order, cost, bars, lo, hi, buffer, base, a, q);
+    while rest != 0 {
+        let q = u64::trailing_zeros(rest) as usize;
+        rest = rest & (rest - 1);
+        let mut under = buffer[base + totals::corner(q) + a];
+        let mut over = buffer[above + q];
+        if under + over < SMALL {
+            sum += under * over;
+        } else {
+            if under == NOT_YET {
+                under = count_strip(buffer, n, base, a, q);
             }
-            let mut over = buffer[above + next];
-            if over == 0 {
-                over = count_strip(heads, order, cost, bars, lo, hi, buffer, base, next, b);
+            if over == NOT_YET {
+                over = count_strip(buffer, n, base, q + 1, b);
             }
-            sum = plus(sum, times(under, over));
+            sum = told(told(sum) + times(under, over));
             if sum == MOST {
                 // more layouts change nothing
                 break;
             }
         }
-        below += next;
-        next += 1;
     }
+    sum = told(sum);
     buffer[base + i] = sum;
     sum
 }
 
 // How many best layouts the strip a .. b - 1 has: the number kept for it, or it is counted.
-fn number(
-    heads: &[u8],
-    order: &[u8],
-    cost: &[u32],
-    bars: &[u8],
-    lo: &[u8],
-    hi: &[u8],
-    buffer: &mut [u64],
-    a: usize,
-    b: usize,
-) -> u64
-    requires { ⌜ ProperBoard (now order) (now lo) (now hi) ⌝ }
-    requires { ⌜ Solved (gridOf (now order) (now cost) (now bars) (now lo) (now hi)) (now order) a b ⌝ }
-    requires { ⌜ Buffer (now order) (now cost) (now bars) (now lo) (now hi) (now heads) (now buffer) ⌝ }
-    ensures { λ c. ⌜ StripCount (gridOf (now (order .entry)) (now (cost .entry)) (now (bars .entry)) (now (lo .entry)) (now (hi .entry)))
-        (now (order .entry)) a b c ⌝ }
-    ensures { λ _. ⌜ Buffer (now (order .entry)) (now (cost .entry)) (now (bars .entry)) (now (lo .entry)) (now (hi .entry)) (now (heads .entry))
-        (now (buffer .exit)) ⌝ }
+fn number(buffer: &mut [u64], n: usize, base: usize, a: usize, b: usize) -> u64
+    requires { ⌜ Numbers n (now buffer) × (base ≡ cornerOf (n + 1)) ⌝ }
+    requires { ⌜ Countable (now buffer) n a b ⌝ }
+    ensures { λ c. ⌜ CountOf (now (buffer .entry)) n a b c × (c ≤ limit + 1) ⌝ }
+    ensures { λ _. ⌜ Numbers n (now (buffer .exit)) × SamePorts n (now (buffer .entry)) (now (buffer .exit)) ⌝ }
 {
-    let base = base_of(order.len());
     let k = buffer[base + totals::corner(b) + a];
-    if 0 < k {
+    if k < NOT_YET {
         return k;
     }
-    count_strip(heads, order, cost, bars, lo, hi, buffer, base, a, b)
+    count_strip(buffer, n, base, a, b)
 }
 
-// Forgets the numbers, of as many strips as there are totals, and keeps the totals.
+// Forgets the numbers, of as many strips as there are sets, and keeps the sets.
 fn clear(buffer: &mut [u64], base: usize)
     requires { ⌜ (base ≤ 2145) × (base + base ≤ length (now buffer)) ⌝ }
     ensures { λ _. ⌜ Cleared base base (now (buffer .entry)) (now (buffer .exit)) ⌝ }
 {
     let mut i = 0;
     while i < base {
-        buffer[base + i] = 0;
+        buffer[base + i] = NOT_YET;
         i += 1;
     }
 }
@@ -168,9 +138,8 @@ fn keep_empty(buffer: &mut [u64], base: usize, n: usize)
     }
 }
 
-// The number of best layouts, up to MOST. What the buffer held after the totals is not read.
+// The number of best layouts, up to MOST. What the buffer held after the sets is not read.
 pub fn count(
-    heads: &[u8],
     order: &[u8],
     cost: &[u32],
     bars: &[u8],
@@ -179,28 +148,23 @@ pub fn count(
     buffer: &mut [u64],
 ) -> u64
     requires { ⌜ ProperBoard (now order) (now lo) (now hi) ⌝ }
-    requires { ⌜ Table (now order) (now cost) (now bars) (now lo) (now hi) (now heads) (now buffer) ⌝ }
+    requires { ⌜ Marked (gridOf (now order) (now cost) (now bars) (now lo) (now hi)) (now order) (now buffer) ⌝ }
     requires { ⌜ Solvable (gridOf (now order) (now cost) (now bars) (now lo) (now hi)) (now order) ⌝ }
     requires { ⌜ 2 * ((length (now order) + 2) * (length (now order) + 2)) ≤ length (now buffer) ⌝ }
     ensures { λ c. ⌜ CountIs (gridOf (now (order .entry)) (now (cost .entry)) (now (bars .entry)) (now (lo .entry)) (now (hi .entry)))
         (now (order .entry)) c ⌝ }
-    ensures { λ _. ⌜ Buffer (now (order .entry)) (now (cost .entry)) (now (bars .entry)) (now (lo .entry)) (now (hi .entry)) (now (heads .entry))
-        (now (buffer .exit)) ⌝ }
+    ensures { λ _. ⌜ Buffer (now (order .entry)) (now (cost .entry)) (now (bars .entry)) (now (lo .entry)) (now (hi .entry)) (now (buffer .exit)) ⌝ }
 {
     let n = order.len();
     let base = base_of(n);
     clear(buffer, base);
     keep_empty(buffer, base, n);
-    if n == 0 {
-        return 1;
-    }
-    count_strip(heads, order, cost, bars, lo, hi, buffer, base, 0, n)
+    number(buffer, n, base, 0, n)
 }
 
 // The port of the strip a .. b - 1 on which place k falls, for its rightmost pad, at place m. The ports are gone through in
 // rising order, each with its layouts: those of the strip, each with each of `others` of the rest of the board.
 fn pick(
-    heads: &[u8],
     order: &[u8],
     cost: &[u32],
     bars: &[u8],
@@ -214,20 +178,24 @@ fn pick(
     k: u64,
 ) -> Picked
     requires { ⌜ ProperBoard (now order) (now lo) (now hi) ⌝ }
-    requires { ⌜ Buffer (now order) (now cost) (now bars) (now lo) (now hi) (now heads) (now buffer) ⌝ }
+    requires { ⌜ Buffer (now order) (now cost) (now bars) (now lo) (now hi) (now buffer) ⌝ }
     requires { ⌜ FullFrom (gridOf (now order) (now cost) (now bars) (now lo) (now hi)) (now order) m a b × (0 < others) ⌝ }
+    requires { ⌜ Solved (gridOf (now order) (now cost) (now bars) (now lo) (now hi)) (now order) a b ⌝ }
     requires { ⌜ k < sumTo (numberWith (gridOf (now order) (now cost) (now bars) (now lo) (now hi)) (now order) m a b others) b ⌝ }
     requires { ⌜ sumTo (numberWith (gridOf (now order) (now cost) (now bars) (now lo) (now hi)) (now order) m a b others) b ≤ limit ⌝ }
     ensures { λ r. ⌜ PickedIs (gridOf (now (order .entry)) (now (cost .entry)) (now (bars .entry)) (now (lo .entry)) (now (hi .entry)))
         (now (order .entry)) m a b others k r ⌝ }
-    ensures { λ _. ⌜ Buffer (now (order .entry)) (now (cost .entry)) (now (bars .entry)) (now (lo .entry)) (now (hi .entry)) (now (heads .entry))
-        (now (buffer .exit)) ⌝ }
+    ensures { λ _. ⌜ Buffer (now (order .entry)) (now (cost .entry)) (now (bars .entry)) (now (lo .entry)) (now (hi .entry)) (now (buffer .exit)) ⌝ }
 {
+    let n = order.len();
+    let base = base_of(n);
+    let mut left = buffer[totals::corner(b) + a];
     let mut rest = k;
-    let mut q = totals::next_port(heads, buffer, order, cost, bars, lo, hi, m, a, b, a);
-    while q < b {
-        let under = number(heads, order, cost, bars, lo, hi, buffer, a, q);
-        let over = number(heads, order, cost, bars, lo, hi, buffer, q + 1, b);
+    while left != 0 {
+        let q = u64::trailing_zeros(left) as usize;
+        left = left & (left - 1);
+        let under = number(buffer, n, base, a, q);
+        let over = number(buffer, n, base, q + 1, b);
         let ways = others * (under * over);
         if rest < ways {
             return Picked {
@@ -237,7 +205,6 @@ fn pick(
             };
         }
         rest -= ways;
-        q = totals::next_port(heads, buffer, order, cost, bars, lo, hi, m, a, b, q + 1);
     }
     // never: k is below the sum over all ports
     Picked {
@@ -250,7 +217,6 @@ fn pick(
 // The port on which place k falls, of the `ways` layouts that go on from the ports that w gives to the pads before place m.
 // They are those of the pad's strip, each with each of the rest of the board, so that a quotient has the number of the rest.
 fn choose(
-    heads: &[u8],
     order: &[u8],
     cost: &[u32],
     bars: &[u8],
@@ -264,27 +230,26 @@ fn choose(
     k: u64,
 ) -> Picked
     requires { ⌜ ProperBoard (now order) (now lo) (now hi) ⌝ }
-    requires { ⌜ Buffer (now order) (now cost) (now bars) (now lo) (now hi) (now heads) (now buffer) ⌝ }
+    requires { ⌜ Buffer (now order) (now cost) (now bars) (now lo) (now hi) (now buffer) ⌝ }
     requires { ⌜ (m < length (now order)) × Begun (gridOf (now order) (now cost) (now bars) (now lo) (now hi)) (now order) (now w) m ⌝ }
     requires { ⌜ Placed (now order) (now w) m (now at) × (ways ≡ waysFrom (gridOf (now order) (now cost) (now bars) (now lo) (now hi)) (now order) (now w) m) ⌝ }
     requires { ⌜ (ways ≤ limit) × (k < ways) ⌝ }
     ensures { λ r. ⌜ ChosenIs (gridOf (now (order .entry)) (now (cost .entry)) (now (bars .entry)) (now (lo .entry)) (now (hi .entry)))
         (now (order .entry)) (now (w .entry)) m k r ⌝ }
-    ensures { λ _. ⌜ Buffer (now (order .entry)) (now (cost .entry)) (now (bars .entry)) (now (lo .entry)) (now (hi .entry)) (now (heads .entry))
-        (now (buffer .exit)) ⌝ }
+    ensures { λ _. ⌜ Buffer (now (order .entry)) (now (cost .entry)) (now (bars .entry)) (now (lo .entry)) (now (hi .entry)) (now (buffer .exit)) ⌝ }
 {
+    let n = order.len();
     let j = order[m] as usize;
     let before = m as u8;
     let a = places::low(at, lo[j] as usize, before);
-    let b = places::high(at, hi[j] as usize, before, order.len());
-    let here = number(heads, order, cost, bars, lo, hi, buffer, a, b);
+    let b = places::high(at, hi[j] as usize, before, n);
+    let here = number(buffer, n, base_of(n), a, b);
     let others = ways / here;
-    pick(heads, order, cost, bars, lo, hi, buffer, m, a, b, others, k)
+    pick(order, cost, bars, lo, hi, buffer, m, a, b, others, k)
 }
 
 // The layout at place k of the c best layouts, from the rightmost pad on.
 fn walk(
-    heads: &[u8],
     order: &[u8],
     cost: &[u32],
     bars: &[u8],
@@ -296,7 +261,7 @@ fn walk(
     k: u64,
 )
     requires { ⌜ ProperBoard (now order) (now lo) (now hi) × (length (now order) ≤ length (now out)) ⌝ }
-    requires { ⌜ Buffer (now order) (now cost) (now bars) (now lo) (now hi) (now heads) (now buffer) ⌝ }
+    requires { ⌜ Buffer (now order) (now cost) (now bars) (now lo) (now hi) (now buffer) ⌝ }
     requires { ⌜ Solvable (gridOf (now order) (now cost) (now bars) (now lo) (now hi)) (now order) ⌝ }
     requires { ⌜ Walkable (gridOf (now order) (now cost) (now bars) (now lo) (now hi)) (now order) c k ⌝ }
     ensures { λ _. ⌜ WalkIs (gridOf (now (order .entry)) (now (cost .entry)) (now (bars .entry)) (now (lo .entry)) (now (hi .entry)))
@@ -308,20 +273,7 @@ fn walk(
     let mut m = 0;
     while m < order.len() {
         let j = order[m] as usize;
-        let p = choose(
-            heads,
-            order,
-            cost,
-            bars,
-            lo,
-            hi,
-            buffer,
-            out,
-            &at,
-            m,
-            ways,
-            rest,
-        );
+        let p = choose(order, cost, bars, lo, hi, buffer, out, &at, m, ways, rest);
         let port = p.port;
         out[j] = (port % 65536) as u16;
         at[port] = m as u8;
@@ -331,9 +283,8 @@ fn walk(
     }
 }
 
-// The best layout at place k, counted from 0, without those before it. What the buffer held after the totals is not read.
+// The best layout at place k, counted from 0, without those before it. What the buffer held after the sets is not read.
 pub fn place(
-    heads: &[u8],
     order: &[u8],
     cost: &[u32],
     bars: &[u8],
@@ -344,19 +295,19 @@ pub fn place(
     k: u64,
 ) -> Reply
     requires { ⌜ ProperBoard (now order) (now lo) (now hi) × (length (now order) ≤ length (now out)) ⌝ }
-    requires { ⌜ Table (now order) (now cost) (now bars) (now lo) (now hi) (now heads) (now buffer) ⌝ }
+    requires { ⌜ Marked (gridOf (now order) (now cost) (now bars) (now lo) (now hi)) (now order) (now buffer) ⌝ }
     requires { ⌜ Solvable (gridOf (now order) (now cost) (now bars) (now lo) (now hi)) (now order) ⌝ }
     requires { ⌜ 2 * ((length (now order) + 2) * (length (now order) + 2)) ≤ length (now buffer) ⌝ }
     ensures { λ r. ⌜ PlaceIs (gridOf (now (order .entry)) (now (cost .entry)) (now (bars .entry)) (now (lo .entry)) (now (hi .entry)))
         (now (order .entry)) (now (out .entry)) k (now (out .exit)) r ⌝ }
 {
-    let c = count(heads, order, cost, bars, lo, hi, buffer);
+    let c = count(order, cost, bars, lo, hi, buffer);
     if c == MOST {
         return Reply::TooMany;
     }
     if c <= k {
         return Reply::Past;
     }
-    walk(heads, order, cost, bars, lo, hi, buffer, out, c, k);
+    walk(order, cost, bars, lo, hi, buffer, out, c, k);
     Reply::Found
 }

@@ -73,7 +73,9 @@ fn walk_at(
 {
     board::prepare(Form::Records, job, job, order, lo, hi);
     board::bars::bar(Form::Records, job, job, bars);
-    let least = table::fill(heads, totals, order, figures, bars, lo, hi);
+    // First, Next and Page need no sets of ports, so the list that is lent for them has no length.
+    let mut none = [0u64; 1];
+    let least = table::fill(heads, totals, &mut none[..0], order, figures, bars, lo, hi);
     let n = order.len();
     walks::walk(
         start,

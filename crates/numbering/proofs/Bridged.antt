@@ -9,10 +9,10 @@ use lib.ListN.{length}
 use borrow.Author.Tests.{ltb-true, ltb-false}
 use Rattle.strips.specs.Grid.{Grid, Sol}
 use Rattle.ways.specs.Place.{AtPlace, HowMany}
-use Rattle.totals.specs.Cell.{gridOf, Table}
+use Rattle.totals.specs.Cell.{gridOf}
 use Rattle.counting.specs.declared.Reply.{Reply}
 use Rattle.counting.specs.declared.Reply.the-variants.{Found, Past as NotBelow, TooMany as Above}
-use Rattle.counting.specs.Counting.{ProperBoard, CountIs, PlaceIs}
+use Rattle.counting.specs.Counting.{ProperBoard, Marked, CountIs, PlaceIs}
 use Rattle.counting.specs.Counting as counting
 use Rattle.choices.specs.Source.{Source, source, gridOn, full-grid}
 use Rattle.steps.specs.Steps.{Solvable}
@@ -31,17 +31,23 @@ use Rattle.numbering.specs.declared.Outcome.{Outcome}
 use Rattle.numbering.specs.declared.Outcome.the-variants.{Told, Not}
 use Rattle.numbering.specs.Outcomes.{Stacked, LentOn, ofCount, ofReply, CountOn, PlaceOn}
 
-module _ (b : Board) {cs bs order lo hi hs ts : List ℕ} {t : ℕ} (even : b .ports ≡ b .pads) (K : Stacked b cs bs order lo hi hs ts t) where
+module _ (b : Board) {cs bs order lo hi : List ℕ} {t : ℕ} (even : b .ports ≡ b .pads) (K : Stacked b cs bs order lo hi t) where
   abbrev p : Problem
   p = labeling b (figure b cs)
 
   abbrev T : Source
-  T = source hs ts cs bs (length order)
+  T = source (K .heads) (K .totals) cs bs (length order)
+
+  pub many-pads : length order ≡ b .pads
+  many-pads = K .lists .listed .arranged .long
+
+  pub proper-lists : ProperBoard order lo hi
+  proper-lists = record { pads = even-pads (K .lists) even; arranged = rw many-pads (K .lists .listed .arranged) }
 
   costs : CostsOn b (figure b cs) T
   costs = stacked-costs b (K .lists) even (K .bars) (K .table)
 
-  some-heads : length hs ≡ 0 → ⊥
+  some-heads : length (K .heads) ≡ 0 → ⊥
   some-heads e = omega (arith, K .table .sizes .heads)
 
   -- The board of the table is that of the search.
@@ -87,28 +93,28 @@ module _ (b : Board) {cs bs order lo hi hs ts : List ℕ} {t : ℕ} (even : b .p
   pub value-is : (w : List ℕ) → Best p (held w) → t ≡ p .value (held w)
   value-is w s = says b (K .lists) costs .least t (stacked-least b (K .lists) even (K .bars) (K .table) t (K .least)) w s
 
--- ---- the search over a buffer that has the table
+-- ---- the search over a buffer that has the ports of each strip
 
-module _ (b : Board) (even : b .ports ≡ b .pads) (cs bs order lo hi hs lent left : List ℕ) {r : Outcome} (M : LentOn b cs bs order lo hi hs lent left r) {t : ℕ} (e : r ≡ Told t) where
-  L : LentOn b cs bs order lo hi hs lent left (Told t)
-  L = subst (LentOn b cs bs order lo hi hs lent left) e M
+module _ (b : Board) (even : b .ports ≡ b .pads) (cs bs order lo hi lent left : List ℕ) {r : Outcome} (M : LentOn b cs bs order lo hi lent left r) {t : ℕ} (e : r ≡ Told t) where
+  L : LentOn b cs bs order lo hi lent left (Told t)
+  L = subst (LentOn b cs bs order lo hi lent left) e M
 
-  K : Stacked b cs bs order lo hi hs left t
+  K : Stacked b cs bs order lo hi t
   K = L .2
 
   -- what counting asks for
   abbrev Countable : Type 0
-  Countable = Table order cs bs lo hi hs left × (counting.Solvable (gridOf order cs bs lo hi) order × (2 * ((length order + 2) * (length order + 2)) ≤ length left))
+  Countable = Marked (gridOf order cs bs lo hi) order left × (counting.Solvable (gridOf order cs bs lo hi) order × (2 * ((length order + 2) * (length order + 2)) ≤ length left))
 
   pub same-n : length order ≡ b .pads
-  same-n = K .lists .listed .arranged .long
+  same-n = many-pads b even K
 
   pub proper-board : ProperBoard order lo hi
-  proper-board = record { pads = even-pads (K .lists) even; arranged = rw same-n (K .lists .listed .arranged) }
+  proper-board = proper-lists b even K
 
   pub countable : Countable
   countable =
-      (K .table, (subst (λ (B : Grid). counting.Solvable B order) (grid b even K) (solvable b even K (L .3)), rw same-n (omega (arith, L .0 .enough, L .1))))
+      (L .3, (subst (λ (B : Grid). counting.Solvable B order) (grid b even K) (solvable b even K (L .4)), rw same-n (omega (arith, L .0 .enough, L .1))))
 
   -- COUNT, in the paper's words, whatever the buffer then has
   pub counted : (used : List ℕ) (c : ℕ) → CountIs (gridOf order cs bs lo hi) order c → CountOn (labeling b (figure b cs)) lent used (ofCount c)
@@ -134,14 +140,14 @@ module _ (b : Board) (even : b .ports ≡ b .pads) (cs bs order lo hi hs lent le
   placed k before after used Above F = (L .0, (F .number, count-is b even K (F .number) (F .is), F .above), F .same)
 
 -- Where nothing is lent, nothing is told.
-module _ (b : Board) (cs bs order lo hi hs lent left : List ℕ) {r : Outcome} (M : LentOn b cs bs order lo hi hs lent left r) (w : Why) (e : r ≡ Not w) where
-  N : LentOn b cs bs order lo hi hs lent left (Not w)
-  N = subst (LentOn b cs bs order lo hi hs lent left) e M
+module _ (b : Board) (cs bs order lo hi lent left : List ℕ) {r : Outcome} (M : LentOn b cs bs order lo hi lent left r) (w : Why) (e : r ≡ Not w) where
+  N : LentOn b cs bs order lo hi lent left (Not w)
+  N = subst (LentOn b cs bs order lo hi lent left) e M
 
   pub not-counted : CountOn (labeling b (figure b cs)) lent left (Not w)
   not-counted = go w N
     where
-      go : (w : Why) → LentOn b cs bs order lo hi hs lent left (Not w) → CountOn (labeling b (figure b cs)) lent left (Not w)
+      go : (w : Why) → LentOn b cs bs order lo hi lent left (Not w) → CountOn (labeling b (figure b cs)) lent left (Not w)
       go NothingCounts l = l
       go Short l = l
       go TooMany l = absurd l
@@ -150,7 +156,7 @@ module _ (b : Board) (cs bs order lo hi hs lent left : List ℕ) {r : Outcome} (
   pub not-placed : (k : ℕ) (list : List ℕ) → PlaceOn (labeling b (figure b cs)) k list list lent left (Not w)
   not-placed k list = go w N
     where
-      go : (w : Why) → LentOn b cs bs order lo hi hs lent left (Not w) → PlaceOn (labeling b (figure b cs)) k list list lent left (Not w)
+      go : (w : Why) → LentOn b cs bs order lo hi lent left (Not w) → PlaceOn (labeling b (figure b cs)) k list list lent left (Not w)
       go NothingCounts l = (l .0, refl, l .1)
       go Short l = (l .0, refl, l .1)
       go TooMany l = absurd l

@@ -12,7 +12,8 @@ use Rattle.paper.specs.Refusals as refusals
 use Rattle.paper.specs.Promises.{Kept}
 use Rattle.counting.specs.declared.Reply.{Reply}
 use Rattle.counting.specs.declared.Reply.the-variants.{Found, Past as NotBelow, TooMany as Above}
-use Rattle.totals.specs.Cell.{Table, leastOf}
+use Rattle.counting.specs.Counting.{Marked}
+use Rattle.totals.specs.Cell.{gridOf, Table, leastOf}
 use Rattle.board.specs.Lists.{ListsOf}
 use Rattle.board.specs.Bars.{BarsOf}
 use Rattle.numbering.specs.declared.Asked.{Asked}
@@ -31,21 +32,25 @@ pub record Numerable (p : Problem) (numbers : ℕ) : Type 0 where
 abbrev pub TooShort : Problem → ℕ → Type 0
 TooShort p numbers = ((f : ℕ → ℕ) × p .Counts f) × (numbers < bufferNeeded (p .board .pads))
 
--- The lists of a board, its bars and the table of least totals by the figures cs: t is the least of all.
-pub record Stacked (b : Board) (cs bs order lo hi hs ts : List ℕ) (t : ℕ) : Type 0 where
+-- The lists of a board, its bars, and some table of least totals by the figures cs: t is the least of all.
+pub record Stacked (b : Board) (cs bs order lo hi : List ℕ) (t : ℕ) : Type 0 where
   pub lists : ListsOf b order lo hi
   pub bars : BarsOf b bs
-  pub table : Table order cs bs lo hi hs ts
+  pub heads : List ℕ
+  pub totals : List ℕ
+  pub table : Table order cs bs lo hi heads totals
   pub least : t ≡ leastOf order cs bs lo hi
 
--- What lending the table to the buffer comes to: its totals stand there, t is the least; or there is no table to lend, or no room, and the buffer is as it was.
-abbrev pub LentOn : Board → (cs bs order lo hi hs lent left : List ℕ) → Outcome → Type 0
-LentOn b cs bs order lo hi hs lent left (Told t) =
-    Numerable (labeling b (figure b cs)) (length lent) × (length left ≡ length lent) × Stacked b cs bs order lo hi hs left t × (t < 2 ^ 62)
-LentOn b cs bs order lo hi hs lent left (Not NothingCounts) = NoLayout (labeling b (figure b cs)) × (left ≡ lent)
-LentOn b cs bs order lo hi hs lent left (Not Short) = TooShort (labeling b (figure b cs)) (length lent) × (left ≡ lent)
-LentOn b cs bs order lo hi hs lent left (Not TooMany) = ⊥
-LentOn b cs bs order lo hi hs lent left (Not Past) = ⊥
+-- What lending to the buffer comes to: the ports that lead each strip stand there, t is the least total; or there is no layout, or no room, and the buffer is as it
+-- was.
+abbrev pub LentOn : Board → (cs bs order lo hi lent left : List ℕ) → Outcome → Type 0
+LentOn b cs bs order lo hi lent left (Told t) =
+    Numerable (labeling b (figure b cs)) (length lent) × (length left ≡ length lent) × Stacked b cs bs order lo hi t × Marked (gridOf order cs bs lo hi) order left
+    × (t < 2 ^ 62)
+LentOn b cs bs order lo hi lent left (Not NothingCounts) = NoLayout (labeling b (figure b cs)) × (left ≡ lent)
+LentOn b cs bs order lo hi lent left (Not Short) = TooShort (labeling b (figure b cs)) (length lent) × (left ≡ lent)
+LentOn b cs bs order lo hi lent left (Not TooMany) = ⊥
+LentOn b cs bs order lo hi lent left (Not Past) = ⊥
 
 -- what a count comes to, and what asking for a place
 abbrev pub ofCount : ℕ → Outcome

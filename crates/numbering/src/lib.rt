@@ -1,5 +1,5 @@
 // How many best layouts a job that has passed the checks has, and the layout at a place of their order, by a table of what each pad costs with
-// each port. The buffer that is lent has the table's totals and the counts of its strips: nothing that it held is read.
+// each port. The buffer that is lent has the ports that lead each strip, and the strips' counts: nothing that it held is read.
 use counting::Reply;
 use paper::Form;
 ghost use mathlib.Core.Path.{_≡_};
@@ -52,29 +52,39 @@ fn copy(from: &[u64], n: usize, to: &mut [u64])
     }
 }
 
-// The lists of the board, its bars and the table of least totals, in the buffer, with the least of all. Where there is no
-// layout, or the buffer is too short, that is told, and the buffer is as it was: the totals are worked out in room of its
-// own, which is given back before the counting goes deep.
+// The lists of the board, its bars, and in the buffer the ports that lead each strip, with the least total of all. Where there
+// is no layout, or the buffer is too short, that is told, and the buffer is as it was: the table of least totals and these
+// ports are worked out in room of its own, which is given back before the counting goes deep.
 fn lend(
     job: &[u8],
     figures: &[u32],
     order: &mut [u8],
     lo: &mut [u8],
     hi: &mut [u8],
-    heads: &mut [u8],
     bars: &mut [u8],
     buffer: &mut [u64],
 ) -> Outcome
     requires { ⌜ AcceptedJob (records (now job)) × Fair (boardOf (records (now job))) (byTable (now figures)) ⌝ }
-    requires { ⌜ RoomFor (count (now job)) (now order) (now lo) (now hi) × (length (now heads) ≡ 2145) ⌝ }
+    requires { ⌜ RoomFor (count (now job)) (now order) (now lo) (now hi) ⌝ }
     requires { ⌜ (length (now bars) ≡ count (now job) * count (now job)) × Clear (now bars) ⌝ }
     ensures { λ r. ⌜ LentOn (boardOf (records (now (job .entry)))) (now (figures .entry)) (now (bars .exit)) (now (order .exit)) (now (lo .exit)) (now (hi .exit))
-        (now (heads .exit)) (now (buffer .entry)) (now (buffer .exit)) r ⌝ }
+        (now (buffer .entry)) (now (buffer .exit)) r ⌝ }
 {
+    let mut heads = [0u8; 2145];
     let mut totals = [0u64; 2145];
+    let mut ports = [0u64; 2145];
     board::prepare(Form::Records, job, job, order, lo, hi);
     board::bars::bar(Form::Records, job, job, bars);
-    let least = table::fill(heads, &mut totals, order, figures, bars, lo, hi);
+    let least = table::fill(
+        &mut heads,
+        &mut totals,
+        &mut ports,
+        order,
+        figures,
+        bars,
+        lo,
+        hi,
+    );
     let n = order.len();
     if NONE <= least {
         return Outcome::Not(Why::NoLayout);
@@ -82,7 +92,7 @@ fn lend(
     if faults::short_buffer(n, buffer.len()) {
         return Outcome::Not(Why::Short);
     }
-    copy(&totals, totals::corner(n) + n + 1, buffer);
+    copy(&ports, totals::corner(n) + n + 1, buffer);
     Outcome::Told(least)
 }
 
@@ -108,25 +118,24 @@ fn of_reply(r: Reply, t: u64) -> Outcome
     }
 }
 
-// Counts, with lists lent for those of the board and for the heads of its table; that of the bars has zeros.
+// Counts, with lists lent for those of the board; that of the bars has zeros.
 fn count_at(
     job: &[u8],
     figures: &[u32],
     order: &mut [u8],
     lo: &mut [u8],
     hi: &mut [u8],
-    heads: &mut [u8],
     bars: &mut [u8],
     buffer: &mut [u64],
 ) -> Outcome
     requires { ⌜ AcceptedJob (records (now job)) × Fair (boardOf (records (now job))) (byTable (now figures)) ⌝ }
-    requires { ⌜ RoomFor (count (now job)) (now order) (now lo) (now hi) × (length (now heads) ≡ 2145) ⌝ }
+    requires { ⌜ RoomFor (count (now job)) (now order) (now lo) (now hi) ⌝ }
     requires { ⌜ (length (now bars) ≡ count (now job) * count (now job)) × Clear (now bars) ⌝ }
     ensures { λ r. ⌜ CountOn (labelingOf (records (now (job .entry))) (byTable (now (figures .entry)))) (now (buffer .entry)) (now (buffer .exit)) r ⌝ }
 {
-    let l = lend(job, figures, order, lo, hi, heads, bars, buffer);
+    let l = lend(job, figures, order, lo, hi, bars, buffer);
     match l {
-        Outcome::Told(_) => of_count(counting::count(heads, order, figures, bars, lo, hi, buffer)),
+        Outcome::Told(_) => of_count(counting::count(order, figures, bars, lo, hi, buffer)),
         Outcome::Not(w) => Outcome::Not(w),
     }
 }
@@ -138,22 +147,21 @@ fn place_at(
     order: &mut [u8],
     lo: &mut [u8],
     hi: &mut [u8],
-    heads: &mut [u8],
     bars: &mut [u8],
     buffer: &mut [u64],
     layout: &mut [u16],
     k: u64,
 ) -> Outcome
     requires { ⌜ AcceptedJob (records (now job)) × Fair (boardOf (records (now job))) (byTable (now figures)) × (count (now job) ≤ length (now layout)) ⌝ }
-    requires { ⌜ RoomFor (count (now job)) (now order) (now lo) (now hi) × (length (now heads) ≡ 2145) ⌝ }
+    requires { ⌜ RoomFor (count (now job)) (now order) (now lo) (now hi) ⌝ }
     requires { ⌜ (length (now bars) ≡ count (now job) * count (now job)) × Clear (now bars) ⌝ }
     ensures { λ r. ⌜ PlaceOn (labelingOf (records (now (job .entry))) (byTable (now (figures .entry)))) k (now (layout .entry)) (now (layout .exit))
         (now (buffer .entry)) (now (buffer .exit)) r ⌝ }
 {
-    let l = lend(job, figures, order, lo, hi, heads, bars, buffer);
+    let l = lend(job, figures, order, lo, hi, bars, buffer);
     match l {
         Outcome::Told(t) => of_reply(
-            counting::place(heads, order, figures, bars, lo, hi, buffer, layout, k),
+            counting::place(order, figures, bars, lo, hi, buffer, layout, k),
             t,
         ),
         Outcome::Not(w) => Outcome::Not(w),
@@ -168,20 +176,19 @@ fn ask_at(
     order: &mut [u8],
     lo: &mut [u8],
     hi: &mut [u8],
-    heads: &mut [u8],
     bars: &mut [u8],
     buffer: &mut [u64],
     layout: &mut [u16],
 ) -> Outcome
     requires { ⌜ AcceptedJob (records (now job)) × Fair (boardOf (records (now job))) (byTable (now figures)) × HasRoom asked (count (now job)) (now layout) ⌝ }
-    requires { ⌜ RoomFor (count (now job)) (now order) (now lo) (now hi) × (length (now heads) ≡ 2145) ⌝ }
+    requires { ⌜ RoomFor (count (now job)) (now order) (now lo) (now hi) ⌝ }
     requires { ⌜ (length (now bars) ≡ count (now job) * count (now job)) × Clear (now bars) ⌝ }
     ensures { λ r. ⌜ AskedOn (labelingOf (records (now (job .entry))) (byTable (now (figures .entry)))) asked (now (layout .entry)) (now (layout .exit))
         (now (buffer .entry)) (now (buffer .exit)) r ⌝ }
 {
     match asked {
-        Asked::Count => count_at(job, figures, order, lo, hi, heads, bars, buffer),
-        Asked::Place(k) => place_at(job, figures, order, lo, hi, heads, bars, buffer, layout, k),
+        Asked::Count => count_at(job, figures, order, lo, hi, bars, buffer),
+        Asked::Place(k) => place_at(job, figures, order, lo, hi, bars, buffer, layout, k),
     }
 }
 
@@ -201,7 +208,6 @@ pub fn ask(
     let mut order = [0u8; 64];
     let mut lo = [0u8; 64];
     let mut hi = [0u8; 64];
-    let mut heads = [0u8; 2145];
     let mut bars = [0u8; 4096];
     ask_at(
         asked,
@@ -210,7 +216,6 @@ pub fn ask(
         &mut order[..n],
         &mut lo[..n],
         &mut hi[..n],
-        &mut heads,
         &mut bars[..n * n],
         buffer,
         layout,

@@ -1,18 +1,21 @@
 -- Laws of a row of the tables while it is filled.
 use mathlib.Core.Path.{_≡_, refl, sym, ap, _∙_, subst}
 use mathlib.Core.Logic.{⊎-elim, _≢_}
-use mathlib.Core.Bool.{Bool}
+use mathlib.Core.Bool.{Bool, true, false, cond}
 use Rattle.strips.specs.Least.{Least}
 use mathlib.Core.List.{List, [], _∷_}
-use Prim.Native.Nat.{ℕ, _+_, _≤_, _<_, zero-le}
+use Prim.Native.Nat.{ℕ, _+_, _-_, _≤_, _<_, zero-le}
 use native.Mathlib.Omega.{arith}
+use lib.Dec.{eqb}
 use lib.ListN.{length, getD, set, length-set}
 use lib.Seq.{getD-set-same, getD-set-other}
+use borrow.Author.Tests.{eqb-false}
 use Rattle.strips.specs.Lists.{keep-same}
+use Rattle.strips.specs.Grid.{Grid}
 use Rattle.strips.specs.Grid as strip
 use Rattle.pads.specs.Pads.{Sides, fits, bit, padsIn, sidesOf, Pads}
 use Rattle.totals.specs.Strip.{bestWithin}
-use Rattle.totals.specs.Cell.{figures, gridOf, cornerOf, place, coded, Sizes, Cell, Rows, Parts, CopiedRow, Table}
+use Rattle.totals.specs.Cell.{noTotal, figures, gridOf, cornerOf, place, coded, Sizes, Cell, Rows, Parts, CopiedRow, Table, Marks, MarkedFrom}
 use Rattle.pads.specs.Counts.{le-or-lt, spans-by}
 use Rattle.totals.proofs.Corners.{corner-mono, corner-top, place-listed, place-start, place-end}
 use Rattle.totals.proofs.Cells.{cell-right}
@@ -88,6 +91,73 @@ copied-step rh rt hs ts a b h v p e ab b64 lh lt K = record {
     same-after rt ts a b v p q e (K .totals) lt ab b64 u w (λ x. K .same q u x .1),
   );
 }
+
+-- ---- the ports of each strip
+
+-- ms got m at the place p, as far as it goes
+pub record Noted (ms ms′ : List ℕ) (p m : ℕ) : Type 0 where
+  pub long : length ms′ ≡ length ms
+  pub here : p < length ms → getD ms′ p 0 ≡ m
+  pub other : (i : ℕ) → i ≢ p → getD ms′ i 0 ≡ getD ms i 0
+
+pub noted : (ms : List ℕ) (p m : ℕ) → Noted ms (set ms p m) p m
+noted ms p m = record { long = length-set ms p m; here = λ h. getD-set-same ms p m 0 h; other = λ i ne. getD-set-other ms p i m 0 ne }
+
+pub passed-by : (ms : List ℕ) (p m : ℕ) → length ms ≤ p → Noted ms ms p m
+passed-by ms p m h = record { long = refl; here = λ l. absurd (omega arith); other = λ i ne. refl }
+
+-- the head is stored only where there is a layout
+pub kept-marks : (B : Grid) (order : List ℕ) (a b h v m k : ℕ) → k ≡ cond (eqb v noTotal) 0 h → ((v ≡ noTotal → ⊥) → a < b → Marks B order (h - 1) a b m)
+    → a < b → 0 < k → Marks B order (k - 1) a b m
+kept-marks B order a b h v m k e marks ab = rw e (go (eqb v noTotal) refl)
+  where
+    go : (x : Bool) → eqb v noTotal ≡ x → 0 < cond x 0 h → Marks B order (cond x 0 h - 1) a b m
+    go true f u = absurd (omega arith)
+    go false f u = marks (eqb-false v noTotal f) ab
+
+module _ (order cs bs lo hi : List ℕ) where
+  abbrev B : Grid
+  B = gridOf order cs bs lo hi
+
+  -- the rows after a are marked, and the row of a is before b
+  pub record MarkedRow (hs ms : List ℕ) (a b : ℕ) : Type 0 where
+    pub after : MarkedFrom order cs bs lo hi hs ms (a + 1)
+    pub done : (b′ : ℕ) → a < b′ → b′ < b → place a b′ < length ms → 0 < getD hs (place a b′) 0
+        → Marks B order (getD hs (place a b′) 0 - 1) a b′ (getD ms (place a b′) 0)
+
+  pub marked-start : (hs ms : List ℕ) (a : ℕ) → MarkedFrom order cs bs lo hi hs ms (a + 1) → MarkedRow hs ms a a
+  marked-start hs ms a R = record { after = R; done = λ b′ u v. absurd (omega arith) }
+
+  -- a strip elsewhere is as it was
+  marks-kept : (hs ms ms′ : List ℕ) (p h m a b : ℕ) → place a b ≢ p → Noted ms ms′ p m
+      → (place a b < length ms → 0 < getD hs (place a b) 0 → Marks B order (getD hs (place a b) 0 - 1) a b (getD ms (place a b) 0))
+      → place a b < length ms′ → 0 < getD (set hs p h) (place a b) 0 → Marks B order (getD (set hs p h) (place a b) 0 - 1) a b (getD ms′ (place a b) 0)
+  marks-kept hs ms ms′ p h m a b ne N was = rw (getD-set-other hs p (place a b) h 0 ne, N .other (place a b) ne, N .long) was
+
+  pub marked-step : (hs ms ms′ : List ℕ) (a b h m p : ℕ) → p ≡ place a b → length order ≤ 64 → a ≤ b → b ≤ length order → length hs ≡ 2145 → Noted ms ms′ p m
+      → (a < b → 0 < h → Marks B order (h - 1) a b m) → MarkedRow hs ms a b → MarkedRow (set hs p h) ms′ a (b + 1)
+  marked-step hs ms ms′ a b h m p e few ab bn lh N marks R = record {
+    after = λ a′ b′ u w x. marks-kept hs ms ms′ p h m a′ b′ (λ f. let s = place-start a′ b′ a b (omega arith) ab (f ∙ e) in absurd (omega arith)) N (R .after a′ b′ u w x);
+    done = λ b′ u w. ⊎-elim
+        (λ (x : b ≤ b′). let f : b ≡ b′ = omega arith in
+        subst (λ (k : ℕ). place a k < length ms′ → 0 < getD (set hs p h) (place a k) 0 → Marks B order (getD (set hs p h) (place a k) 0 - 1) a k (getD ms′ (place a k) 0)) f
+        (here (omega arith)))
+        (λ (x : b′ < b). marks-kept hs ms ms′ p h m a b′ (λ f. let s = place-end a b′ a b (omega arith) ab (f ∙ e) in absurd (omega arith)) N (R .done b′ u x))
+        (le-or-lt b b′);
+  }
+    where
+      here : a < b → place a b < length ms′ → 0 < getD (set hs p h) (place a b) 0 → Marks B order (getD (set hs p h) (place a b) 0 - 1) a b (getD ms′ (place a b) 0)
+      here u l = let t = corner-top b (omega arith) in
+          rw (sym e, getD-set-same hs p h 0 (omega arith), N .here (omega (arith, N .long))) (λ w. marks u w)
+
+  pub marked-end : (hs ms : List ℕ) (a b : ℕ) → length order < b → MarkedRow hs ms a b → MarkedFrom order cs bs lo hi hs ms a
+  marked-end hs ms a b h R a′ b′ u v w =
+      ⊎-elim
+      (λ (x : a′ ≤ a). let e : a ≡ a′ = omega arith in
+      subst (λ (k : ℕ). place k b′ < length ms → 0 < getD hs (place k b′) 0 → Marks B order (getD hs (place k b′) 0 - 1) k b′ (getD ms (place k b′) 0)) e
+      (R .done b′ (omega arith) (omega arith)))
+      (λ (x : a < a′). R .after a′ b′ (omega arith) v w)
+      (le-or-lt a′ a)
 
 -- ---- the whole board
 

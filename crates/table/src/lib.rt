@@ -1,11 +1,12 @@
 // The table of best totals of all strips, for as many ports as pads (at most 64): `heads` and `totals`, as the crate `totals`
-// reads them.
+// reads them. At a strip's place `ports` gets the ports that lead its rightmost pad in a best layout, binary digit q for port q, as
+// far as that list goes: it may have any length, and a caller that needs no ports lends one of no length.
 ghost use mathlib.Core.Path.{_≡_};
 ghost use Prim.Native.Nat.{_+_, _*_, _≤_};
 ghost use lib.ListN.{length};
 ghost use Rattle.pads.specs.Pads.{sidesOf, Pads};
 ghost use Rattle.heads.specs.Heads.{Tallies, Rooms};
-ghost use Rattle.totals.specs.Cell.{Sizes, RowsOf, Table, leastOf};
+ghost use Rattle.totals.specs.Cell.{Sizes, RowsOf, Table, leastOf, MarkedFrom};
 
 // Fills the row of the strips that start at a, when those that start above a are right.
 fn fill_row(
@@ -13,6 +14,7 @@ fn fill_row(
     sums: &mut [u64],
     heads: &mut [u8],
     totals: &mut [u64],
+    ports: &mut [u64],
     at: &mut [u8],
     seen: &mut [u8],
     all: &[u8],
@@ -29,15 +31,18 @@ fn fill_row(
     requires { ⌜ (length (now lows) ≡ 65) × (length (now sums) ≡ 65) × (a ≤ length (now order)) ⌝ }
     requires { ⌜ Tallies (sidesOf (now lo) (now hi)) (now order) (now at) (now seen) (now all) a ⌝ }
     requires { ⌜ RowsOf (now order) (now cost) (now bars) (now lo) (now hi) (now heads) (now totals) (a + 1) ⌝ }
+    requires { ⌜ MarkedFrom (now order) (now cost) (now bars) (now lo) (now hi) (now heads) (now ports) (a + 1) ⌝ }
     ensures { λ _. ⌜ Tallies (sidesOf (now (lo .entry)) (now (hi .entry))) (now (order .entry)) (now (at .exit)) (now (seen .exit)) (now (all .entry)) a ⌝ }
     ensures { λ _. ⌜ RowsOf (now (order .entry)) (now (cost .entry)) (now (bars .entry)) (now (lo .entry)) (now (hi .entry)) (now (heads .exit))
         (now (totals .exit)) a ⌝ }
+    ensures { λ _. ⌜ MarkedFrom (now (order .entry)) (now (cost .entry)) (now (bars .entry)) (now (lo .entry)) (now (hi .entry)) (now (heads .exit))
+        (now (ports .exit)) a ⌝ }
 {
     let n = order.len();
     let mut b = a;
     while b <= n {
         let h = heads::head(at, seen, all, order, lo, hi, a, b);
-        let v = totals::strip_total(
+        let w = totals::strip_best(
             lows,
             sums,
             heads,
@@ -51,7 +56,11 @@ fn fill_row(
             b,
             h,
         );
+        let v = w.total;
         let i = totals::corner(b) + a;
+        if i < ports.len() {
+            ports[i] = w.ports;
+        }
         let k = totals::kept(h, v) as u8;
         heads[i] = k;
         totals[i] = v;
@@ -61,10 +70,11 @@ fn fill_row(
     }
 }
 
-// Fills both tables, from the last row to the first, and answers the best total of all, or NONE.
+// Fills the tables, from the last row to the first, and answers the best total of all, or NONE.
 pub fn fill(
     heads: &mut [u8],
     totals: &mut [u64],
+    ports: &mut [u64],
     order: &[u8],
     cost: &[u32],
     bars: &[u8],
@@ -75,6 +85,8 @@ pub fn fill(
     requires { ⌜ (length (now heads) ≡ 2145) × (length (now totals) ≡ 2145) × (length (now cost) ≡ length (now order) * length (now order))
         × (length (now bars) ≡ length (now order) * length (now order)) ⌝ }
     ensures { λ _. ⌜ Table (now (order .entry)) (now (cost .entry)) (now (bars .entry)) (now (lo .entry)) (now (hi .entry)) (now (heads .exit)) (now (totals .exit)) ⌝ }
+    ensures { λ _. ⌜ MarkedFrom (now (order .entry)) (now (cost .entry)) (now (bars .entry)) (now (lo .entry)) (now (hi .entry)) (now (heads .exit))
+        (now (ports .exit)) 0 ⌝ }
     ensures { λ v. ⌜ v ≡ leastOf (now (order .entry)) (now (cost .entry)) (now (bars .entry)) (now (lo .entry)) (now (hi .entry)) ⌝ }
 {
     let mut at = [0u8; 65];
@@ -91,6 +103,7 @@ pub fn fill(
             &mut sums,
             heads,
             totals,
+            ports,
             &mut at,
             &mut seen,
             &all,

@@ -164,6 +164,14 @@ module _ {hs ts order cs bs lo hi : List ℕ} (P : Pads order lo hi (length orde
       sym (ap coded (no-below (sidesOf lo hi) (figures cs bs (length order)) (P .level) (figures-cheap Z) order r a b q (T .listed) b64 aq qb (T .rest)
       h-below x-below (D q aq qb .0) h-above x-above (D q aq qb .1) (getD order r 0) (ltb-false (r + 1) h-below u)))
 
+  -- the least so far, and one port more
+  pub least-step : (v : ℕ) → v ≡ coded (least (choice order cs bs lo hi r a b) a (q - a))
+      → min v (coded (choice order cs bs lo hi r a b q)) ≡ coded (least (choice order cs bs lo hi r a b) a (q + 1 - a))
+  least-step v e =
+      ap (λ (k : ℕ). min k (coded (choice order cs bs lo hi r a b q))) e
+      ∙ coded-least ((1 + padsIn (sidesOf lo hi) a b (drop (r + 1) order)) * 2 ^ 32) (choice order cs bs lo hi r a b) a q (omega (arith, T .rest, T .ports, P .few)) aq
+      (λ i u v. local-most (sidesOf lo hi) (figures cs bs (length order)) (P .level) (figures-cheap Z) (getD order r 0) (drop (r + 1) order) a b i u (omega arith))
+
   module _ {hb tb : List ℕ} (below above : ℕ) (L : Lower hb tb hs ts a q below) (ea : above ≡ place (q + 1) b) where
     -- what the code adds up for a port is the total with the pad on it
     pub port-right : portTotal hb tb hs ts cs bs (r + 1) row q below above ≡ coded (choice order cs bs lo hi r a b q)
@@ -182,18 +190,10 @@ module _ {hs ts order cs bs lo hi : List ℕ} (P : Pads order lo hi (length orde
           h-below x-below (D q aq qb .0) h-above x-above (D q aq qb .1) (getD order r 0) u v);
     }
 
-    -- the least so far, and one port more
-    pub least-step : (v w : ℕ) → v ≡ coded (least (choice order cs bs lo hi r a b) a (q - a)) → w ≡ min v (portTotal hb tb hs ts cs bs (r + 1) row q below above)
-        → w ≡ coded (least (choice order cs bs lo hi r a b) a (q + 1 - a))
-    least-step v w e f =
-        f ∙ ap₂ min e port-right
-        ∙ coded-least ((1 + padsIn (sidesOf lo hi) a b (drop (r + 1) order)) * 2 ^ 32) (choice order cs bs lo hi r a b) a q (omega (arith, T .rest, T .ports, P .few)) aq
-        (λ i u v. local-most (sidesOf lo hi) (figures cs bs (length order)) (P .level) (figures-cheap Z) (getD order r 0) (drop (r + 1) order) a b i u (omega arith))
-
 -- ---- a strip's cell
 
 module _ (S : Sides) (order : List ℕ) (a b h : ℕ) (H : Head S order a b h) (some-head : h ≡ 0 → ⊥) (ab : a < b) where
-  head-listed : h - 1 < length order
+  pub head-listed : h - 1 < length order
   head-listed =
       ⊎-elim
       (λ (u : length order ≤ h - 1).
@@ -203,7 +203,7 @@ module _ (S : Sides) (order : List ℕ) (a b h : ℕ) (H : Head S order a b h) (
       (λ (u : h - 1 < length order). u)
       (le-or-lt (length order) (h - 1))
 
-  head-counts : (bit (fits S a b (getD order (h - 1) 0)) ≡ 1) × (padsIn S a b (drop (h - 1 + 1) order) + 1 ≡ b - a)
+  pub head-counts : (bit (fits S a b (getD order (h - 1) 0)) ≡ 1) × (padsIn S a b (drop (h - 1 + 1) order) + 1 ≡ b - a)
   head-counts =
       let e : h ≡ h - 1 + 1 = omega arith in
       let listed = head-listed in

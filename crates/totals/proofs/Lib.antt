@@ -3,3 +3,4 @@ pub mod Corners
 pub mod Ports
 pub mod Cells
 pub mod Leading
+pub mod Marking

@@ -2,7 +2,7 @@
 use mathlib.Core.Path.{_≡_, refl, sym, ap, _∙_}
 use mathlib.Core.Bool.{Bool, true, false, cond}
 use mathlib.Core.List.{List}
-use Prim.Native.Nat.{ℕ, _+_, _*_, _^_, _≤_, _<_, min}
+use Prim.Native.Nat.{ℕ, _+_, _*_, _^_, _≤_, _<_}
 use native.Mathlib.Omega.{arith}
 use native.Mathlib.Nat.{mul-le-mul}
 use lib.Dec.{ltb, eqb}
@@ -61,13 +61,20 @@ module _ {hb tb hs ts cs bs : List ℕ} {past row q below above : ℕ} (P : Port
     pub port-barred : (bar ≡ 0 → ⊥) → total ≡ noTotal
     port-barred n = port-by ∙ rw (ne-eqb bar 0 n) refl
 
-    -- s is not less than v
-    pub port-more : (v : ℕ) → v ≤ s → v ≤ noTotal → v ≡ min v total
+    -- s is more than v
+    pub port-more : (v : ℕ) → v < s → v ≤ noTotal → v ≤ total
     port-more v h k = go (eqb bar 0) refl
       where
-        go : (z : Bool) → eqb bar 0 ≡ z → v ≡ min v total
+        go : (z : Bool) → eqb bar 0 ≡ z → v ≤ total
         go true e = omega (arith, port-free (eqb-true bar 0 e))
         go false e = omega (arith, port-barred (eqb-false bar 0 e))
+
+    pub port-apart : (v : ℕ) → v < s → total ≡ v → total < noTotal → ⊥
+    port-apart v h = go (eqb bar 0) refl
+      where
+        go : (z : Bool) → eqb bar 0 ≡ z → total ≡ v → total < noTotal → ⊥
+        go true e w x = let f = port-free (eqb-true bar 0 e) in omega arith
+        go false e w x = let f = port-barred (eqb-false bar 0 e) in omega arith
 
     -- s is v, or not
     pub port-equal : (v : ℕ) → (v ≡ noTotal → ⊥) → s ≡ v → eqb bar 0 ≡ eqb total v

@@ -1,8 +1,9 @@
 -- What the table holds, and what its inputs are.
 use mathlib.Core.Path.{_≡_}
 use mathlib.Core.Bool.{Bool, true, false, cond, _&&_}
-use lib.Dec.{ltb, eqb}
-use Rattle.strips.specs.Least.{Least, none, some}
+use lib.Dec.{leb, ltb, eqb}
+use Rattle.numbers.specs.Sets.{setOf}
+use Rattle.strips.specs.Least.{Least, none, some, least}
 use mathlib.Core.List.{List}
 use Prim.Native.Nat.{ℕ, zero, suc, _+_, _-_, _*_, _^_, _≤_, _<_}
 use lib.ListN.{length, getD, drop}
@@ -13,6 +14,7 @@ use Rattle.strips.specs.Prefix.{lies, Lies}
 use Rattle.pads.specs.Pads.{Sides, padsIn, sidesOf, Head}
 use Rattle.totals.specs.Strip.{grid, bestWithin, localWithin}
 use Rattle.totals.specs.declared.Laid.{Laid}
+use Rattle.totals.specs.declared.Best.{Best}
 
 -- the figures that slices hold: none where a bar, a number other than 0, says that the pad may not use the port
 abbrev pub figures : List ℕ → List ℕ → ℕ → ℕ → ℕ → Least
@@ -103,6 +105,23 @@ abbrev pub portTotal : List ℕ → List ℕ → List ℕ → List ℕ → List 
 portTotal hb tb hs ts cs bs past row q below above =
     cond (opens hb hs past below above && eqb (getD bs (row + q) 0) 0) (sumAt tb ts cs row q below above) noTotal
 
+-- the total s of port q beside the least total so far and the ports that have it
+abbrev pub joined : Best → ℕ → ℕ → Best
+joined v s q =
+    cond (ltb s (v .total)) (record { total = s; ports = 2 ^ q })
+    (cond (eqb s (v .total) && ltb s noTotal) (record { total = v .total; ports = v .ports + 2 ^ q }) v)
+
+-- port q, from a on, has the total t, which is one
+abbrev pub attained : (ℕ → Least) → ℕ → ℕ → ℕ → Bool
+attained f a t q = ltb t noTotal && (leb a q && eqb (coded (f q)) t)
+
+-- v has the least of the totals f of the ports a .. b - 1, and the ports that have it
+pub record BestOf (f : ℕ → Least) (a b : ℕ) (v : Best) : Type 0 where
+  pub total : v .total ≡ coded (least f a (b - a))
+  pub top : v .total ≤ noTotal
+  pub low : (q : ℕ) → a ≤ q → q < b → v .total ≤ coded (f q)
+  pub ports : v .ports ≡ setOf (attained f a (v .total)) b
+
 -- the strips that start at a or above are right in the tables hs and ts
 abbrev pub Rows : Sides → (ℕ → ℕ → Least) → List ℕ → List ℕ → List ℕ → ℕ → Type 0
 Rows S C order hs ts a = (a′ b′ : ℕ) → a ≤ a′ → a′ ≤ b′ → b′ ≤ length order → Cell S C order a′ b′ (getD hs (place a′ b′) 0) (getD ts (place a′ b′) 0)
@@ -164,3 +183,15 @@ pub record NextPort (Q : ℕ → Type 0) (p b q : ℕ) : Type 0 where
   pub within : q ≤ b
   pub passed : (i : ℕ) → p ≤ i → i < q → Q i → ⊥
   pub found : q < b → Q q
+
+-- m has the ports that lead the pad at place r in the strip a .. b - 1, as a set
+pub record Marks (B : Grid) (order : List ℕ) (r a b m : ℕ) : Type 0 where
+  pub picks : ℕ → Bool
+  pub set : m ≡ setOf picks b
+  pub says : (q : ℕ) → q < b → Says (Leads B order r a b q) (picks q)
+
+-- so have the numbers of ms, for the strips that start at a or above and have a layout, as far as the list goes
+abbrev pub MarkedFrom : List ℕ → List ℕ → List ℕ → List ℕ → List ℕ → List ℕ → List ℕ → ℕ → Type 0
+MarkedFrom order cs bs lo hi hs ms a =
+    (a′ b′ : ℕ) → a ≤ a′ → a′ < b′ → b′ ≤ length order → place a′ b′ < length ms → 0 < getD hs (place a′ b′) 0
+    → Marks (gridOf order cs bs lo hi) order (getD hs (place a′ b′) 0 - 1) a′ b′ (getD ms (place a′ b′) 0)

@@ -10,10 +10,9 @@ ghost use mathlib.Core.Bool.{cond};
 ghost use Prim.Native.Nat.{_+_, _-_, _*_, _^_, _≤_, _<_, min};
 ghost use lib.Dec.{eqb};
 ghost use lib.ListN.{length, getD};
-ghost use Rattle.strips.specs.Least.{least};
 ghost use Rattle.pads.specs.Pads.{sidesOf, Pads, Head};
-ghost use Rattle.totals.specs.Cell.{noTotal, figures, gridOf, choice, coded, Sizes, Strip, FullFrom, laidOf, Leads, Says, NextPort};
-ghost use Rattle.totals.specs.Cell.{PartsOf, Table, cornerOf, place, Port, opens, sumAt, portTotal, Valued, CopiedRow};
+ghost use Rattle.totals.specs.Cell.{noTotal, figures, gridOf, choice, Sizes, Strip, FullFrom, laidOf, Leads, Says, NextPort};
+ghost use Rattle.totals.specs.Cell.{PartsOf, Table, cornerOf, place, Port, opens, sumAt, portTotal, joined, BestOf, Valued, CopiedRow, Marks};
 
 // A strip a .. b - 1, the place r of its rightmost pad, where the pad's row of figures starts, and the strip's best total, or NONE.
 pub struct Laid {
@@ -22,6 +21,12 @@ pub struct Laid {
     pub b: usize,
     pub row: usize,
     pub best: u64,
+}
+
+// The least total so far, and the ports that have it: binary digit q for port q.
+pub struct Best {
+    pub total: u64,
+    pub ports: u64,
 }
 
 const NONE: u64 = 18446744073709551615;
@@ -77,7 +82,7 @@ fn sum_at(
     cost[row + q] as u64 + (sums[below] + totals[above])
 }
 
-// The least total so far, v, and that of one port more. A bar is read only where it counts: most totals are not less than v.
+// The best so far, v, and one port more, q. A bar is read only where it counts: most totals are more than v's.
 fn better(
     lows: &[u8],
     sums: &[u64],
@@ -85,26 +90,38 @@ fn better(
     totals: &[u64],
     cost: &[u32],
     bars: &[u8],
-    v: u64,
+    v: Best,
     past: u8,
     row: usize,
     q: usize,
     above: usize,
-) -> u64
+) -> Best
     requires { ⌜ Port (now lows) (now sums) (now heads) (now totals) (now cost) (now bars) past row q q above ⌝ }
-    ensures { λ r. ⌜ r ≡ min v (portTotal (now (lows .entry)) (now (sums .entry)) (now (heads .entry)) (now (totals .entry))
-        (now (cost .entry)) (now (bars .entry)) past row q q above) ⌝ }
+    requires { ⌜ (q < 64) × (v .ports < 2 ^ q) ⌝ }
+    ensures { λ r. ⌜ r ≡ joined v (portTotal (now (lows .entry)) (now (sums .entry)) (now (heads .entry)) (now (totals .entry))
+        (now (cost .entry)) (now (bars .entry)) past row q q above) q ⌝ }
 {
     if opened(lows, heads, past, q, above) {
         let s = sum_at(sums, totals, cost, row, q, q, above);
-        if v <= s {
-            v
+        if s < v.total {
+            if bars[row + q] == 0 {
+                return Best {
+                    total: s,
+                    ports: 1u64 << (q as u32),
+                };
+            }
         } else {
-            if bars[row + q] == 0 { s } else { v }
+            if s == v.total {
+                if bars[row + q] == 0 {
+                    return Best {
+                        total: v.total,
+                        ports: v.ports | (1u64 << (q as u32)),
+                    };
+                }
+            }
         }
-    } else {
-        v
     }
+    v
 }
 
 // Whether port q has the total v.
@@ -136,8 +153,8 @@ fn attains(
     }
 }
 
-// The best total of the strip a .. b - 1 whose rightmost pad stands at place r: the least over its ports.
-fn least_total(
+// The best total of the strip a .. b - 1 whose rightmost pad stands at place r, the least over its ports, and the ports that have it.
+fn best_ports(
     lows: &[u8],
     sums: &[u64],
     heads: &[u8],
@@ -150,18 +167,21 @@ fn least_total(
     r: usize,
     a: usize,
     b: usize,
-) -> u64
+) -> Best
     requires { ⌜ Pads (now order) (now lo) (now hi) (length (now order)) ⌝ }
     requires { ⌜ Sizes (now heads) (now totals) (now order) (now cost) (now bars) ⌝ }
     requires { ⌜ Strip (sidesOf (now lo) (now hi)) (now order) a b r ⌝ }
     requires { ⌜ PartsOf (now order) (now cost) (now bars) (now lo) (now hi) (now heads) (now totals) a b ⌝ }
     requires { ⌜ CopiedRow (now lows) (now sums) (now heads) (now totals) a b ⌝ }
-    ensures { λ v. ⌜ v ≡ coded (least (choice (now (order .entry)) (now (cost .entry)) (now (bars .entry)) (now (lo .entry)) (now (hi .entry)) r a b) a (b - a)) ⌝ }
+    ensures { λ v. ⌜ BestOf (choice (now (order .entry)) (now (cost .entry)) (now (bars .entry)) (now (lo .entry)) (now (hi .entry)) r a b) a b v ⌝ }
 {
     let row = order[r] as usize * order.len();
     let past = (r + 1) as u8;
     let base = corner(b) + 1;
-    let mut v = NONE;
+    let mut v = Best {
+        total: NONE,
+        ports: 0,
+    };
     let mut q = a;
     while q < b {
         v = better(
@@ -182,8 +202,8 @@ fn least_total(
     v
 }
 
-// The best total of the strip a .. b - 1 with head h.
-pub fn strip_total(
+// The best total of the strip a .. b - 1 with head h, and the ports that lead its rightmost pad in a best layout.
+pub fn strip_best(
     lows: &[u8],
     sums: &[u64],
     heads: &[u8],
@@ -196,22 +216,27 @@ pub fn strip_total(
     a: usize,
     b: usize,
     h: usize,
-) -> u64
+) -> Best
     requires { ⌜ Pads (now order) (now lo) (now hi) (length (now order)) ⌝ }
     requires { ⌜ Sizes (now heads) (now totals) (now order) (now cost) (now bars) ⌝ }
     requires { ⌜ (a ≤ b) × (b ≤ length (now order)) × Head (sidesOf (now lo) (now hi)) (now order) a b h ⌝ }
     requires { ⌜ PartsOf (now order) (now cost) (now bars) (now lo) (now hi) (now heads) (now totals) a b ⌝ }
     requires { ⌜ CopiedRow (now lows) (now sums) (now heads) (now totals) a b ⌝ }
     ensures { λ v. ⌜ Valued (sidesOf (now (lo .entry)) (now (hi .entry))) (figures (now (cost .entry)) (now (bars .entry)) (length (now (order .entry))))
-        (now (order .entry)) a b h v ⌝ }
+        (now (order .entry)) a b h (v .total) ⌝ }
+    ensures { λ v. ⌜ ((v .total ≡ noTotal → ⊥) → a < b → Marks (gridOf (now (order .entry)) (now (cost .entry)) (now (bars .entry)) (now (lo .entry))
+        (now (hi .entry))) (now (order .entry)) (h - 1) a b (v .ports)) ⌝ }
 {
     if h == 0 {
-        return NONE;
+        return Best {
+            total: NONE,
+            ports: 0,
+        };
     }
     if a == b {
-        return 0;
+        return Best { total: 0, ports: 0 };
     }
-    least_total(
+    best_ports(
         lows,
         sums,
         heads,

@@ -1,400 +1,353 @@
 -- `counting::count_strip` meets its contract. A strip is counted by way of narrower ones: the measure is its width. The loop's invariant: `Round`.
 -- Assumes nothing.
-use mathlib.Core.Path.{_≡_, refl, ap, _∙_}
+use mathlib.Core.Path.{_≡_, refl, sym, ap, _∙_}
 use mathlib.Core.Logic.{⊎-elim}
 use mathlib.Core.List.{List}
 use native.Mathlib.Omega.{arith}
+use lib.Bits.{bitAnd, and-le-r}
+use lib.Count.{trailingZeros}
 use lib.ListN.{length, getD, length-set}
-use Rattle.strips.specs.Grid.{Grid}
-use Rattle.totals.specs.declared.Laid.{Laid}
-use Rattle.totals.specs.Cell.{noTotal, gridOf, cornerOf, place, FullFrom, laidOf, Leads, Says}
-use Rattle.totals.proofs.Corners.{corner-step, place-before, place-after}
-use Rattle.counting.specs.Counting.{StripCount, Solved, Buffer}
-use Rattle.counting.proofs.Strips.{head-some, head-full, best-some, solved-below, solved-above}
-use Rattle.counting.proofs.Sums.{Summing, summing-none, summing-skip, summing-more, summing-done, summing-most}
-use Rattle.counting.proofs.Buffers.{base-few, buffer-more, kept-room, kept-count, kept-none}
-use Rattle.counting.proofs.Whole.{listed}
-use Prim.Native.Nat.{ℕ, _+_, _-_, _≤_, _<_}
+use Rattle.totals.specs.Cell.{cornerOf, place}
+use Rattle.totals.proofs.Corners.{place-listed}
+use Rattle.counting.specs.Counting.{limit, capped, notYet, CountOf, Countable, Numbers, SamePorts}
+use Rattle.counting.proofs.Buffers.{base-few, ports-then, count-same, countable-same, countable-high, count-told, ports-back, numbers-more, ports-more}
+use Rattle.counting.proofs.Buffers.{kept-room, kept-small, kept-count, kept-none}
+use Rattle.counting.proofs.Rounds.{Round, round-none, round-low, round-high, round-below, round-above, round-fits, round-small, round-large, round-done, round-most}
+use Prim.Native.Nat.{ℕ, _+_, _-_, _*_, _≤_, _<_}
 use borrow.Fn.Kinds.{In}
 use borrow.Fn.PlainCycle.{Measures, is, falls, and}
 use Rattle.counting.proofs.count_strip.Reads as own
 use Rattle.counting.proofs.count_strip.Kinds as kinds
 use Rattle.counting.proofs.+count_strip.Lts-count_strip as lts
-use Rattle.counting.proofs.plus.Reads as plus
 use Rattle.counting.proofs.times.Reads as times
+use Rattle.counting.proofs.told.Reads as told
 use Rattle.totals.proofs.corner.Reads as corner
-use Rattle.totals.proofs.leads.Reads as leads
-use Rattle.totals.proofs.strip_at.Reads as strip
 use Rattle.counting.proofs.+count_strip.{statement}
 use Rattle.counting.proofs.+count_strip.Tie.{close}
 
-abbrev μ : Measures 7 kinds.ps ℕ
-μ κs a = a .1 .1 .1 .1 .1 .1 .1 .1 .1 .0 - a .1 .1 .1 .1 .1 .1 .1 .1 .0
+abbrev μ : Measures 1 kinds.ps ℕ
+μ κs a = a .1 .1 .1 .1 .0 - a .1 .1 .1 .0
 
-abbrev at : ℕ → In 7 kinds.ps
-at t = and 7 kinds.ps (is 7 kinds.ps μ t) own.Pre
+abbrev at : ℕ → In 1 kinds.ps
+at t = and 1 kinds.ps (is 1 kinds.ps μ t) own.Pre
 
-abbrev less : ℕ → In 7 kinds.ps
-less t = and 7 kinds.ps (falls 7 kinds.ps _<_ μ t) own.Pre
+abbrev less : ℕ → In 1 kinds.ps
+less t = and 1 kinds.ps (falls 1 kinds.ps _<_ μ t) own.Pre
 
 abbrev calls : ℕ → lts.Claims
 calls t = (
   corner.Asked,
   corner.Learnt,
-  strip.Asked,
-  strip.Learnt,
-  leads.Asked,
-  leads.Learnt,
   less t,
   own.Post,
+  told.Asked,
+  told.Learnt,
   times.Asked,
   times.Learnt,
-  plus.Asked,
-  plus.Learnt,
 )
 
--- What holds when the loop comes to port next - 1.
-record Round (order cost bars lo hi heads before : List ℕ) (a b r : ℕ) (s : Laid) (buffer : List ℕ) (below next sum : ℕ) : Type 0 where
-  full : FullFrom (gridOf order cost bars lo hi) order r a b
-  strip : s ≡ laidOf order cost bars lo hi r a b
-  some : s .best ≡ noTotal → ⊥
-  first : a < next
-  under : below ≡ place a (next - 1)
-  adds : Summing (gridOf order cost bars lo hi) order r a b (next - 1) sum
-  right : Buffer order cost bars lo hi heads buffer
-  long : length buffer ≡ length before
-
 abbrev Inv-loop : lts.InvT-loop
-Inv-loop heads order cost bars lo hi buffer₀ base a b i r s above below₀ next₀ sum₀ buffer below next sum =
-    Round order cost bars lo hi heads buffer₀ a b r s buffer below next sum
+Inv-loop buffer₀ n base a b i above rest₀ sum₀ buffer rest sum = Round buffer₀ n a b buffer rest sum
 
 abbrev μ-loop : lts.MeasureT-loop
-μ-loop heads order cost bars lo hi buffer₀ base a b i r s above below₀ next₀ sum₀ buffer below next sum = b + 1 - next
+μ-loop buffer₀ n base a b i above rest₀ sum₀ buffer rest sum = rest
 
--- The loop's head, what is known at the function's entry, the board, the place of the strip's rightmost pad, and the port.
+abbrev Begin : ℕ → Type 0
+Begin t = lts.After-corner2 (calls t) (at t) own.Post Inv-loop μ-loop
+
+-- The loop's head, what is known at the function's entry, and the port.
 abbrev Loop : ℕ → Type 0
 Loop t = lts.At-loop (calls t) (at t) own.Post Inv-loop μ-loop
 
 abbrev start : (t : ℕ) → Loop t → lts.Start (calls t) (at t) own.Post Inv-loop μ-loop
-start t l = l .before .before .before .before .before .before .before .before .before .before .before .before .before .before
-
-abbrev board : (t : ℕ) → Loop t → Grid
-board t l = let x = start t l .args in gridOf (x .order .now) (x .cost .now) (x .bars .now) (x .lo .now) (x .hi .now)
-
-abbrev rightmost : (t : ℕ) → Loop t → ℕ
-rightmost t l = let x = start t l .args in getD (x .heads .now) (l .before .before .before .before .before .before .corner .result + x .a) 0 - 1
+start t l = l .before .before .before .before .before
 
 abbrev port : (t : ℕ) → Loop t → ℕ
-port t l = l .loop .next - 1
-
-after : (t : ℕ) (l : Loop t) → port t l + 1 ≡ l .loop .next
-after t l = omega (arith, l .loop .inv .first)
+port t l = trailingZeros 64 (l .loop .rest)
 
 corner-requires : (t : ℕ) → lts.Need-corner-requires (calls t) (at t) own.Post Inv-loop μ-loop
-corner-requires t c κs = let s = c .before .before .before .before .before .before .before in let p = s .pre .1 in
-    omega (arith, p .1 .0 .high, p .0 .0 .pads .few)
+corner-requires t c κs = let p = c .before .pre .1 in omega (arith, countable-high (p .1) .1, p .0 .0 .few)
 
 add-i : (t : ℕ) → lts.Need-add-i (calls t) (at t) own.Post Inv-loop μ-loop
-add-i t c = let s = c .before .before .before .before .before .before .before .before in let p = s .pre .1 in
-    omega (arith, c .corner .ensures .1, p .1 .0 .high, p .0 .1, p .0 .0 .pads .few)
-
-shared-slice-read-r : (t : ℕ) → lts.Need-shared-slice-read-r (calls t) (at t) own.Post Inv-loop μ-loop
-shared-slice-read-r t c = let s = c .before .before .before .before .before .before .before .before .before in let p = s .pre .1 in
-    omega (arith, c .before .corner .ensures .1, p .1 .0 .high, p .0 .1, p .0 .0 .pads .few, p .1 .1 .table .sizes .heads)
-
-cast-r : (t : ℕ) → lts.Need-cast-r (calls t) (at t) own.Post Inv-loop μ-loop
-cast-r t c = let s = c .before .before .before .before .before .before .before .before .before in
-    omega (arith, c .shared-slice-known7 .given (c .before .corner .result + s .args .a))
-
-sub-r : (t : ℕ) → lts.Need-sub-r (calls t) (at t) own.Post Inv-loop μ-loop
-sub-r t c = let s = c .before .before .before .before .before .before .before .before .before in let x = s .args in let p = s .pre .1 in
-    rw (c .before .corner .ensures .0) (omega (arith, head-some (p .1 .1 .table) (x .a) (x .b) (p .1 .0) (p .0 .1)))
-
-strip-at-requires : (t : ℕ) → lts.Need-strip-at-requires (calls t) (at t) own.Post Inv-loop μ-loop
-strip-at-requires t c κs = let s = c .before .before .before .before .before .before .before .before .before .before in let x = s .args in
-    let p = s .pre .1 in
-    (p .0 .0 .pads, (p .1 .1 .table, rw (c .before .before .corner .ensures .0) (head-full (p .1 .1 .table) (x .a) (x .b) (p .1 .0) (p .0 .1))))
+add-i t c = let p = c .before .before .pre .1 in omega (arith, c .corner .ensures .1, countable-high (p .1) .1, p .0 .2, p .0 .0 .few)
 
 corner-requires-2 : (t : ℕ) → lts.Need-corner-requires-2 (calls t) (at t) own.Post Inv-loop μ-loop
-corner-requires-2 t c κs = let s = c .before .before .before .before .before .before .before .before .before .before .before in let p = s .pre .1 in
-    omega (arith, p .1 .0 .high, p .0 .0 .pads .few)
+corner-requires-2 t c κs = let p = c .before .before .pre .1 in omega (arith, countable-high (p .1) .1, p .0 .0 .few)
 
 add-above : (t : ℕ) → lts.Need-add-above (calls t) (at t) own.Post Inv-loop μ-loop
-add-above t c = let s = c .before .before .before .before .before .before .before .before .before .before .before .before in let p = s .pre .1 in
-    omega (arith, p .0 .2, base-few _ (p .0 .0 .pads .few), c .corner2 .ensures .1)
+add-above t c = let p = c .before .before .before .pre .1 in omega (arith, p .0 .1, base-few _ (p .0 .0 .few), c .corner2 .ensures .1)
 
-corner-requires-3 : (t : ℕ) → lts.Need-corner-requires-3 (calls t) (at t) own.Post Inv-loop μ-loop
-corner-requires-3 t c κs = let s = c .before .before .before .before .before .before .before .before .before .before .before .before in let p = s .pre .1 in
-    omega (arith, p .0 .1, p .1 .0 .high, p .0 .0 .pads .few)
+add-above-2 : (t : ℕ) → lts.Need-add-above-2 (calls t) (at t) own.Post Inv-loop μ-loop
+add-above-2 t c = let p = c .before .before .before .pre .1 in omega (arith, p .0 .1, base-few _ (p .0 .0 .few), c .corner2 .ensures .1)
 
-add-below : (t : ℕ) → lts.Need-add-below (calls t) (at t) own.Post Inv-loop μ-loop
-add-below t c = let s = c .before .before .before .before .before .before .before .before .before .before .before .before .before in let p = s .pre .1 in
-    omega (arith, c .corner3 .ensures .1, p .0 .1, p .1 .0 .high, p .0 .0 .pads .few)
+mul-rest : (t : ℕ) → lts.Need-mul-rest (calls t) (at t) own.Post Inv-loop μ-loop
+mul-rest t c = let p = c .before .before .before .pre .1 in
+    omega (arith, c .before .corner .ensures .1, countable-high (p .1) .1, p .0 .2, p .0 .0 .few)
 
-add-next : (t : ℕ) → lts.Need-add-next (calls t) (at t) own.Post Inv-loop μ-loop
-add-next t c = let s = c .before .before .before .before .before .before .before .before .before .before .before .before .before in
-    omega (arith, s .fits .b, s .pre .1 .0 .1)
+slice-read-rest : (t : ℕ) → lts.Need-slice-read-rest (calls t) (at t) own.Post Inv-loop μ-loop
+slice-read-rest t c = let s = c .before .before .before .before in let p = s .pre .1 in let h = countable-high (p .1) in
+    omega (arith, c .before .before .corner .ensures .0, place-listed (s .args .a) (s .args .b) (s .args .n) (h .0) (h .1), p .0 .0 .room)
 
 loop-holds : (t : ℕ) → lts.Need-loop-holds (calls t) (at t) own.Post Inv-loop μ-loop
-loop-holds t c = let s = c .before .before .before .before .before .before .before .before .before .before .before .before .before in let x = s .args in
-    let p = s .pre .1 in let e = c .before .before .strip-at .ensures in let k = c .before .before .before .before .before .corner .ensures .0 in
-    let R : FullFrom (gridOf (x .order .now) (x .cost .now) (x .bars .now) (x .lo .now) (x .hi .now)) (x .order .now)
-    (getD (x .heads .now) (c .before .before .before .before .before .corner .result + x .a) 0 - 1) (x .a) (x .b)
-    = rw k (head-full (p .1 .1 .table) (x .a) (x .b) (p .1 .0) (p .0 .1)) in let n : x .a + 1 - 1 ≡ x .a = omega arith in record {
-      full = R;
-      strip = e;
-      some = rw (e, k) (best-some (p .1 .1 .table) (x .a) (x .b) (p .1 .0) (p .0 .1) (p .0 .0 .pads));
-      first = omega arith;
-      under = rw n (omega (arith, c .corner3 .ensures .0));
-      adds = rw n (summing-none (listed (p .0 .0) (x .cost .now) (x .bars .now)) _ (x .a) (x .b) R);
-      right = p .1 .1;
-      long = refl;
-    }
+loop-holds t c = let s = c .before .before .before .before in let p = s .pre .1 in
+    round-none _ (p .0 .0) (p .0 .2) (ap (λ (k : ℕ). getD (s .args .buffer .now) k 0) (omega (arith, c .before .before .corner .ensures .0)))
 
--- The numbers are small.
-small : (t : ℕ) (l : Loop t) → let x = start t l .args in (x .base ≤ 2145) × (x .b ≤ 64)
-small t l = let p = start t l .pre .1 in (omega (arith, p .0 .2, base-few _ (p .0 .0 .pads .few)), omega (arith, p .1 .0 .high, p .0 .0 .pads .few))
+-- In a turn, of the entry: what can be counted, and small numbers.
+abbrev Turn : ℕ → Type 0
+Turn t = lts.In-loop (calls t) (at t) own.Post Inv-loop μ-loop
 
-whole : (t : ℕ) (l : Loop t) → l .before .before .before .before .before .before .corner .result + start t l .args .a < 2144
-whole t l = omega (arith, l .before .before .before .before .before .before .corner .ensures .1, start t l .pre .1 .0 .1, small t l .1)
+countable : (t : ℕ) (l : Loop t) → let x = start t l .args in Countable (x .buffer .now) (x .n) (x .a) (x .b)
+countable t l = start t l .pre .1 .1
 
--- In a turn the port is one of the strip's.
-inside : (t : ℕ) (c : lts.In-loop (calls t) (at t) own.Post Inv-loop μ-loop) → port t (c .before) < start t (c .before) .args .b
-inside t c = let l = c .before in let x = start t l .args in
-    place-before (x .a) (port t l) (x .b)
-    (omega (arith, c .loop-test .taken, l .loop .inv .under, l .before .before .before .before .before .before .corner .ensures .0))
+some-port : (t : ℕ) (l : Loop t) → start t l .args .a < start t l .args .b
+some-port t l = start t l .pre .1 .0 .2
 
-sub-q : (t : ℕ) → lts.Need-sub-q (calls t) (at t) own.Post Inv-loop μ-loop
-sub-q t c = omega (arith, c .before .loop .inv .first)
+small : (t : ℕ) (l : Loop t) → let x = start t l .args in (x .base ≤ 2145) × (x .b ≤ 64) × (x .b ≤ x .n)
+small t l = let p = start t l .pre .1 in let h = countable-high (countable t l) .1 in
+    (omega (arith, p .0 .1, base-few _ (p .0 .0 .few)), omega (arith, p .0 .0 .few), h)
 
-leads-requires : (t : ℕ) → lts.Need-leads-requires (calls t) (at t) own.Post Inv-loop μ-loop
-leads-requires t c κs = let l = c .before .before in let p = start t l .pre .1 in let i = l .loop .inv in (
-  p .0 .0 .pads,
-  (
-    i .right .table,
-    (
-      rw (i .strip) (i .full),
-      (rw (i .strip) refl, (i .some, rw (i .strip) (i .adds .low), rw (i .strip) (inside t (c .before)), rw (i .strip) (i .under))),
-    ),
-  ),
-)
+-- The port is one of the strip's, and its parts can be counted.
+low : (t : ℕ) (c : Turn t) → start t (c .before) .args .a ≤ port t (c .before)
+low t c = let l = c .before in round-low (l .loop .inv) (some-port t l) (countable t l) (c .loop-test .taken)
 
--- What the test says of the port.
-says : (t : ℕ) (c : lts.After-leads (calls t) (at t) own.Post Inv-loop μ-loop) → let l = c .before .before .before in let x = start t l .args in
-    Says (Leads (board t l) (x .order .now) (rightmost t l) (x .a) (x .b) (port t l)) (c .leads .result)
-says t c = rw (c .before .before .before .loop .inv .strip) at (c .leads .ensures)
+high : (t : ℕ) (c : Turn t) → port t (c .before) < start t (c .before) .args .b
+high t c = let l = c .before in round-high (l .loop .inv) (some-port t l) (countable t l) (c .loop-test .taken)
 
--- The port is locally best: its two parts.
-lead : (t : ℕ) (c : lts.Then1 (calls t) (at t) own.Post Inv-loop μ-loop) → let l = c .before .before .before .before in let x = start t l .args in
-    Leads (board t l) (x .order .now) (rightmost t l) (x .a) (x .b) (port t l)
-lead t c = says t (c .before) .yes (c .if1 .taken)
+below-is : (t : ℕ) (c : Turn t) → let x = start t (c .before) .args in Countable (x .buffer .now) (x .n) (x .a) (port t (c .before))
+below-is t c = let l = c .before in round-below (l .loop .inv) (some-port t l) (countable t l) (c .loop-test .taken)
 
-part-below : (t : ℕ) (c : lts.Then1 (calls t) (at t) own.Post Inv-loop μ-loop) → let l = c .before .before .before .before in let x = start t l .args in
-    Solved (board t l) (x .order .now) (x .a) (port t l)
-part-below t c = let l = c .before .before .before .before in let x = start t l .args in
-    solved-below (start t l .pre .1 .0 .0 .pads .level) _ (x .a) (x .b) (l .loop .inv .full) (port t l) (lead t c)
+above-is : (t : ℕ) (c : Turn t) → let x = start t (c .before) .args in Countable (x .buffer .now) (x .n) (port t (c .before) + 1) (x .b)
+above-is t c = let l = c .before in round-above (l .loop .inv) (some-port t l) (countable t l) (c .loop-test .taken)
 
-part-above : (t : ℕ) (c : lts.Then1 (calls t) (at t) own.Post Inv-loop μ-loop) → let l = c .before .before .before .before in let x = start t l .args in
-    Solved (board t l) (x .order .now) (l .loop .next) (x .b)
-part-above t c = let l = c .before .before .before .before in let x = start t l .args in
-    rw (after t l) at (solved-above (start t l .pre .1 .0 .0 .pads .level) _ (x .a) (x .b) (l .loop .inv .full) (port t l) (lead t c))
+cast-q : (t : ℕ) → lts.Need-cast-q (calls t) (at t) own.Post Inv-loop μ-loop
+cast-q t c = omega (arith, high t c, small t (c .before) .1)
 
--- Where their numbers are kept.
-at-below : (t : ℕ) (l : Loop t) → let x = start t l .args in x .base + l .loop .below ≡ x .base + place (x .a) (port t l)
-at-below t l = omega (arith, l .loop .inv .under)
+sub-rest : (t : ℕ) → lts.Need-sub-rest (calls t) (at t) own.Post Inv-loop μ-loop
+sub-rest t c = omega (arith, c .loop-test .taken)
 
-at-above : (t : ℕ) (l : Loop t) → let x = start t l .args in l .before .before .corner2 .result ≡ cornerOf (x .b)
-at-above t l = l .before .before .corner2 .ensures .0
+corner-requires-3 : (t : ℕ) → lts.Need-corner-requires-3 (calls t) (at t) own.Post Inv-loop μ-loop
+corner-requires-3 t c κs = omega (arith, high t c, small t (c .before) .1)
 
 add-under : (t : ℕ) → lts.Need-add-under (calls t) (at t) own.Post Inv-loop μ-loop
-add-under t c = let l = c .before .before .before .before in omega (arith, small t l .0, whole t l, c .before .before .before .loop-test .taken)
+add-under t c = omega (arith, small t (c .before .before) .0, c .corner3 .ensures .1)
+
+add-under-2 : (t : ℕ) → lts.Need-add-under-2 (calls t) (at t) own.Post Inv-loop μ-loop
+add-under-2 t c = let l = c .before .before in omega (arith, small t l .0, small t l .1, some-port t l, c .corner3 .ensures .1)
 
 mul-under : (t : ℕ) → lts.Need-mul-under (calls t) (at t) own.Post Inv-loop μ-loop
-mul-under t c = let l = c .before .before .before .before in omega (arith, small t l .0, whole t l, c .before .before .before .loop-test .taken)
+mul-under t c = let l = c .before .before in omega (arith, small t l .0, small t l .1, some-port t l, c .corner3 .ensures .1)
+
+-- Where the parts' numbers are.
+at-below : (t : ℕ) (c : lts.After-corner3 (calls t) (at t) own.Post Inv-loop μ-loop) → let x = start t (c .before .before) .args in
+    x .base + c .corner3 .result + x .a ≡ x .base + place (x .a) (port t (c .before .before))
+at-below t c = omega (arith, c .corner3 .ensures .0)
+
+at-above : (t : ℕ) (l : Loop t) → let x = start t l .args in
+    x .base + l .before .before .corner2 .result + 1 + port t l ≡ x .base + place (port t l + 1) (x .b)
+at-above t l = omega (arith, l .before .before .corner2 .ensures .0)
 
 slice-read-under : (t : ℕ) → lts.Need-slice-read-under (calls t) (at t) own.Post Inv-loop μ-loop
-slice-read-under t c = let l = c .before .before .before .before .before in let x = start t l .args in let p = start t l .pre .1 in
-    let o = part-below t (c .before) in
-    kept-room (l .loop .inv .right) (x .base) (x .a) (port t l) _ (p .0 .2) (at-below t l) (o .low) (o .high)
-
-count-strip-requires : (t : ℕ) → lts.Need-count-strip-requires (calls t) (at t) own.Post Inv-loop μ-loop
-count-strip-requires t c κs = let l = c .before .before .before .before .before .before .before in let x = start t l .args in let p = start t l .pre .1 in
-    let o = part-below t (c .before .before .before) in let i = l .loop .inv in
-    let n = kept-none (i .right) (x .base) (x .a) (port t l) _ (p .0 .2) (at-below t l) (o .low) (o .high) (c .before .if2 .taken) in
-    (omega (arith, start t l .pre .0, i .adds .low, inside t (c .before .before .before .before .before .before)), ((p .0 .0, n, p .0 .2), (o, i .right)))
-
--- What is known of the number below, however it was come by.
-below : (t : ℕ) (c : lts.Joined2 (calls t) (at t) own.Post Inv-loop μ-loop) → let l = c .before .before .before .before .before .before in
-    let x = start t l .args in
-    StripCount (board t l) (x .order .now) (x .a) (port t l) (c .if2 .under)
-    × Buffer (x .order .now) (x .cost .now) (x .bars .now) (x .lo .now) (x .hi .now) (x .heads .now) (c .if2 .buffer)
-    × (length (c .if2 .buffer) ≡ length (x .buffer .now))
-below t c = let l = c .before .before .before .before .before .before in let x = start t l .args in let p = start t l .pre .1 in
-    let o = part-below t (c .before .before) in let i = l .loop .inv in
-    ⊎-elim
-    (λ w. (rw (w .6) (w .2 .ensures .0), rw (w .5) (w .2 .ensures .1), ap length (w .5) ∙ w .2 .kept .1 .1 .1 .1 .1 .1 .0 ∙ i .long))
-    (λ w. (
-      rw (w .2) (kept-count (i .right) (x .base) (x .a) (port t l) _ (p .0 .2) (at-below t l) (o .low) (o .high) (omega (arith, w .0 .left))),
-      rw (w .1) (i .right),
-      ap length (w .1) ∙ i .long,
-    ))
-    (c .if2 .came)
+slice-read-under t c = let n = c .before in let k = n .before in let l = k .before in let x = start t l .args in
+    kept-room (l .loop .inv .right) (x .base) (x .a) (port t l) _ (start t l .pre .1 .0 .1) (at-below t n) (low t k) (omega (arith, high t k, small t l .2))
 
 add-over : (t : ℕ) → lts.Need-add-over (calls t) (at t) own.Post Inv-loop μ-loop
-add-over t c = let l = c .before .before .before .before .before .before in
-    omega (arith, small t l .0, small t l .1, l .before .before .corner2 .ensures .1, inside t (c .before .before .before .before .before))
+add-over t c = let k = c .before .before in let l = k .before in omega (arith, small t l .0, small t l .1, high t k, l .before .before .corner2 .ensures .1)
 
 mul-over : (t : ℕ) → lts.Need-mul-over (calls t) (at t) own.Post Inv-loop μ-loop
-mul-over t c = let l = c .before .before .before .before .before .before in
-    omega (arith, small t l .0, small t l .1, l .before .before .corner2 .ensures .1, inside t (c .before .before .before .before .before))
+mul-over t c = let k = c .before .before in let l = k .before in omega (arith, small t l .0, small t l .1, high t k, l .before .before .corner2 .ensures .1)
 
 slice-read-over : (t : ℕ) → lts.Need-slice-read-over (calls t) (at t) own.Post Inv-loop μ-loop
-slice-read-over t c = let l = c .before .before .before .before .before .before .before in let x = start t l .args in let p = start t l .pre .1 in
-    let o = part-above t (c .before .before .before) in
-    kept-room (below t (c .before) .1) (x .base) (l .loop .next) (x .b) _ (p .0 .2) (omega (arith, at-above t l)) (o .low) (o .high)
+slice-read-over t c = let k = c .before .before .before in let l = k .before in let x = start t l .args in
+    kept-room (l .loop .inv .right) (x .base) (port t l + 1) (x .b) _ (start t l .pre .1 .0 .1) (at-above t l) (omega (arith, high t k)) (small t l .2)
+
+-- What is read there is a number, if it is counted.
+abbrev Read : ℕ → Type 0
+Read t = lts.After-slice-known4 (calls t) (at t) own.Post Inv-loop μ-loop
+
+abbrev turn : (t : ℕ) → Read t → Turn t
+turn t c = c .before .before .before
+
+abbrev loop : (t : ℕ) → Read t → Loop t
+loop t c = turn t c .before
+
+abbrev under : (t : ℕ) → Read t → ℕ
+under t c = let x = start t (loop t c) .args in getD (loop t c .loop .buffer) (x .base + c .before .before .corner3 .result + x .a) 0
+
+abbrev over : (t : ℕ) → Read t → ℕ
+over t c = let l = loop t c in let x = start t l .args in getD (l .loop .buffer) (x .base + l .before .before .corner2 .result + 1 + port t l) 0
+
+under-small : (t : ℕ) (c : Read t) → under t c ≤ notYet
+under-small t c = let k = turn t c in let l = loop t c in let x = start t l .args in
+    kept-small (l .loop .inv .right) (x .base) (x .a) (port t l) _ (start t l .pre .1 .0 .1) (at-below t (c .before .before)) (low t k) (omega (arith, high t k, small t l .2))
+
+over-small : (t : ℕ) (c : Read t) → over t c ≤ notYet
+over-small t c = let k = turn t c in let l = loop t c in let x = start t l .args in
+    kept-small (l .loop .inv .right) (x .base) (port t l + 1) (x .b) _ (start t l .pre .1 .0 .1) (at-above t l) (omega (arith, high t k)) (small t l .2)
+
+under-count : (t : ℕ) (c : Read t) → under t c < notYet → let x = start t (loop t c) .args in CountOf (x .buffer .now) (x .n) (x .a) (port t (loop t c)) (under t c)
+under-count t c h = let k = turn t c in let l = loop t c in let x = start t l .args in let i = l .loop .inv in
+    count-same (ports-back (i .same)) (x .a) (port t l) _
+    (kept-count (i .right) (x .base) (x .a) (port t l) _ (start t l .pre .1 .0 .1) (at-below t (c .before .before)) (low t k) (omega (arith, high t k, small t l .2)) h)
+
+over-count : (t : ℕ) (c : Read t) → over t c < notYet → let x = start t (loop t c) .args in CountOf (x .buffer .now) (x .n) (port t (loop t c) + 1) (x .b) (over t c)
+over-count t c h = let k = turn t c in let l = loop t c in let x = start t l .args in let i = l .loop .inv in
+    count-same (ports-back (i .same)) (port t l + 1) (x .b) _
+    (kept-count (i .right) (x .base) (port t l + 1) (x .b) _ (start t l .pre .1 .0 .1) (at-above t l) (omega (arith, high t k)) (small t l .2) h)
+
+add-if1 : (t : ℕ) → lts.Need-add-if1 (calls t) (at t) own.Post Inv-loop μ-loop
+add-if1 t c = omega (arith, under-small t c, over-small t c)
+
+-- Both numbers are small: the sum fits.
+sum-fits : (t : ℕ) (c : lts.Then1 (calls t) (at t) own.Post Inv-loop μ-loop) → let r = c .before in let l = loop t r in
+    l .loop .sum + under t r * over t r ≤ limit + 1 + (port t l + 1) * 160000000000000000
+sum-fits t c = let r = c .before in let l = loop t r in
+    round-fits (l .loop .inv) (some-port t l) (countable t l) (turn t r .loop-test .taken) (under t r) (over t r) (under-count t r (omega (arith, c .if1 .taken)))
+    (over-count t r (omega (arith, c .if1 .taken))) (c .if1 .taken)
+
+mul-sum : (t : ℕ) → lts.Need-mul-sum (calls t) (at t) own.Post Inv-loop μ-loop
+mul-sum t c = let r = c .before in omega (arith, sum-fits t c, high t (turn t r), small t (loop t r) .1)
+
+add-sum : (t : ℕ) → lts.Need-add-sum (calls t) (at t) own.Post Inv-loop μ-loop
+add-sum t c = let r = c .before in omega (arith, sum-fits t c, high t (turn t r), small t (loop t r) .1)
+
+loop-less : (t : ℕ) → lts.Need-loop-less (calls t) (at t) own.Post Inv-loop μ-loop
+loop-less t c = let l = loop t (c .before) in omega (arith, and-le-r (l .loop .rest) (l .loop .rest - 1), turn t (c .before) .loop-test .taken)
+
+loop-again : (t : ℕ) → lts.Need-loop-again (calls t) (at t) own.Post Inv-loop μ-loop
+loop-again t c = let r = c .before in let l = loop t r in
+    round-small (l .loop .inv) (some-port t l) (countable t l) (turn t r .loop-test .taken) (under t r) (over t r) (under-count t r (omega (arith, c .if1 .taken)))
+    (over-count t r (omega (arith, c .if1 .taken))) (c .if1 .taken)
+
+count-strip-requires : (t : ℕ) → lts.Need-count-strip-requires (calls t) (at t) own.Post Inv-loop μ-loop
+count-strip-requires t c κs = let r = c .before .before .before in let k = turn t r in let l = loop t r in let x = start t l .args in let p = start t l .pre in let i = l .loop .inv in
+    let s = kept-none (i .right) (x .base) (x .a) (port t l) _ (p .1 .0 .1) (at-below t (r .before .before)) (low t k) (omega (arith, high t k, small t l .2)) (c .before .if2 .taken) in
+    (omega (arith, p .0, low t k, high t k), ((i .right, p .1 .0 .1, s), countable-same (i .same) (below-is t k)))
+
+-- What is known of the number below, however it was come by.
+below : (t : ℕ) (c : lts.Joined2 (calls t) (at t) own.Post Inv-loop μ-loop) → let l = loop t (c .before .before) in let x = start t l .args in
+    CountOf (x .buffer .now) (x .n) (x .a) (port t l) (c .if2 .under) × Numbers (x .n) (c .if2 .buffer) × SamePorts (x .n) (x .buffer .now) (c .if2 .buffer)
+below t c = let r = c .before .before in let l = loop t r in let x = start t l .args in let i = l .loop .inv in
+    ⊎-elim
+    (λ w. (
+      rw (w .6) (count-same (ports-back (i .same)) (x .a) (port t l) _ (w .2 .ensures .0 .0)),
+      rw (w .5) (w .2 .ensures .1 .0),
+      rw (w .5) (ports-then (i .same) (w .2 .ensures .1 .1)),
+    ))
+    (λ w. (rw (w .2) (under-count t r (let h = under-small t r in omega (arith, w .0 .left))), rw (w .1) (i .right), rw (w .1) (i .same)))
+    (c .if2 .came)
+
+add-count-strip : (t : ℕ) → lts.Need-add-count-strip (calls t) (at t) own.Post Inv-loop μ-loop
+add-count-strip t c = let r = c .before .before .before .before in let l = loop t r in omega (arith, high t (turn t r), small t l .1)
 
 count-strip-requires-2 : (t : ℕ) → lts.Need-count-strip-requires-2 (calls t) (at t) own.Post Inv-loop μ-loop
-count-strip-requires-2 t c κs = let l = c .before .before .before .before .before .before .before .before .before in let x = start t l .args in
-    let p = start t l .pre .1 in let o = part-above t (c .before .before .before .before .before) in let i = l .loop .inv in
-    let j = below t (c .before .before .before) in
-    let n = kept-none (j .1) (x .base) (l .loop .next) (x .b) _ (p .0 .2) (omega (arith, at-above t l)) (o .low) (o .high) (c .before .if3 .taken) in
-    (omega (arith, start t l .pre .0, i .adds .low, inside t (c .before .before .before .before .before .before .before .before)), ((p .0 .0, n, p .0 .2), (o, j .1)))
+count-strip-requires-2 t c κs = let j = c .before .before in let r = j .before .before in let k = turn t r in let l = loop t r in let x = start t l .args in
+    let p = start t l .pre in let i = l .loop .inv in let b = below t j in
+    let s = kept-none (i .right) (x .base) (port t l + 1) (x .b) _ (p .1 .0 .1) (at-above t l) (omega (arith, high t k)) (small t l .2) (c .before .if3 .taken) in
+    (omega (arith, p .0, low t k, high t k), ((b .1, p .1 .0 .1, s), countable-same (b .2) (above-is t k)))
 
 -- .. and of the number above.
-above : (t : ℕ) (c : lts.Joined3 (calls t) (at t) own.Post Inv-loop μ-loop) → let l = c .before .before .before .before .before .before .before .before in
-    let x = start t l .args in
-    StripCount (board t l) (x .order .now) (l .loop .next) (x .b) (c .if3 .over)
-    × Buffer (x .order .now) (x .cost .now) (x .bars .now) (x .lo .now) (x .hi .now) (x .heads .now) (c .if3 .buffer)
-    × (length (c .if3 .buffer) ≡ length (x .buffer .now))
-above t c = let l = c .before .before .before .before .before .before .before .before in let x = start t l .args in let p = start t l .pre .1 in
-    let o = part-above t (c .before .before .before .before) in let j = below t (c .before .before) in
+above : (t : ℕ) (c : lts.Joined3 (calls t) (at t) own.Post Inv-loop μ-loop) → let l = loop t (c .before .before .before) in let x = start t l .args in
+    CountOf (x .buffer .now) (x .n) (port t l + 1) (x .b) (c .if3 .over) × Numbers (x .n) (c .if3 .buffer) × SamePorts (x .n) (x .buffer .now) (c .if3 .buffer)
+above t c = let r = c .before .before .before in let l = loop t r in let x = start t l .args in let b = below t (c .before) in
     ⊎-elim
-    (λ w. (rw (w .6) (w .2 .ensures .0), rw (w .5) (w .2 .ensures .1), ap length (w .5) ∙ w .2 .kept .1 .1 .1 .1 .1 .1 .0 ∙ j .2))
     (λ w. (
-      rw (w .2) (kept-count (j .1) (x .base) (l .loop .next) (x .b) _ (p .0 .2) (omega (arith, at-above t l)) (o .low) (o .high) (omega (arith, w .0 .left))),
-      rw (w .1) (j .1),
-      ap length (w .1) ∙ j .2,
+      rw (w .6) (count-same (ports-back (b .2)) (port t l + 1) (x .b) _ (w .2 .ensures .0 .0)),
+      rw (w .5) (w .2 .ensures .1 .0),
+      rw (w .5) (ports-then (b .2) (w .2 .ensures .1 .1)),
     ))
+    (λ w. (rw (w .2) (over-count t r (let h = over-small t r in omega (arith, w .0 .left))), rw (w .1) (b .1), rw (w .1) (b .2)))
     (c .if3 .came)
+
+told-requires : (t : ℕ) → lts.Need-told-requires (calls t) (at t) own.Post Inv-loop μ-loop
+told-requires t c κs = tt
 
 times-requires : (t : ℕ) → lts.Need-times-requires (calls t) (at t) own.Post Inv-loop μ-loop
 times-requires t c κs = tt
 
-plus-requires : (t : ℕ) → lts.Need-plus-requires (calls t) (at t) own.Post Inv-loop μ-loop
-plus-requires t c κs = (
-  let e = c .before .before .before .before .before .before .before .before .before .loop .inv .adds .adds in
-      omega arith,
-  let e = c .times .ensures in omega arith,
-)
+add-told : (t : ℕ) → lts.Need-add-told (calls t) (at t) own.Post Inv-loop μ-loop
+add-told t c = let e = c .before .told .ensures in let f = c .times .ensures in omega arith
 
--- The sum with a locally best port more.
-added : (t : ℕ) (c : lts.After-plus (calls t) (at t) own.Post Inv-loop μ-loop) →
-    let l = c .before .before .before .before .before .before .before .before .before .before in let x = start t l .args in
-    Summing (board t l) (x .order .now) (rightmost t l) (x .a) (x .b) (l .loop .next) (c .plus .result)
-added t c = let l = c .before .before .before .before .before .before .before .before .before .before in let x = start t l .args in
-    let p = start t l .pre .1 in let i = l .loop .inv in
-    let j = c .before .before .before .before in let k = c .before .before in
-    rw (c .plus .ensures, c .before .times .ensures)
-    (summing-more (listed (p .0 .0) (x .cost .now) (x .bars .now)) _ (x .a) (x .b) (i .full) (port t l) (l .loop .next)
-    (l .loop .sum) (i .adds)
-    (inside t (c .before .before .before .before .before .before .before .before .before)) (after t l) (j .if2 .under) (k .if3 .over) (lead t (c .before .before .before .before .before .before)) (below t j .0)
-    (above t k .0))
+told-requires-2 : (t : ℕ) → lts.Need-told-requires-2 (calls t) (at t) own.Post Inv-loop μ-loop
+told-requires-2 t c κs = tt
 
--- What is known after the port, whether it is locally best or not.
-passed : (t : ℕ) (c : lts.Joined1 (calls t) (at t) own.Post Inv-loop μ-loop) → let l = c .before .before .before .before in let x = start t l .args in
-    Summing (board t l) (x .order .now) (rightmost t l) (x .a) (x .b) (l .loop .next) (c .if1 .sum)
-    × Buffer (x .order .now) (x .cost .now) (x .bars .now) (x .lo .now) (x .hi .now) (x .heads .now) (c .if1 .buffer)
-    × (length (c .if1 .buffer) ≡ length (x .buffer .now))
-passed t c = let l = c .before .before .before .before in let x = start t l .args in let p = start t l .pre .1 in let i = l .loop .inv in
-    ⊎-elim
-    (λ w. let j : lts.Joined3 (calls t) (at t) own.Post Inv-loop μ-loop = record {
-      before = record {
-        before = record { before = record { before = record { before = c .before; if1 = w .0 }; slice-known2 = w .1 }; if2 = w .2 };
-        slice-known4 = w .3;
-      };
-      if3 = w .4;
-    } in let u = above t j in
-    (rw (w .9) (added t (record { before = record { before = j; times = w .5 }; plus = w .6 })), rw (w .8) (u .1), ap length (w .8) ∙ u .2))
-    (λ w. (
-      rw (w .2) (summing-skip (listed (p .0 .0) (x .cost .now) (x .bars .now)) _ (x .a) (x .b) (i .full) (port t l) (l .loop .next) (l .loop .sum) (i .adds)
-          (inside t (c .before .before .before)) (after t l) (says t (c .before) .no (w .0 .left))),
-      rw (w .1) (i .right),
-      ap length (w .1) ∙ i .long,
-    ))
-    (c .if1 .came)
+-- The sum with both.
+added : (t : ℕ) (c : lts.After-told2 (calls t) (at t) own.Post Inv-loop μ-loop) → let j = c .before .before .before in let l = loop t (j .before .before .before) in
+    let x = start t l .args in
+    Round (x .buffer .now) (x .n) (x .a) (x .b) (j .if3 .buffer) (bitAnd (l .loop .rest) (l .loop .rest - 1)) (c .told2 .result)
+added t c = let j = c .before .before .before in let r = j .before .before .before in let l = loop t r in let u = above t j in
+    rw (c .told2 .ensures, c .before .before .told .ensures, c .before .times .ensures)
+    (round-large (l .loop .inv) (some-port t l) (countable t l) (turn t r .loop-test .taken) (j .before .if2 .under) (j .if3 .over) (below t (j .before) .0) (u .0)
+    (j .if3 .buffer) (u .1) (u .2))
 
-add-below-2 : (t : ℕ) → lts.Need-add-below-2 (calls t) (at t) own.Post Inv-loop μ-loop
-add-below-2 t c = let l = c .before .before .before .before in
-    omega (arith, small t l .1, whole t l, c .before .before .before .loop-test .taken, inside t (c .before .before .before))
+loop-less-2 : (t : ℕ) → lts.Need-loop-less-2 (calls t) (at t) own.Post Inv-loop μ-loop
+loop-less-2 t c = let r = c .before .before .before .before .before .before .before in let l = loop t r in
+    omega (arith, and-le-r (l .loop .rest) (l .loop .rest - 1), turn t r .loop-test .taken)
 
-add-next-2 : (t : ℕ) → lts.Need-add-next-2 (calls t) (at t) own.Post Inv-loop μ-loop
-add-next-2 t c = let l = c .before .before .before .before in omega (arith, small t l .1, inside t (c .before .before .before))
-
-loop-less : (t : ℕ) → lts.Need-loop-less (calls t) (at t) own.Post Inv-loop μ-loop
-loop-less t c = omega (arith, inside t (c .before .before .before))
-
-loop-again : (t : ℕ) → lts.Need-loop-again (calls t) (at t) own.Post Inv-loop μ-loop
-loop-again t c = let l = c .before .before .before .before in let i = l .loop .inv in let u = passed t c in
-    let n : l .loop .next + 1 - 1 ≡ l .loop .next = omega arith in record {
-      full = i .full;
-      strip = i .strip;
-      some = i .some;
-      first = omega (arith, i .first);
-      under = rw n (let s = rw (after t l) at (corner-step (port t l)) in omega (arith, i .under, i .first));
-      adds = rw n (u .0);
-      right = u .1;
-      long = u .2;
-    }
+loop-again-2 : (t : ℕ) → lts.Need-loop-again-2 (calls t) (at t) own.Post Inv-loop μ-loop
+loop-again-2 t c = added t (c .before)
 
 -- What is known after the loop: all ports are behind, or the sum is above the limit.
 counted : (t : ℕ) (c : lts.Left-loop (calls t) (at t) own.Post Inv-loop μ-loop) → let l = c .before in let x = start t l .args in
-    StripCount (board t l) (x .order .now) (x .a) (x .b) (c .loop-test .sum)
-    × Buffer (x .order .now) (x .cost .now) (x .bars .now) (x .lo .now) (x .hi .now) (x .heads .now) (c .loop-test .buffer)
-    × (length (c .loop-test .buffer) ≡ length (x .buffer .now))
-counted t c = let l = c .before in let x = start t l .args in let p = start t l .pre .1 in let i = l .loop .inv in
+    CountOf (x .buffer .now) (x .n) (x .a) (x .b) (capped (c .loop-test .sum)) × Numbers (x .n) (c .loop-test .buffer)
+    × SamePorts (x .n) (x .buffer .now) (c .loop-test .buffer)
+counted t c = let l = c .before in let i = l .loop .inv in
     ⊎-elim
-    (λ w. (
-      rw (w .2) (summing-done (listed (p .0 .0) (x .cost .now) (x .bars .now)) _ (x .a) (x .b) (i .full) (port t l) (l .loop .sum) (i .adds)
-          (place-after (x .a) (port t l) (x .b) (omega (arith, w .0 .left, i .under, l .before .before .before .before .before .before .corner .ensures .0)))),
-      rw (w .1) (i .right),
-      ap length (w .1) ∙ i .long,
-    ))
-    (λ w. let k : lts.After-leads (calls t) (at t) own.Post Inv-loop μ-loop =
-    record { before = record { before = record { before = l; loop-test = w .0 }; leads-arg = w .1 }; leads = w .2 } in
-    let j : lts.Joined3 (calls t) (at t) own.Post Inv-loop μ-loop = record {
+    (λ w. (rw (w .3) (round-done i (some-port t l) (w .0 .left)), rw (w .1) (i .right), rw (w .1) (i .same)))
+    (λ w. let j : lts.After-told2 (calls t) (at t) own.Post Inv-loop μ-loop = record {
       before = record {
-        before = record { before = record { before = record { before = k; if1 = w .3 }; slice-known2 = w .4 }; if2 = w .5 };
-        slice-known4 = w .6;
+        before = record {
+          before = record {
+            before = record {
+              before = record {
+                before = record { before = record { before = record { before = record { before = l; loop-test = w .0 }; corner3 = w .1 }; slice-known3 = w .2 }; slice-known4 = w .3 };
+                if1 = w .4;
+              };
+              if2 = w .5;
+            };
+            if3 = w .6;
+          };
+          told = w .7;
+        };
+        times = w .8;
       };
-      if3 = w .7;
-    } in let u = above t j in (
-      rw (w .12) (summing-most (listed (p .0 .0) (x .cost .now) (x .bars .now)) _ (x .a) (x .b) (i .full) (l .loop .next) (w .9 .result)
-          (added t (record { before = record { before = j; times = w .8 }; plus = w .9 })) (w .10 .taken)),
-      rw (w .11) (u .1),
-      ap length (w .11) ∙ u .2,
-    ))
+      told2 = w .9;
+    } in let a = added t j in
+    (rw (w .13) (round-most a (some-port t l) (let e = w .10 .taken in omega arith)), rw (w .11) (a .right), rw (w .11) (a .same)))
     (c .loop-test .came)
 
+told-requires-3 : (t : ℕ) → lts.Need-told-requires-3 (calls t) (at t) own.Post Inv-loop μ-loop
+told-requires-3 t c κs = tt
+
+-- Where the strip's own number goes.
+at-here : (t : ℕ) (l : Loop t) → let x = start t l .args in x .base + (l .before .before .before .corner .result + x .a) ≡ cornerOf (x .n + 1) + place (x .a) (x .b)
+at-here t l = omega (arith, l .before .before .before .corner .ensures .0, start t l .pre .1 .0 .1)
+
+whole : (t : ℕ) (l : Loop t) → l .before .before .before .corner .result + start t l .args .a < 2145
+whole t l = omega (arith, l .before .before .before .corner .ensures .1, some-port t l, small t l .1)
+
 add-buffer : (t : ℕ) → lts.Need-add-buffer (calls t) (at t) own.Post Inv-loop μ-loop
-add-buffer t c = let l = c .before in omega (arith, small t l .0, whole t l)
+add-buffer t c = let l = c .before .before in omega (arith, small t l .0, whole t l)
 
 mul-buffer : (t : ℕ) → lts.Need-mul-buffer (calls t) (at t) own.Post Inv-loop μ-loop
-mul-buffer t c = let l = c .before in omega (arith, small t l .0, whole t l)
+mul-buffer t c = let l = c .before .before in omega (arith, small t l .0, whole t l)
 
 slice-write-buffer : (t : ℕ) → lts.Need-slice-write-buffer (calls t) (at t) own.Post Inv-loop μ-loop
-slice-write-buffer t c = let l = c .before in let x = start t l .args in let p = start t l .pre .1 in
-    kept-room (counted t c .1) (x .base) (x .a) (x .b) _ (p .0 .2)
-    (omega (arith, l .before .before .before .before .before .before .corner .ensures .0)) (p .1 .0 .low) (p .1 .0 .high)
+slice-write-buffer t c = let l = c .before .before in let x = start t l .args in let h = countable-high (countable t l) in
+    omega (arith, at-here t l, place-listed (x .a) (x .b) (x .n) (h .0) (h .1), counted t (c .before) .1 .room)
 
 same-length : (t : ℕ) → lts.Need-same-length (calls t) (at t) own.Post Inv-loop μ-loop
-same-length t c = length-set (c .loop-test .buffer) _ _ ∙ counted t c .2
+same-length t c = length-set (c .before .loop-test .buffer) _ _ ∙ counted t (c .before) .2 .long
 
 returns : (t : ℕ) → lts.Need-returns (calls t) (at t) own.Post Inv-loop μ-loop
-returns t c = let l = c .before in let x = start t l .args in let p = start t l .pre .1 in let n = counted t c in (
-  n .0,
-  buffer-more (x .a) (x .b) _ (c .loop-test .sum) (omega (arith, p .0 .2, l .before .before .before .before .before .before .corner .ensures .0))
-      (p .0 .1) (p .1 .0 .high) (n .1) (n .0),
-)
+returns t c = let l = c .before .before in let x = start t l .args in let n = counted t (c .before) in let e = c .told3 .ensures in
+    let N : CountOf (x .buffer .now) (x .n) (x .a) (x .b) (c .told3 .result) = rw e (n .0) in
+    let low : c .told3 .result ≤ limit + 1 = omega arith in (
+      (N, low),
+      (
+        numbers-more (x .a) (x .b) _ _ (at-here t l) (some-port t l) (small t l .2) (n .1) low (count-same (n .2) (x .a) (x .b) _ N),
+        ports-then (n .2) (ports-more (x .a) (x .b) _ _ (at-here t l) (some-port t l) (small t l .2) (n .1)),
+      ),
+    )
 
 pub +count-strip-spec : {M : Type 1} → statement M
 +count-strip-spec = close μ λ t. lts.spec
@@ -405,32 +358,37 @@ pub +count-strip-spec : {M : Type 1} → statement M
     μ-loop
     (corner-requires t)
     (add-i t)
-    (shared-slice-read-r t)
-    (cast-r t)
-    (sub-r t)
-    (strip-at-requires t)
     (corner-requires-2 t)
     (add-above t)
-    (corner-requires-3 t)
-    (add-below t)
-    (add-next t)
+    (add-above-2 t)
+    (mul-rest t)
+    (slice-read-rest t)
     (loop-holds t)
-    (sub-q t)
-    (leads-requires t)
+    (cast-q t)
+    (sub-rest t)
+    (corner-requires-3 t)
     (add-under t)
+    (add-under-2 t)
     (mul-under t)
     (slice-read-under t)
-    (count-strip-requires t)
     (add-over t)
     (mul-over t)
     (slice-read-over t)
-    (count-strip-requires-2 t)
-    (times-requires t)
-    (plus-requires t)
-    (add-below-2 t)
-    (add-next-2 t)
+    (add-if1 t)
+    (mul-sum t)
+    (add-sum t)
     (loop-less t)
     (loop-again t)
+    (count-strip-requires t)
+    (add-count-strip t)
+    (count-strip-requires-2 t)
+    (told-requires t)
+    (times-requires t)
+    (add-told t)
+    (told-requires-2 t)
+    (loop-less-2 t)
+    (loop-again-2 t)
+    (told-requires-3 t)
     (add-buffer t)
     (mul-buffer t)
     (slice-write-buffer t)

@@ -6,25 +6,25 @@ use Rattle.counting.proofs.place.Statement.{statement}
 use Rattle.counting.proofs.place.Tie as tie
 
 count-requires : tie.Need-count-requires
-count-requires c κs = let s = c .before .before .before .before .before .before .before .before .before in (s .pre .0 .0, s .pre .1)
+count-requires c κs = let s = c .before .before .before .before .before .before .before .before in (s .pre .0 .0, s .pre .1)
 
 same-length : tie.Need-same-length
 same-length c = search needs
 
 returns : tie.Need-returns
-returns c = let s = c .before .before .before .before .before .before .before .before .before .before .before .before .before in
+returns c = let s = c .before .before .before .before .before .before .before .before .before .before .before .before in
     let n = c .before .before .before .count in count-above (n .result) (n .ensures .0) (s .args .out .now) (c .if1 .taken)
 
 same-length-2 : tie.Need-same-length-2
 same-length-2 c = search needs
 
 returns-2 : tie.Need-returns-2
-returns-2 c = let s = c .before .before .before .before .before .before .before .before .before .before .before .before .before .before in
+returns-2 c = let s = c .before .before .before .before .before .before .before .before .before .before .before .before .before in
     let n = c .before .before .before .before .count in count-past (n .result) (n .ensures .0) (c .before .if1 .left) (s .args .out .now) (s .args .k) (c .if2
     .taken)
 
 walk-requires : tie.Need-walk-requires
-walk-requires c κs = let s = c .before .before .before .before .before .before .before .before .before .before .before .before .before .before .before .before in
+walk-requires c κs = let s = c .before .before .before .before .before .before .before .before .before .before .before .before .before .before .before in
     let x = s .args in let p = s .pre in let n = c .before .before .before .before .before .before .count in (
       p .0,
       (
@@ -44,7 +44,7 @@ same-length-4 : tie.Need-same-length-4
 same-length-4 c = search needs
 
 returns-3 : tie.Need-returns-3
-returns-3 c = let s = c .before .before .before .before .before .before .before .before .before .before .before .before .before .before .before .before .before
+returns-3 c = let s = c .before .before .before .before .before .before .before .before .before .before .before .before .before .before .before .before
     .before .before .before .before in let n = c .before .before .before .before .before .before .before .before .before .before .before .count in
     count-found (n .result) (n .ensures .0) (c .before .before .before .before .before .before .before .before .if1 .left) (s .args .out .now) (s .args .k) _ (omega
     (arith, c .before .before .before .before .before .before .before .if2 .left)) (c .before .before .before .before .walk .ensures)

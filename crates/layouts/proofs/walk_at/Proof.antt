@@ -47,34 +47,40 @@ prepare-requires c κs = search needs
 bar-requires : tie.Need-bar-requires
 bar-requires c κs = let s = start (c .before .before .before .before .before .before .before) in (s .pre .0 .0, s .pre .1 .1)
 
+array-borrow-prefix-none : tie.Need-array-borrow-prefix-none
+array-borrow-prefix-none c = search needs
+
+slice-aggregate-fill : tie.Need-slice-aggregate-fill
+slice-aggregate-fill c = search needs
+
 fill-requires : tie.Need-fill-requires
 fill-requires c κs =
-    let b = c .before .before .before .before .before .before .before .before in
+    let b = c .before .before .before .before .before .before .before .before .before in
     let p = prepared b in
     (even-pads (work p) refl, (start p .pre .1 .0 .1, start p .pre .1 .0 .2, square p, barred b))
 
 walk-requires : tie.Need-walk-requires
 walk-requires c κs =
-    let f = c .before .before .before .before .before .before .before .before .before .before .before .before in
-    let b = f .before .before .before .before .before .before .before .before .before in
+    let f = c .before .before .before .before .before .before .before .before .before .before .before .before .before in
+    let b = f .before .before .before .before .before .before .before .before .before .before in
     let p = prepared b in
     let s = start p in
     let costs = stacked-costs (board p) (work p) refl (bars b) (f .fill .ensures .0) in (
       working-on (board p) (work p) costs (stacked-right (board p) (work p) refl (bars b) (f .fill .ensures .0)) (s .args .start) (s .args .w .now) (s .pre .0 .0 .some) (s .pre .0 .2),
       (
-        stacked-least (board p) (work p) refl (bars b) (f .fill .ensures .0) (f .fill .result) (f .fill .ensures .1),
+        stacked-least (board p) (work p) refl (bars b) (f .fill .ensures .0) (f .fill .result) (f .fill .ensures .1 .1),
         startable-on (board p) (work p) costs (s .args .start) (s .args .w .now) (s .pre .0 .2),
       ),
     )
 
 same-length : tie.Need-same-length
-same-length c = prepared (c .before .before .before .before .before .before .before .before .before .before .before .before .before .before .before .before .before .before .before .before .before .before .before .before .before .before) .prepare .kept .1 .1 .1 .0
+same-length c = prepared (c .before .before .before .before .before .before .before .before .before .before .before .before .before .before .before .before .before .before .before .before .before .before .before .before .before .before .before .before) .prepare .kept .1 .1 .1 .0
 
 same-length-2 : tie.Need-same-length-2
-same-length-2 c = prepared (c .before .before .before .before .before .before .before .before .before .before .before .before .before .before .before .before .before .before .before .before .before .before .before .before .before .before) .prepare .kept .1 .1 .1 .1 .0
+same-length-2 c = prepared (c .before .before .before .before .before .before .before .before .before .before .before .before .before .before .before .before .before .before .before .before .before .before .before .before .before .before .before .before) .prepare .kept .1 .1 .1 .1 .0
 
 same-length-3 : tie.Need-same-length-3
-same-length-3 c = prepared (c .before .before .before .before .before .before .before .before .before .before .before .before .before .before .before .before .before .before .before .before .before .before .before .before .before .before) .prepare .kept .1 .1 .1 .1 .1 .0
+same-length-3 c = prepared (c .before .before .before .before .before .before .before .before .before .before .before .before .before .before .before .before .before .before .before .before .before .before .before .before .before .before .before .before) .prepare .kept .1 .1 .1 .1 .1 .0
 
 same-length-4 : tie.Need-same-length-4
 same-length-4 c = search needs
@@ -83,7 +89,7 @@ same-length-5 : tie.Need-same-length-5
 same-length-5 c = search needs
 
 same-length-6 : tie.Need-same-length-6
-same-length-6 c = search needs
+same-length-6 c = c .before .before .before .before .before .before .before .before .before .before .before .before .before .before .before .before .before .before .before .before .before .before .before .before .before .before .before .before .bar .kept .1 .1 .1 .0
 
 same-length-7 : tie.Need-same-length-7
 same-length-7 c = search needs
@@ -94,8 +100,8 @@ same-length-8 c = search needs
 returns : tie.Need-returns
 returns c =
     let d = c .before .before .before .before in
-    let f = d .before .before .before .before .before .before .before .before .before .before .before .before .before in
-    let b = f .before .before .before .before .before .before .before .before .before in
+    let f = d .before .before .before .before .before .before .before .before .before .before .before .before .before .before in
+    let b = f .before .before .before .before .before .before .before .before .before .before in
     let p = prepared b in
     let a = start p .args in
     walks-on (board p) (work p) (stacked-costs (board p) (work p) refl (bars b) (f .fill .ensures .0)) (a .start) (a .w .now) (a .page .now) _ _ (d .walk .result) (d .walk .ensures)
@@ -106,6 +112,8 @@ walk-at-spec =
     (tie.spec
     prepare-requires
     bar-requires
+    array-borrow-prefix-none
+    slice-aggregate-fill
     fill-requires
     walk-requires
     same-length

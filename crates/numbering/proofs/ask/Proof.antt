@@ -1,5 +1,5 @@
 -- `numbering::ask` meets its contract: the lists lent are arrays and parts of arrays. Assumes nothing.
-use mathlib.Core.Path.{sym, refl}
+use mathlib.Core.Path.{sym}
 use Prim.Native.Nat.{_*_}
 use native.Mathlib.Nat.{mul-le-mul}
 use lib.Seq.{length-take-le}
@@ -27,25 +27,22 @@ array-borrow-prefix-hi c = search needs
 slice-aggregate-ask-at-3 : tie.Need-slice-aggregate-ask-at-3
 slice-aggregate-ask-at-3 c = sym (length-take-le _ _ (c .before .before .before .before .before .before .before .pre .0 .few))
 
-slice-aggregate-ask-at-4 : tie.Need-slice-aggregate-ask-at-4
-slice-aggregate-ask-at-4 c = search needs
-
 mul-bars : tie.Need-mul-bars
 mul-bars c = search needs
 
 array-borrow-prefix-bars : tie.Need-array-borrow-prefix-bars
-array-borrow-prefix-bars c = let few = c .before .before .before .before .before .before .before .before .pre .0 .few in mul-le-mul few few
+array-borrow-prefix-bars c = let few = c .before .before .before .before .before .before .before .pre .0 .few in mul-le-mul few few
 
-slice-aggregate-ask-at-5 : tie.Need-slice-aggregate-ask-at-5
-slice-aggregate-ask-at-5 c = let few = c .before .before .before .before .before .before .before .before .before .pre .0 .few in sym (length-take-le _ _ (mul-le-mul few few))
+slice-aggregate-ask-at-4 : tie.Need-slice-aggregate-ask-at-4
+slice-aggregate-ask-at-4 c = let few = c .before .before .before .before .before .before .before .before .pre .0 .few in sym (length-take-le _ _ (mul-le-mul few few))
 
 ask-at-requires : tie.Need-ask-at-requires
 ask-at-requires c κs =
-    let s = c .before .before .before .before .before .before .before .before .before .before .before in
+    let s = c .before .before .before .before .before .before .before .before .before .before in
     let few = s .pre .0 .few in (
       s .pre,
       (
-        (record { places = length-take-le _ _ few; lows = length-take-le _ _ few; highs = length-take-le _ _ few }, refl {a = 2145}),
+        record { places = length-take-le _ _ few; lows = length-take-le _ _ few; highs = length-take-le _ _ few },
         (length-take-le _ _ (mul-le-mul few few), zeros-front (count (s .args .job .now) * count (s .args .job .now)) 4096),
       ),
     )
@@ -69,10 +66,9 @@ ask-spec =
     slice-aggregate-ask-at-2
     array-borrow-prefix-hi
     slice-aggregate-ask-at-3
-    slice-aggregate-ask-at-4
     mul-bars
     array-borrow-prefix-bars
-    slice-aggregate-ask-at-5
+    slice-aggregate-ask-at-4
     ask-at-requires
     same-length
     same-length-2

@@ -15,8 +15,8 @@ enum-known-asked c = search needs
 
 place-at-requires : tie.Need-place-at-requires
 place-at-requires c κs =
-    let k = c .before .before .before .before .before .before .before .before in
-    let s = k .before .before .before .before .before .before .before .before .before .before .before in
+    let k = c .before .before .before .before .before .before .before in
+    let s = k .before .before .before .before .before .before .before .before .before .before in
     ((s .pre .0 .0, s .pre .0 .1, rw (k .asked .given .1) at (s .pre .0 .2)), s .pre .1)
 
 same-length : tie.Need-same-length
@@ -38,7 +38,7 @@ same-length-6 : tie.Need-same-length-6
 same-length-6 c = search needs
 
 returns : tie.Need-returns
-returns c = let d = c .before .before .before .before .before .before .before .before .before .before .before .before in rw (d .before .before .before .before .before .before .before .enum-told .given .1) (d .count-at .ensures, refl)
+returns c = let d = c .before .before .before .before .before .before .before .before .before .before in rw (d .before .before .before .before .before .before .enum-told .given .1) (d .count-at .ensures, refl)
 
 same-length-7 : tie.Need-same-length-7
 same-length-7 c = search needs
@@ -55,14 +55,8 @@ same-length-10 c = search needs
 same-length-11 : tie.Need-same-length-11
 same-length-11 c = search needs
 
-same-length-12 : tie.Need-same-length-12
-same-length-12 c = search needs
-
-same-length-13 : tie.Need-same-length-13
-same-length-13 c = search needs
-
 returns-2 : tie.Need-returns-2
-returns-2 c = let d = c .before .before .before .before .before .before .before .before .before .before .before .before .before .before in rw (d .before .before .before .before .before .before .before .before .before .asked .given .1) (d .place-at .ensures)
+returns-2 c = let d = c .before .before .before .before .before .before .before .before .before .before .before .before in rw (d .before .before .before .before .before .before .before .before .asked .given .1) (d .place-at .ensures)
 
 pub ask-at-spec : {M : Type 1} → statement M
 ask-at-spec =
@@ -77,13 +71,11 @@ ask-at-spec =
     same-length-3
     same-length-4
     same-length-5
-    same-length-6
     returns
+    same-length-6
     same-length-7
     same-length-8
     same-length-9
     same-length-10
     same-length-11
-    same-length-12
-    same-length-13
     returns-2)

@@ -9,10 +9,10 @@ use Rattle.numbering.proofs.count_at.Tie as tie
 
 -- from a match on what was lent, the lending; and the board
 abbrev lent : tie.At-match-keys1 → tie.After-lend
-lent m = m .before .before .before .before .before .before .before .before .before .before .before .before .before
+lent m = m .before .before .before .before .before .before .before .before .before .before .before
 
 abbrev start : tie.After-lend → tie.Start
-start l = l .before .before .before .before .before .before .before .before .before .before .before .before .before .before .before
+start l = l .before .before .before .before .before .before .before .before .before .before .before .before .before
 
 abbrev board : tie.After-lend → Board
 board l = boardOf (records (start l .args .job .now))
@@ -25,10 +25,10 @@ enum-told c = search needs
 
 count-requires : tie.Need-count-requires
 count-requires c κs =
-    let told = c .before .before .before .before .before .before in
+    let told = c .before .before .before .before .before in
     let l = lent (told .before) in
     let e = told .enum-told .given .1 in
-    (proper-board (board l) refl _ _ _ _ _ _ _ _ (l .lend .ensures) e, countable (board l) refl _ _ _ _ _ _ _ _ (l .lend .ensures) e)
+    (proper-board (board l) refl _ _ _ _ _ _ _ (l .lend .ensures) e, countable (board l) refl _ _ _ _ _ _ _ (l .lend .ensures) e)
 
 of-count-requires : tie.Need-of-count-requires
 of-count-requires c κs = search needs
@@ -57,9 +57,9 @@ same-length-6 c = search needs
 returns : tie.Need-returns
 returns c =
     let d = c .before .before .before in
-    let told = d .before .before .before .before .before .before .before in
+    let told = d .before .before .before .before .before .before in
     let l = lent (told .before) in
-    rw (c .of-count .ensures) (counted (board l) refl _ _ _ _ _ _ _ _ (l .lend .ensures) (told .enum-told .given .1) _ (d .count .result) (d .count .ensures .0))
+    rw (c .of-count .ensures) (counted (board l) refl _ _ _ _ _ _ _ (l .lend .ensures) (told .enum-told .given .1) _ (d .count .result) (d .count .ensures .0))
 
 same-length-7 : tie.Need-same-length-7
 same-length-7 c = search needs
@@ -73,14 +73,8 @@ same-length-9 c = search needs
 same-length-10 : tie.Need-same-length-10
 same-length-10 c = search needs
 
-same-length-11 : tie.Need-same-length-11
-same-length-11 c = search needs
-
-same-length-12 : tie.Need-same-length-12
-same-length-12 c = search needs
-
 returns-2 : tie.Need-returns-2
-returns-2 c = let l = c .before .before .before .before .before .before .before .before .before .before .before .before .before .before .before in not-counted (board l) _ _ _ _ _ _ _ _ (l .lend .ensures) _ (c .before .l .given .1)
+returns-2 c = let l = c .before .before .before .before .before .before .before .before .before .before .before .before .before in not-counted (board l) _ _ _ _ _ _ _ (l .lend .ensures) _ (c .before .l .given .1)
 
 pub count-at-spec : {M : Type 1} → statement M
 count-at-spec =
@@ -96,12 +90,10 @@ count-at-spec =
     same-length-3
     same-length-4
     same-length-5
-    same-length-6
     returns
+    same-length-6
     same-length-7
     same-length-8
     same-length-9
     same-length-10
-    same-length-11
-    same-length-12
     returns-2)

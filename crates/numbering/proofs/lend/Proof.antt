@@ -1,4 +1,4 @@
--- `numbering::lend` meets its contract: the table stands in its own room, and then in the buffer. Assumes nothing.
+-- `numbering::lend` meets its contract: what is filled stands in its own room, and the ports then in the buffer. Assumes nothing.
 use borrow.Author.Needs.{needs}
 use mathlib.Core.Path.{_≡_, refl, sym, _∙_}
 use Prim.Native.Nat.{ℕ, _+_, _≤_, _<_}
@@ -13,16 +13,17 @@ use Rattle.board.specs.Bars.{BarsOf}
 use Rattle.board.specs.Bridge.{even-pads}
 use Rattle.totals.specs.Cell.{cornerOf}
 use Rattle.totals.proofs.Corners.{corner-step}
-use Rattle.totals.proofs.Cells.{table-read}
-use Rattle.counting.proofs.Buffers.{room-enough}
+use Rattle.counting.proofs.Buffers.{room-enough, base-few}
+use Rattle.counting.proofs.Strips.{marked-by}
+use Rattle.counting.proofs.Whole.{listed}
 use Rattle.numbering.specs.Outcomes.{Stacked}
-use Rattle.numbering.proofs.Bridged.{no-layout, some-layout}
+use Rattle.numbering.proofs.Bridged.{no-layout, some-layout, proper-lists}
 use Rattle.numbering.proofs.lend.Statement.{statement}
 use Rattle.numbering.proofs.lend.Tie as tie
 
 -- the function's entry, from where the lists are made; the board; its lists; and its bars
 abbrev start : tie.After-prepare → tie.Start
-start p = p .before .before .before .before .before .before .before .before .before .before .before .before
+start p = p .before .before .before .before .before .before .before .before .before .before .before
 
 abbrev board : tie.After-prepare → Board
 board p = boardOf (records (start p .args .job .now))
@@ -31,7 +32,7 @@ abbrev prepared : tie.After-bar → tie.After-prepare
 prepared b = b .before .before .before .before .before .before .before .before
 
 abbrev barred : tie.After-fill → tie.After-bar
-barred f = f .before .before .before .before .before .before .before .before .before
+barred f = f .before .before .before .before .before .before .before .before .before .before
 
 lists : (p : tie.After-prepare) → let l = p .prepare .last in ListsOf (board p) (l .1 .1 .1 .0) (l .1 .1 .1 .1 .0) (l .1 .1 .1 .1 .1 .0)
 lists p = let job = start p .pre .0 .0 in record {
@@ -54,8 +55,15 @@ bars b = b .bar .ensures
 -- the table, with the least total of all
 made : (f : tie.After-fill) → let b = barred f in let l = prepared b .prepare .last in
     Stacked (board (prepared b)) (start (prepared b) .args .figures .now) (b .bar .last .1 .1 .1 .0) (l .1 .1 .1 .0) (l .1 .1 .1 .1 .0) (l .1 .1 .1 .1 .1 .0)
-    (f .fill .last .0) (f .fill .last .1 .0) (f .fill .result)
-made f = record { lists = lists (prepared (barred f)); bars = bars (barred f); table = f .fill .ensures .0; least = f .fill .ensures .1 }
+    (f .fill .result)
+made f = record {
+  lists = lists (prepared (barred f));
+  bars = bars (barred f);
+  heads = f .fill .last .0;
+  totals = f .fill .last .1 .0;
+  table = f .fill .ensures .0;
+  least = f .fill .ensures .1 .1;
+}
 
 -- where the least total tells of a layout, the table
 abbrev tabled : tie.Else1 → tie.After-fill
@@ -68,6 +76,12 @@ enough e = rw (← same-n (prepared (barred (tabled (e .before .before))))) (ltb
 slice-aggregate-fill : tie.Need-slice-aggregate-fill
 slice-aggregate-fill c = search needs
 
+slice-aggregate-fill-2 : tie.Need-slice-aggregate-fill-2
+slice-aggregate-fill-2 c = search needs
+
+slice-aggregate-fill-3 : tie.Need-slice-aggregate-fill-3
+slice-aggregate-fill-3 c = search needs
+
 prepare-requires : tie.Need-prepare-requires
 prepare-requires c κs = search needs
 
@@ -76,9 +90,9 @@ bar-requires c κs = let s = start (c .before .before .before .before .before .b
 
 fill-requires : tie.Need-fill-requires
 fill-requires c κs =
-    let b = c .before .before .before .before .before .before .before .before in
+    let b = c .before .before .before .before .before .before .before .before .before in
     let p = prepared b in
-    (even-pads (lists p) refl, (start p .pre .1 .0 .1, refl {a = 2145}, rw (same-n p) (start p .pre .0 .1), rw (same-n p) (bars b .long)))
+    (even-pads (lists p) refl, (refl {a = 2145}, refl {a = 2145}, rw (same-n p) (start p .pre .0 .1), rw (same-n p) (bars b .long)))
 
 same-length : tie.Need-same-length
 same-length c = search needs
@@ -143,7 +157,7 @@ copy-requires c κs =
     let p = prepared (barred f) in
     let n = length (p .prepare .last .1 .1 .1 .0) in
     let k : c .before .corner .result ≡ cornerOf n = c .before .corner .ensures .0 in
-    (omega (arith, k, corner-step n, made f .table .sizes .totals), omega (arith, k, corner-step n, room-enough n, rw (← same-n p) at (enough e)))
+    (omega (arith, k, corner-step n, base-few n (few p)), omega (arith, k, corner-step n, room-enough n, rw (← same-n p) at (enough e)))
 
 same-length-11 : tie.Need-same-length-11
 same-length-11 c = search needs
@@ -154,15 +168,6 @@ same-length-12 c = search needs
 same-length-13 : tie.Need-same-length-13
 same-length-13 c = search needs
 
-same-length-14 : tie.Need-same-length-14
-same-length-14 c = search needs
-
-same-length-15 : tie.Need-same-length-15
-same-length-15 c = search needs
-
-same-length-16 : tie.Need-same-length-16
-same-length-16 c = search needs
-
 returns-3 : tie.Need-returns-3
 returns-3 c =
     let d = c .before .before in
@@ -171,17 +176,12 @@ returns-3 c =
     let p = prepared (barred f) in
     let K = made f in
     let n = length (p .prepare .last .1 .1 .1 .0) in
-    let k : d .before .before .corner .result ≡ cornerOf n = d .before .before .corner .ensures .0 in
-    let wide = rw (← same-n p) at (enough e) in (
+    let k : d .before .before .corner .result ≡ cornerOf n = d .before .before .corner .ensures .0 in (
       record { some = some-layout (board p) refl K (omega (arith, e .before .before .if1 .left)); enough = enough e },
       d .copy .ensures .long,
-      record {
-        lists = K .lists;
-        bars = K .bars;
-        table = table-read _ (omega (arith, d .copy .ensures .long, room-enough n, wide))
-            (λ i h. let z : 0 + i ≡ i = omega arith in rw z at (d .copy .ensures .here i (omega (arith, k, corner-step n)))) (K .table);
-        least = K .least;
-      },
+      K,
+      marked-by (f .fill .last .1 .1 .0) (listed (proper-lists (board p) refl K) (start p .args .figures .now) (barred f .bar .last .1 .1 .1 .0)) (f .fill .ensures .0) (f .fill .ensures .1 .0) (omega (arith, base-few n (few p), f .fill .kept .1 .1 .0)) _
+          (λ i h. let z : 0 + i ≡ i = omega arith in rw z at (d .copy .ensures .here i (omega (arith, k, corner-step n)))),
       omega (arith, e .before .before .if1 .left),
     )
 
@@ -192,29 +192,28 @@ lend-spec =
     prepare-requires
     bar-requires
     slice-aggregate-fill
+    slice-aggregate-fill-2
+    slice-aggregate-fill-3
     fill-requires
     same-length
     same-length-2
     same-length-3
     same-length-4
-    same-length-5
     returns
     short-buffer-requires
+    same-length-5
     same-length-6
     same-length-7
     same-length-8
-    same-length-9
-    same-length-10
     returns-2
     slice-aggregate-copy
     corner-requires
     add-copy
     add-copy-2
     copy-requires
+    same-length-9
+    same-length-10
     same-length-11
     same-length-12
     same-length-13
-    same-length-14
-    same-length-15
-    same-length-16
     returns-3)

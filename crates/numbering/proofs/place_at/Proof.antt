@@ -10,17 +10,17 @@ use native.Mathlib.Omega.{arith}
 
 -- from a match on what was lent, the lending; and the board
 abbrev lent : tie.At-match-keys1 → tie.After-lend
-lent m = m .before .before .before .before .before .before .before .before .before .before .before .before .before
+lent m = m .before .before .before .before .before .before .before .before .before .before .before
 
 abbrev start : tie.After-lend → tie.Start
-start l = l .before .before .before .before .before .before .before .before .before .before .before .before .before .before .before .before
+start l = l .before .before .before .before .before .before .before .before .before .before .before .before .before .before
 
 abbrev board : tie.After-lend → Board
 board l = boardOf (records (start l .args .job .now))
 
 lend-requires : tie.Need-lend-requires
 lend-requires c κs =
-    let s = c .before .before .before .before .before .before .before .before .before .before .before .before .before .before .before in
+    let s = c .before .before .before .before .before .before .before .before .before .before .before .before .before in
     ((s .pre .0 .0, s .pre .0 .1), s .pre .1)
 
 enum-known-l : tie.Need-enum-known-l
@@ -28,11 +28,11 @@ enum-known-l c = search needs
 
 place-requires : tie.Need-place-requires
 place-requires c κs =
-    let told = c .before .before .before .before .before .before .before .before in
+    let told = c .before .before .before .before .before .before .before in
     let l = lent (told .before) in
     let e = told .l .given .1 in
-    let n = same-n (board l) refl _ _ _ _ _ _ _ _ (l .lend .ensures) e in
-    ((proper-board (board l) refl _ _ _ _ _ _ _ _ (l .lend .ensures) e, omega (arith, n, start l .pre .0 .2)), countable (board l) refl _ _ _ _ _ _ _ _ (l .lend .ensures) e)
+    let n = same-n (board l) refl _ _ _ _ _ _ _ (l .lend .ensures) e in
+    ((proper-board (board l) refl _ _ _ _ _ _ _ (l .lend .ensures) e, omega (arith, n, start l .pre .0 .2)), countable (board l) refl _ _ _ _ _ _ _ (l .lend .ensures) e)
 
 of-reply-requires : tie.Need-of-reply-requires
 of-reply-requires c κs = search needs
@@ -64,10 +64,10 @@ same-length-7 c = search needs
 returns : tie.Need-returns
 returns c =
     let d = c .before .before .before .before .before in
-    let told = d .before .before .before .before .before .before .before .before .before in
+    let told = d .before .before .before .before .before .before .before .before in
     let l = lent (told .before) in
     let a = start l .args in
-    rw (c .of-reply .ensures) (placed (board l) refl _ _ _ _ _ _ _ _ (l .lend .ensures) (told .l .given .1) (a .k) (a .layout .now) _ _ (d .place .result) (d .place .ensures))
+    rw (c .of-reply .ensures) (placed (board l) refl _ _ _ _ _ _ _ (l .lend .ensures) (told .l .given .1) (a .k) (a .layout .now) _ _ (d .place .result) (d .place .ensures))
 
 same-length-8 : tie.Need-same-length-8
 same-length-8 c = search needs
@@ -81,14 +81,8 @@ same-length-10 c = search needs
 same-length-11 : tie.Need-same-length-11
 same-length-11 c = search needs
 
-same-length-12 : tie.Need-same-length-12
-same-length-12 c = search needs
-
-same-length-13 : tie.Need-same-length-13
-same-length-13 c = search needs
-
 returns-2 : tie.Need-returns-2
-returns-2 c = let l = c .before .before .before .before .before .before .before .before .before .before .before .before .before .before .before in not-placed (board l) _ _ _ _ _ _ _ _ (l .lend .ensures) _ (c .before .l2 .given .1) (start l .args .k) (start l .args .layout .now)
+returns-2 c = let l = c .before .before .before .before .before .before .before .before .before .before .before .before .before in not-placed (board l) _ _ _ _ _ _ _ (l .lend .ensures) _ (c .before .l2 .given .1) (start l .args .k) (start l .args .layout .now)
 
 pub place-at-spec : {M : Type 1} → statement M
 place-at-spec =
@@ -105,12 +99,10 @@ place-at-spec =
     same-length-4
     same-length-5
     same-length-6
-    same-length-7
     returns
+    same-length-7
     same-length-8
     same-length-9
     same-length-10
     same-length-11
-    same-length-12
-    same-length-13
     returns-2)
