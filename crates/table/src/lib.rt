@@ -42,6 +42,7 @@ fn fill_row(
     let mut b = a;
     while b <= n {
         let h = heads::head(at, seen, all, order, lo, hi, a, b);
+        let i = totals::corner(b) + a;
         let w = totals::strip_best(
             lows,
             sums,
@@ -57,11 +58,10 @@ fn fill_row(
             h,
         );
         let v = w.total;
-        let i = totals::corner(b) + a;
+        let k = totals::kept(h, v) as u8;
         if i < ports.len() {
             ports[i] = w.ports;
         }
-        let k = totals::kept(h, v) as u8;
         heads[i] = k;
         totals[i] = v;
         lows[b] = k;

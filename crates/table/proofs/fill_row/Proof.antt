@@ -31,11 +31,11 @@ abbrev start : tie.At-loop Inv-loop μ-loop → tie.Start Inv-loop μ-loop
 start t = t .before .before .before .before .before .before .before .before .before .before .before .before .before .before
 
 abbrev turn : tie.After-corner Inv-loop μ-loop → tie.At-loop Inv-loop μ-loop
-turn k = k .before .before .before .before .before .before .before .before .before .before .before .before .before .before
+turn k = k .before .before .before .before .before .before .before .before .before
 
 -- the turn's strip ends at a port of the board, and stands in the tables
 inside : (k : tie.After-corner Inv-loop μ-loop) → turn k .loop .b ≤ length (start (turn k) .args .order .now)
-inside k = omega (arith, k .before .before .before .before .before .before .before .before .before .before .before .before .before .loop-test .taken)
+inside k = omega (arith, k .before .before .before .before .before .before .before .before .loop-test .taken)
 
 few : (k : tie.After-corner Inv-loop μ-loop) → length (start (turn k) .args .order .now) ≤ 64
 few k = start (turn k) .pre .0 .few
@@ -51,10 +51,15 @@ in-totals : (k : tie.After-corner Inv-loop μ-loop) → place (start (turn k) .a
 in-totals k = let t = turn k in let s = start t in let i = t .loop .inv in
     omega (arith, i .3, s .pre .1 .0 .totals, place-listed (s .args .a) (t .loop .b) (length (s .args .order .now)) (i .0) (inside k))
 
+-- a turn's corner, from where the head is kept
+abbrev corner : tie.After-kept Inv-loop μ-loop → tie.After-corner Inv-loop μ-loop
+corner d = d .before .before .before .before .before .before
+
 -- the strip's ports are in the list, as far as it goes
-ports-noted : (j : tie.Joined1 Inv-loop μ-loop) → let k = j .before in
-    Noted (turn k .loop .ports) (j .if1 .ports) (k .corner .result + start (turn k) .args .a) (k .before .strip-best .result .ports)
-ports-noted j = let k = j .before in let ms = turn k .loop .ports in let p = k .corner .result + start (turn k) .args .a in let m = k .before .strip-best .result .ports in
+ports-noted : (j : tie.Joined1 Inv-loop μ-loop) → let k = corner (j .before) in
+    Noted (turn k .loop .ports) (j .if1 .ports) (k .corner .result + start (turn k) .args .a) (j .before .before .strip-best .result .ports)
+ports-noted j = let k = corner (j .before) in let ms = turn k .loop .ports in let p = k .corner .result + start (turn k) .args .a in
+    let m = j .before .before .strip-best .result .ports in
     ⊎-elim
     (λ w. subst (λ (l : List ℕ). Noted ms l p m) (sym (w .1)) (noted ms p m))
     (λ w. subst (λ (l : List ℕ). Noted ms l p m) (sym (w .1)) (passed-by ms p m (w .0 .left)))
@@ -81,23 +86,23 @@ head-requires c κs = let t = c .before .before .before in let p = start t .pre 
 
 strip-best-requires : tie.Need-strip-best-requires Inv-loop μ-loop
 strip-best-requires c κs =
-    let t = c .before .before .before .before .before .before .before .before .before .before .before .before in
+    let t = c .before .before .before .before .before .before .before .before .before .before .before .before .before in
     let p = start t .pre in let i = t .loop .inv in (
       p .0,
       (
         sizes-with (p .1 .0) (i .2) (omega (arith, i .3, p .1 .0 .totals)),
-        ((i .0, omega arith, c .before .before .before .before .before .before .before .before .head .ensures .0), (row-parts _ _ _ _ _ _ _ (omega arith) (i .7), i .8)),
+        ((i .0, omega arith, c .before .before .before .before .before .before .before .before .before .head .ensures .0), (row-parts _ _ _ _ _ _ _ (omega arith) (i .7), i .8)),
       ),
     )
 
 corner-requires : tie.Need-corner-requires Inv-loop μ-loop
-corner-requires c κs = let t = c .before .before .before .before .before .before .before .before .before .before .before .before .before in omega (arith, c .before .before .before .before .before .before .before .before .before .before .before .before .loop-test .taken, start t .pre .0 .few)
+corner-requires c κs = let t = c .before .before .before .before .before .before .before .before in omega (arith, c .before .before .before .before .before .before .before .loop-test .taken, start t .pre .0 .few)
 
 add-i : tie.Need-add-i Inv-loop μ-loop
 add-i c = omega (arith, c .corner .ensures .1, turn c .loop .inv .0, inside c, few c)
 
 mul-ports : tie.Need-mul-ports Inv-loop μ-loop
-mul-ports c = let k = c .before in omega (arith, k .corner .ensures .1, turn k .loop .inv .0, inside k, few k)
+mul-ports c = let k = corner (c .before) in omega (arith, k .corner .ensures .1, turn k .loop .inv .0, inside k, few k)
 
 slice-write-ports : tie.Need-slice-write-ports Inv-loop μ-loop
 slice-write-ports c = search needs
@@ -106,36 +111,36 @@ kept-requires : tie.Need-kept-requires Inv-loop μ-loop
 kept-requires c κs = search needs
 
 cast-k : tie.Need-cast-k Inv-loop μ-loop
-cast-k c = let k = c .before .before in omega (arith, c .kept .ensures .1, k .before .before .before .before .before .before .before .before .before .before .head .ensures .0 .top, few k)
+cast-k c = let k = corner c in omega (arith, c .kept .ensures .1, k .before .before .before .before .before .head .ensures .0 .top, few k)
 
 slice-write-heads : tie.Need-slice-write-heads Inv-loop μ-loop
-slice-write-heads c = let k = c .before .before in omega (arith, here k, in-heads k)
+slice-write-heads c = let k = corner (c .before) in omega (arith, here k, in-heads k)
 
 mul-totals : tie.Need-mul-totals Inv-loop μ-loop
-mul-totals c = let k = c .before .before in omega (arith, k .corner .ensures .1, turn k .loop .inv .0, inside k, few k)
+mul-totals c = let k = corner (c .before) in omega (arith, k .corner .ensures .1, turn k .loop .inv .0, inside k, few k)
 
 slice-write-totals : tie.Need-slice-write-totals Inv-loop μ-loop
-slice-write-totals c = let k = c .before .before in omega (arith, here k, in-totals k)
+slice-write-totals c = let k = corner (c .before) in omega (arith, here k, in-totals k)
 
 slice-write-lows : tie.Need-slice-write-lows Inv-loop μ-loop
-slice-write-lows c = let k = c .before .before in omega (arith, turn k .loop .inv .8 .heads, inside k, few k)
+slice-write-lows c = let k = corner (c .before) in omega (arith, turn k .loop .inv .8 .heads, inside k, few k)
 
 mul-sums : tie.Need-mul-sums Inv-loop μ-loop
-mul-sums c = let k = c .before .before in omega (arith, turn k .loop .inv .0, inside k, few k)
+mul-sums c = let k = corner (c .before) in omega (arith, turn k .loop .inv .0, inside k, few k)
 
 slice-write-sums : tie.Need-slice-write-sums Inv-loop μ-loop
-slice-write-sums c = let k = c .before .before in omega (arith, turn k .loop .inv .0, turn k .loop .inv .8 .totals, inside k, few k)
+slice-write-sums c = let k = corner (c .before) in omega (arith, turn k .loop .inv .0, turn k .loop .inv .8 .totals, inside k, few k)
 
 add-b : tie.Need-add-b Inv-loop μ-loop
-add-b c = let k = c .before .before in omega (arith, inside k, few k)
+add-b c = let k = corner (c .before) in omega (arith, inside k, few k)
 
 loop-less : tie.Need-loop-less Inv-loop μ-loop
-loop-less c = let k = c .before .before in omega (arith, inside k)
+loop-less c = let k = corner (c .before) in omega (arith, inside k)
 
 loop-again : tie.Need-loop-again Inv-loop μ-loop
 loop-again c =
-    let k = c .before .before in let f = k .before .before .before .before .before .before .before .before .before .before .head in let t = turn k in let s = start t in let p = s .pre in let l = t .loop in let i = l .inv in
-    let n = inside k in let m = few k in let w = ports-noted (c .before) in let best = k .before .strip-best .ensures in (
+    let k = corner (c .before) in let f = k .before .before .before .before .before .head in let t = turn k in let s = start t in let p = s .pre in let l = t .loop in let i = l .inv in
+    let n = inside k in let m = few k in let w = ports-noted c in let best = c .before .before .strip-best .ensures in (
       omega (arith, i .0),
       omega arith,
       simp length-set (i .2),
@@ -144,9 +149,9 @@ loop-again c =
       f .kept .1 .0 ∙ i .5,
       f .ensures .1,
       row-step _ _ _ _ _ _ (l .b) _ _ _ (here k) m (i .0) n (i .2) (omega (arith, i .3, p .1 .0 .totals))
-          (kept-cell _ _ (p .0 .level) (figures-cheap (p .1 .0)) _ _ _ _ _ _ (omega arith) (best .0) (c .kept .ensures .0)) (i .7),
+          (kept-cell _ _ (p .0 .level) (figures-cheap (p .1 .0)) _ _ _ _ _ _ (omega arith) (best .0) (c .before .kept .ensures .0)) (i .7),
       copied-step _ _ _ _ _ (l .b) _ _ _ (here k) (i .0) (omega arith) (in-heads k) (in-totals k) (i .8),
-      marked-step _ _ _ _ _ _ _ _ _ (l .b) _ _ _ (here k) m (i .0) n (i .2) w (kept-marks _ _ _ _ _ _ _ _ (c .kept .ensures .0) (best .1)) (i .9),
+      marked-step _ _ _ _ _ _ _ _ _ (l .b) _ _ _ (here k) m (i .0) n (i .2) w (kept-marks _ _ _ _ _ _ _ _ (c .before .kept .ensures .0) (best .1)) (i .9),
       w .long ∙ i .10,
     )
 
@@ -183,13 +188,13 @@ fill-row-spec =
     μ-loop
     loop-holds
     head-requires
-    strip-best-requires
     corner-requires
     add-i
-    mul-ports
-    slice-write-ports
+    strip-best-requires
     kept-requires
     cast-k
+    mul-ports
+    slice-write-ports
     slice-write-heads
     mul-totals
     slice-write-totals
