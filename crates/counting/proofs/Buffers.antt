@@ -10,7 +10,7 @@ use lib.Seq.{getD-set-same, getD-set-other}
 use Rattle.strips.specs.Grid.{Grid}
 use Rattle.totals.specs.Cell.{cornerOf, place}
 use Rattle.totals.proofs.Corners.{corner-step, corner-twice, corner-top, place-listed, place-end, place-start}
-use Rattle.counting.specs.Counting.{limit, capped, notYet, Solved, StripCount, Marked, CountOf, Countable, Numbers, SamePorts, Cleared, EmptyKept}
+use Rattle.counting.specs.Counting.{limit, notYet, Marked, CountOf, Countable, Numbers, SamePorts, Cleared, EmptyKept}
 use Rattle.counting.proofs.Sums.{empty-count}
 
 -- The lent room is enough.

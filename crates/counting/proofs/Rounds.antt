@@ -1,5 +1,5 @@
 -- Laws of counting a strip, on every board that the sets of ports mark.
-use mathlib.Core.Path.{_≡_, refl, sym, ap, _∙_}
+use mathlib.Core.Path.{_≡_, refl}
 use mathlib.Core.List.{List}
 use Prim.Native.Nat.{ℕ, _+_, _-_, _*_, _≤_, _<_}
 use native.Mathlib.Omega.{arith}
@@ -9,9 +9,9 @@ use lib.Count.{trailingZeros}
 use lib.ListN.{length, getD}
 use Rattle.strips.specs.Grid.{Grid}
 use Rattle.totals.specs.Cell.{place, Leads}
-use Rattle.counting.specs.Counting.{limit, capped, Solved, StripCount, Led, Marked, CountOf, Countable, Numbers, SamePorts}
+use Rattle.counting.specs.Counting.{limit, capped, Solved, Led, Marked, CountOf, Countable, Numbers, SamePorts}
 use Rattle.counting.proofs.Strips.{solved-below, solved-above}
-use Rattle.counting.proofs.Sums.{Summing, summing-none, next-from, next-below, next-leads, summing-more, summing-done, summing-most}
+use Rattle.counting.proofs.Sums.{Summing, summing-none, next-from, next-leads, summing-more, summing-done, summing-most}
 use Rattle.counting.proofs.Buffers.{ports-same}
 
 -- What the loop over a strip's ports has, with those below `at` behind.

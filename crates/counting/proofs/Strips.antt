@@ -1,8 +1,8 @@
 -- Laws of strips that have a pad for each port: their rightmost pad, by the table's heads, and their two parts.
-use mathlib.Core.Path.{_≡_, refl, sym, ap, _∙_, subst}
+use mathlib.Core.Path.{_≡_, refl, sym, ap, _∙_}
 use mathlib.Core.Bool.{Bool, true, false, _&&_}
 use mathlib.Core.List.{List, [], _∷_, _++_}
-use Prim.Native.Nat.{ℕ, _+_, _-_, _*_, _^_, _≤_, _<_, zero-le}
+use Prim.Native.Nat.{ℕ, _+_, _-_, _≤_, _<_, zero-le}
 use native.Mathlib.Omega.{arith}
 use native.Mathlib.Decide.{decLe}
 use lib.Dec.{leb, ltb}
@@ -16,12 +16,10 @@ use Rattle.strips.specs.Strips.{local-parts}
 use Rattle.strips.specs.Prefix.{lies, lies-yes, yes-lies}
 use Rattle.strips.specs.Room.{full-parts}
 use Rattle.strips.specs.FirstNext.{Listed}
-use Rattle.pads.specs.Pads.{spans, padsIn, sidesOf, Pads}
+use Rattle.pads.specs.Pads.{spans, padsIn, sidesOf}
 use Rattle.pads.specs.Counts.{drop-at, drop-split}
 use Rattle.totals.specs.Strip.{bestWithin}
 use Rattle.totals.specs.Cell.{figures, gridOf, cornerOf, place, Cell, Table, FullFrom, Leads, Marks, MarkedFrom}
-use Rattle.totals.specs.Totals.{Capped, most-best}
-use Rattle.totals.proofs.Cells.{figures-cheap}
 use Rattle.totals.proofs.Corners.{place-listed}
 use Rattle.totals.proofs.Leading.{count-keep}
 use Rattle.counting.specs.Counting.{padsFrom, Solved, Led, Marked}

@@ -7,7 +7,7 @@ use native.Mathlib.Omega.{arith}
 use lib.Dec.{ltb}
 use lib.ListN.{length}
 use borrow.Author.Tests.{ltb-true, ltb-false}
-use Rattle.strips.specs.Grid.{Grid, Sol}
+use Rattle.strips.specs.Grid.{Grid}
 use Rattle.ways.specs.Place.{AtPlace, HowMany}
 use Rattle.totals.specs.Cell.{gridOf}
 use Rattle.counting.specs.declared.Reply.{Reply}
@@ -17,7 +17,7 @@ use Rattle.counting.specs.Counting as counting
 use Rattle.choices.specs.Source.{Source, source, gridOn, full-grid}
 use Rattle.steps.specs.Steps.{Solvable}
 use Rattle.steps.proofs.Whole.{none-solvable, some-solvable}
-use Rattle.paper.specs.Layouts.{Board, held, figure, total}
+use Rattle.paper.specs.Layouts.{Board, held, figure}
 use Rattle.paper.specs.Problem.{Problem, Best, PlaceBest, CountBest, labeling}
 use Rattle.paper.specs.laws.Places.{place-best}
 use Rattle.paper.specs.Refusals.{NoLayout, limit}

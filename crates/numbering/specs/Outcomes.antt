@@ -18,7 +18,6 @@ use Rattle.board.specs.Lists.{ListsOf}
 use Rattle.board.specs.Bars.{BarsOf}
 use Rattle.numbering.specs.declared.Asked.{Asked}
 use Rattle.numbering.specs.declared.Asked.the-variants.{Count, Place}
-use Rattle.numbering.specs.declared.Why.{Why}
 use Rattle.numbering.specs.declared.Why.the-variants.{NoLayout as NothingCounts, Short, TooMany, Past}
 use Rattle.numbering.specs.declared.Outcome.{Outcome}
 use Rattle.numbering.specs.declared.Outcome.the-variants.{Told, Not}

@@ -7,7 +7,7 @@ use native.Mathlib.Omega.{arith}
 use native.Mathlib.Numerals.{add-one}
 use native.Mathlib.Nat.{pow-suc, mod-self, mul-assoc, mul-comm, mul-add, add-zero}
 use native.Mathlib.Decide.{decLt}
-use lib.Pow.{pow-pos, pow-add, ones-lt, pow-lt}
+use lib.Pow.{pow-pos, pow-add, pow-lt}
 use lib.Bits.{bitAnd, and-block, and-self, and-mask}
 use lib.Count.{trailingZeros, under}
 

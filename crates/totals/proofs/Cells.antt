@@ -14,7 +14,7 @@ use borrow.Author.Tests.{ltb-true, ltb-false, eqb-true, eqb-false}
 use Rattle.numbers.specs.Filled.{place-in}
 use Rattle.pads.specs.Pads.{Sides, fits, bit, padsIn, sidesOf, Pads, Head}
 use Rattle.totals.specs.Strip.{partedWithin, bestWithin, localWithin}
-use Rattle.totals.specs.Cell.{noTotal, figures, choice, cornerOf, place, coded, Sizes, Strip, Valued, Cell, Parts, Port, sumAt, portTotal, Table}
+use Rattle.totals.specs.Cell.{noTotal, figures, choice, place, coded, Sizes, Strip, Valued, Cell, Parts, Port, sumAt, portTotal}
 use Rattle.pads.specs.Counts.{le-or-lt, bit-le, bit-true, count-step, count-drop, count-end}
 use Rattle.totals.specs.Parted.{parted-least, parts-most, parted-less}
 use Rattle.totals.proofs.Corners.{corner-top, place-listed}
@@ -274,13 +274,3 @@ kept-cell S C level cheap order a b h v r b64 is e = rw e (go (eqb v noTotal) re
           value = λ s es. coded-some noTotal (bestWithin S C (drop s order) a b) (λ n. ne (is .value s es ∙ n)) ∙ ap {B = Least} some (sym (is .value s es));
           nothing = is .nothing;
         }
-
--- ---- the table
-
--- It is read at the places of its strips only.
-pub table-read : {order cs bs lo hi hs ts : List ℕ} (us : List ℕ) → cornerOf (length order + 1) ≤ length us
-    → ((i : ℕ) → i < cornerOf (length order + 1) → getD us i 0 ≡ getD ts i 0) → Table order cs bs lo hi hs ts → Table order cs bs lo hi hs us
-table-read {order} us long same T = record {
-  sizes = record { heads = T .sizes .heads; totals = long; square = T .sizes .square; bars = T .sizes .bars; cheap = T .sizes .cheap };
-  rows = λ a b l h k. rw (same (place a b) (place-listed a b (length order) h k)) (T .rows a b l h k);
-}

@@ -15,7 +15,7 @@ ghost use Rattle.totals.specs.Cell.{noTotal, figures, gridOf, choice, Si
 ghost use Rattle.totals.specs.Cell.{PartsOf, Table, cornerOf, place, Port, opens, sumAt, portTotal, joined, BestOf, Valued, CopiedRow, Marks};
 
 // A strip a .. b - 1, the place r of its rightmost pad, where the pad's row of figures starts, and the strip's best total, or NONE.
-pub struct Laid {
+struct Laid {
     pub r: usize,
     pub a: usize,
     pub b: usize,
@@ -260,7 +260,7 @@ pub fn kept(h: usize, v: u64) -> usize
 }
 
 // The strip a .. b - 1 whose rightmost pad stands at place r, with what its ports are tested by.
-pub fn strip_at(
+fn strip_at(
     heads: &[u8],
     totals: &[u64],
     order: &[u8],
@@ -289,7 +289,7 @@ pub fn strip_at(
 }
 
 // Whether port q leads the rightmost pad of a strip that has a layout in a best one; `below` is the place of the ports below q.
-pub fn leads(
+fn leads(
     heads: &[u8],
     totals: &[u64],
     order: &[u8],

@@ -1,16 +1,15 @@
 -- `counting::count_strip` meets its contract. A strip is counted by way of narrower ones: the measure is its width. The loop's invariant: `Round`.
 -- Assumes nothing.
-use mathlib.Core.Path.{_≡_, refl, sym, ap, _∙_}
+use mathlib.Core.Path.{_≡_, ap, _∙_}
 use mathlib.Core.Logic.{⊎-elim}
-use mathlib.Core.List.{List}
 use native.Mathlib.Omega.{arith}
 use lib.Bits.{bitAnd, and-le-r}
 use lib.Count.{trailingZeros}
-use lib.ListN.{length, getD, length-set}
+use lib.ListN.{getD, length-set}
 use Rattle.totals.specs.Cell.{cornerOf, place}
 use Rattle.totals.proofs.Corners.{place-listed}
 use Rattle.counting.specs.Counting.{limit, capped, notYet, CountOf, Countable, Numbers, SamePorts}
-use Rattle.counting.proofs.Buffers.{base-few, ports-then, count-same, countable-same, countable-high, count-told, ports-back, numbers-more, ports-more}
+use Rattle.counting.proofs.Buffers.{base-few, ports-then, count-same, countable-same, countable-high, ports-back, numbers-more, ports-more}
 use Rattle.counting.proofs.Buffers.{kept-room, kept-small, kept-count, kept-none}
 use Rattle.counting.proofs.Rounds.{Round, round-none, round-low, round-high, round-below, round-above, round-fits, round-small, round-large, round-done, round-most}
 use Prim.Native.Nat.{ℕ, _+_, _-_, _*_, _≤_, _<_}

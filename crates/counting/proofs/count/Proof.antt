@@ -1,5 +1,5 @@
 -- `counting::count` meets its contract: the whole board is a strip. Assumes nothing.
-use mathlib.Core.Path.{_≡_, refl}
+use mathlib.Core.Path.{refl}
 use native.Mathlib.Omega.{arith}
 use lib.ListN.{length}
 use Rattle.totals.specs.Cell.{gridOf}

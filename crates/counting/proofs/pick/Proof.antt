@@ -1,19 +1,18 @@
 -- `counting::pick` meets its contract. The loop's invariant: `Picking`, and the buffer keeps the sets and right numbers. Assumes nothing.
-use mathlib.Core.Path.{_≡_, refl, ap, _∙_}
+use mathlib.Core.Path.{_≡_, refl}
 use mathlib.Core.List.{List}
-use Prim.Native.Nat.{ℕ, _+_, _-_, _*_, _≤_, _<_}
+use Prim.Native.Nat.{ℕ, _+_, _-_, _*_, _≤_}
 use native.Mathlib.Omega.{arith}
 use lib.Bits.{and-le-r}
 use lib.Count.{trailingZeros}
 use lib.ListN.{length, getD}
 use Rattle.totals.specs.Cell.{gridOf, place, Leads, Marks}
 use Rattle.totals.proofs.Corners.{place-listed}
-use Rattle.counting.specs.Counting.{limit, StripCount, Solved, Marked, Numbers, SamePorts}
+use Rattle.counting.specs.Counting.{limit, StripCount, Solved, Numbers, SamePorts}
 use Rattle.counting.proofs.Buffers.{ports-same, ports-then, marked-same}
 use Rattle.counting.proofs.Strips.{solved-below, solved-above, marks-at}
 use Rattle.counting.proofs.Whole.{listed}
 use Rattle.counting.proofs.Walks.{Picking, picking-none, picking-leads, picking-few, picking-found, picking-more, picking-never}
-use borrow.Author.Needs.{needs}
 use Rattle.counting.proofs.pick.Statement.{statement}
 use Rattle.counting.proofs.pick.Tie as tie
 
