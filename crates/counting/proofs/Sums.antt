@@ -8,7 +8,7 @@ use native.Mathlib.Decide.{decLe, decLt}
 use lib.Bits.{bitAnd}
 use lib.Count.{trailingZeros}
 use native.Mathlib.Nat.{le-mul-of-pos-right, mul-comm, mul-zero}
-use Rattle.numbers.specs.Sets.{setOf, set-none, Least, set-gone, set-next}
+use Rattle.numbers.specs.Sets.{setOf, set-none, NextIn, set-gone, set-next}
 use lib.ListN.{length, getD, drop}
 use Rattle.strips.specs.Lists.{All, keep, Distinct, keep-distinct, kept-mem}
 use Rattle.strips.specs.Grid.{Grid, below, above}
@@ -137,7 +137,7 @@ module _ {B : Grid} {order : List ℕ} (L : Listed B (length order) order) (r a 
         abbrev q : ℕ
         q = trailingZeros 64 rest
 
-        here : Least picks at b q
+        here : NextIn picks at b q
         here = set-next picks at b rest (S .high) few (S .left) some .0
 
         pub next-from : at ≤ q

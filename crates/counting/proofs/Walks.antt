@@ -11,7 +11,7 @@ use lib.Count.{trailingZeros}
 use lib.ListN.{length, getD, take, drop, set, drop-of-length-le}
 use lib.Seq.{take-all}
 use Rattle.numbers.specs.Kept.{KeptFrom, kept-all}
-use Rattle.numbers.specs.Sets.{setOf, set-none, Least, set-gone, set-next}
+use Rattle.numbers.specs.Sets.{setOf, set-none, NextIn, set-gone, set-next}
 use Rattle.strips.specs.Lists.{nil-all, keep, Distinct}
 use Rattle.strips.specs.Least.{some}
 use Rattle.strips.specs.Grid.{Grid, best, BestIn}
@@ -102,7 +102,7 @@ module _ {B : Grid} {order : List ℕ} (L : Listed B (length order) order) (m a 
         abbrev q : ℕ
         q = trailingZeros 64 left
 
-        first : Least picks at b q
+        first : NextIn picks at b q
         first = set-next picks at b left (S .high) b64 (S .left-is) some-left .0
 
         pub picking-leads : Leads B order m a b q

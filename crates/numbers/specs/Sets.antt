@@ -72,13 +72,13 @@ set-same p p′ (suc b) h = λ i. set-same p p′ b (λ q u. h q (omega arith)) 
 -- ---- the least number of a set
 
 -- q is the first number from k on, and below b, of which p says yes
-pub record Least (p : ℕ → Bool) (k b q : ℕ) : Type 0 where
+pub record NextIn (p : ℕ → Bool) (k b q : ℕ) : Type 0 where
   pub from : k ≤ q
   pub below : q < b
   pub picked : p q ≡ true
   pub passed : (i : ℕ) → k ≤ i → i < q → p i ≡ false
 
-search-from : (p : ℕ → Bool) (k d : ℕ) → ((q : ℕ) × Least p k (k + d) q) ⊎ ((i : ℕ) → k ≤ i → i < k + d → p i ≡ false)
+search-from : (p : ℕ → Bool) (k d : ℕ) → ((q : ℕ) × NextIn p k (k + d) q) ⊎ ((i : ℕ) → k ≤ i → i < k + d → p i ≡ false)
 search-from p k zero = inr (λ i u v. absurd (omega arith))
 search-from p k (suc d) = go (p k) refl (search-from p (k + 1) d)
   where
@@ -88,8 +88,8 @@ search-from p k (suc d) = go (p k) refl (search-from p (k + 1) d)
     at-k : (x : Bool) → p k ≡ x → (i : ℕ) → k ≡ i → p i ≡ x
     at-k x f i s = ap p (sym s) ∙ f
 
-    rest : p k ≡ false → ((q : ℕ) × Least p (k + 1) (k + 1 + d) q) ⊎ ((i : ℕ) → k + 1 ≤ i → i < k + 1 + d → p i ≡ false)
-        → ((q : ℕ) × Least p k (k + suc d) q) ⊎ ((i : ℕ) → k ≤ i → i < k + suc d → p i ≡ false)
+    rest : p k ≡ false → ((q : ℕ) × NextIn p (k + 1) (k + 1 + d) q) ⊎ ((i : ℕ) → k + 1 ≤ i → i < k + 1 + d → p i ≡ false)
+        → ((q : ℕ) × NextIn p k (k + suc d) q) ⊎ ((i : ℕ) → k ≤ i → i < k + suc d → p i ≡ false)
     rest f (inl s) = let L = s .1 in inl (
       s .0,
       record {
@@ -112,8 +112,8 @@ search-from p k (suc d) = go (p k) refl (search-from p (k + 1) d)
         by i u v (yes w) = n i (omega arith) (omega arith)
         by i u v (no w) = at-k false f i (omega arith)
 
-    go : (x : Bool) → p k ≡ x → ((q : ℕ) × Least p (k + 1) (k + 1 + d) q) ⊎ ((i : ℕ) → k + 1 ≤ i → i < k + 1 + d → p i ≡ false)
-        → ((q : ℕ) × Least p k (k + suc d) q) ⊎ ((i : ℕ) → k ≤ i → i < k + suc d → p i ≡ false)
+    go : (x : Bool) → p k ≡ x → ((q : ℕ) × NextIn p (k + 1) (k + 1 + d) q) ⊎ ((i : ℕ) → k + 1 ≤ i → i < k + 1 + d → p i ≡ false)
+        → ((q : ℕ) × NextIn p k (k + suc d) q) ⊎ ((i : ℕ) → k ≤ i → i < k + suc d → p i ≡ false)
     go true f later = inl (k, record { from = omega arith; below = omega arith; picked = f; passed = λ i u v. absurd (omega arith) })
     go false f later = rest f later
 
@@ -160,7 +160,7 @@ module _ (p : ℕ → Bool) (k b rest : ℕ) (low : k ≤ b) (few : b ≤ 64) (i
           let s′ = rw d at (s .1) in let t′ = rw f at (t .1) in absurd (omega arith)
       by false e = refl
 
-  next-at : (q : ℕ) → Least p k b q → (m : ℕ) × (rest ≡ 2 ^ q + 2 ^ (q + 1) * m) × (2 ^ (q + 1) * m + setOf p (q + 1) ≡ setOf p b)
+  next-at : (q : ℕ) → NextIn p k b q → (m : ℕ) × (rest ≡ 2 ^ q + 2 ^ (q + 1) * m) × (2 ^ (q + 1) * m + setOf p (q + 1) ≡ setOf p b)
   next-at q L =
       let d : k + (q - k) ≡ q = let u = L .from in omega arith in
       let f : q + 1 + (b - (q + 1)) ≡ b = let u = L .below in omega arith in
@@ -169,16 +169,16 @@ module _ (p : ℕ → Bool) (k b rest : ℕ) (low : k ≤ b) (few : b ≤ 64) (i
       let w = set-with p q (L .picked) in
       (t .0, omega arith, omega arith)
 
-  pub set-next : (rest ≡ 0 → ⊥) → Least p k b (trailingZeros 64 rest) × (bitAnd rest (rest - 1) + setOf p (trailingZeros 64 rest + 1) ≡ setOf p b)
+  pub set-next : (rest ≡ 0 → ⊥) → NextIn p k b (trailingZeros 64 rest) × (bitAnd rest (rest - 1) + setOf p (trailingZeros 64 rest + 1) ≡ setOf p b)
   set-next some = by (search-from p k (b - k))
     where
       d : k + (b - k) ≡ b
       d = omega arith
 
-      by : ((q : ℕ) × Least p k (k + (b - k)) q) ⊎ ((i : ℕ) → k ≤ i → i < k + (b - k) → p i ≡ false)
-          → Least p k b (trailingZeros 64 rest) × (bitAnd rest (rest - 1) + setOf p (trailingZeros 64 rest + 1) ≡ setOf p b)
+      by : ((q : ℕ) × NextIn p k (k + (b - k)) q) ⊎ ((i : ℕ) → k ≤ i → i < k + (b - k) → p i ≡ false)
+          → NextIn p k b (trailingZeros 64 rest) × (bitAnd rest (rest - 1) + setOf p (trailingZeros 64 rest + 1) ≡ setOf p b)
       by (inl s) =
-          let L : Least p k b (s .0) = rw d at (s .1) in
+          let L : NextIn p k b (s .0) = rw d at (s .1) in
           let n = next-at (s .0) L in
           let e = ap (trailingZeros 64) (n .1) ∙ trailing-at 64 (s .0) (n .0) (let u = L .below in omega arith) in
           let a = ap (λ (x : ℕ). bitAnd x (x - 1)) (n .1) ∙ and-less (s .0) (n .0) in

@@ -95,15 +95,15 @@ copied-step rh rt hs ts a b h v p e ab b64 lh lt K = record {
 -- ---- the ports of each strip
 
 -- ms got m at the place p, as far as it goes
-pub record Noted (ms ms′ : List ℕ) (p m : ℕ) : Type 0 where
+pub record Stored (ms ms′ : List ℕ) (p m : ℕ) : Type 0 where
   pub long : length ms′ ≡ length ms
   pub here : p < length ms → getD ms′ p 0 ≡ m
   pub other : (i : ℕ) → i ≢ p → getD ms′ i 0 ≡ getD ms i 0
 
-pub noted : (ms : List ℕ) (p m : ℕ) → Noted ms (set ms p m) p m
-noted ms p m = record { long = length-set ms p m; here = λ h. getD-set-same ms p m 0 h; other = λ i ne. getD-set-other ms p i m 0 ne }
+pub stored : (ms : List ℕ) (p m : ℕ) → Stored ms (set ms p m) p m
+stored ms p m = record { long = length-set ms p m; here = λ h. getD-set-same ms p m 0 h; other = λ i ne. getD-set-other ms p i m 0 ne }
 
-pub passed-by : (ms : List ℕ) (p m : ℕ) → length ms ≤ p → Noted ms ms p m
+pub passed-by : (ms : List ℕ) (p m : ℕ) → length ms ≤ p → Stored ms ms p m
 passed-by ms p m h = record { long = refl; here = λ l. absurd (omega arith); other = λ i ne. refl }
 
 -- the head is stored only where there is a layout
@@ -129,12 +129,12 @@ module _ (order cs bs lo hi : List ℕ) where
   marked-start hs ms a R = record { after = R; done = λ b′ u v. absurd (omega arith) }
 
   -- a strip elsewhere is as it was
-  marks-kept : (hs ms ms′ : List ℕ) (p h m a b : ℕ) → place a b ≢ p → Noted ms ms′ p m
+  marks-kept : (hs ms ms′ : List ℕ) (p h m a b : ℕ) → place a b ≢ p → Stored ms ms′ p m
       → (place a b < length ms → 0 < getD hs (place a b) 0 → Marks B order (getD hs (place a b) 0 - 1) a b (getD ms (place a b) 0))
       → place a b < length ms′ → 0 < getD (set hs p h) (place a b) 0 → Marks B order (getD (set hs p h) (place a b) 0 - 1) a b (getD ms′ (place a b) 0)
   marks-kept hs ms ms′ p h m a b ne N was = rw (getD-set-other hs p (place a b) h 0 ne, N .other (place a b) ne, N .long) was
 
-  pub marked-step : (hs ms ms′ : List ℕ) (a b h m p : ℕ) → p ≡ place a b → length order ≤ 64 → a ≤ b → b ≤ length order → length hs ≡ 2145 → Noted ms ms′ p m
+  pub marked-step : (hs ms ms′ : List ℕ) (a b h m p : ℕ) → p ≡ place a b → length order ≤ 64 → a ≤ b → b ≤ length order → length hs ≡ 2145 → Stored ms ms′ p m
       → (a < b → 0 < h → Marks B order (h - 1) a b m) → MarkedRow hs ms a b → MarkedRow (set hs p h) ms′ a (b + 1)
   marked-step hs ms ms′ a b h m p e few ab bn lh N marks R = record {
     after = λ a′ b′ u w x. marks-kept hs ms ms′ p h m a′ b′ (λ f. let s = place-start a′ b′ a b (omega arith) ab (f ∙ e) in absurd (omega arith)) N (R .after a′ b′ u w x);

@@ -11,7 +11,7 @@ use Rattle.heads.specs.Heads.{Tallies}
 use Rattle.totals.proofs.Corners.{corner-top, place-listed}
 use Rattle.totals.proofs.Cells.{figures-cheap, kept-cell}
 use Rattle.table.proofs.Rows.{Row, row-start, row-parts, row-step, row-end, copied-start, copied-step, sizes-with}
-use Rattle.table.proofs.Rows.{Noted, noted, passed-by, kept-marks, MarkedRow, marked-start, marked-step, marked-end}
+use Rattle.table.proofs.Rows.{Stored, stored, passed-by, kept-marks, MarkedRow, marked-start, marked-step, marked-end}
 use borrow.Author.Needs.{needs}
 use native.Mathlib.Omega.{arith}
 use Rattle.table.proofs.fill_row.Statement.{statement}
@@ -56,13 +56,13 @@ abbrev corner : tie.After-kept Inv-loop μ-loop → tie.After-corner Inv-loop μ
 corner d = d .before .before .before .before .before .before
 
 -- the strip's ports are in the list, as far as it goes
-ports-noted : (j : tie.Joined1 Inv-loop μ-loop) → let k = corner (j .before) in
-    Noted (turn k .loop .ports) (j .if1 .ports) (k .corner .result + start (turn k) .args .a) (j .before .before .strip-best .result .ports)
-ports-noted j = let k = corner (j .before) in let ms = turn k .loop .ports in let p = k .corner .result + start (turn k) .args .a in
+ports-stored : (j : tie.Joined1 Inv-loop μ-loop) → let k = corner (j .before) in
+    Stored (turn k .loop .ports) (j .if1 .ports) (k .corner .result + start (turn k) .args .a) (j .before .before .strip-best .result .ports)
+ports-stored j = let k = corner (j .before) in let ms = turn k .loop .ports in let p = k .corner .result + start (turn k) .args .a in
     let m = j .before .before .strip-best .result .ports in
     ⊎-elim
-    (λ w. subst (λ (l : List ℕ). Noted ms l p m) (sym (w .1)) (noted ms p m))
-    (λ w. subst (λ (l : List ℕ). Noted ms l p m) (sym (w .1)) (passed-by ms p m (w .0 .left)))
+    (λ w. subst (λ (l : List ℕ). Stored ms l p m) (sym (w .1)) (stored ms p m))
+    (λ w. subst (λ (l : List ℕ). Stored ms l p m) (sym (w .1)) (passed-by ms p m (w .0 .left)))
     (j .if1 .came)
 
 loop-holds : tie.Need-loop-holds Inv-loop μ-loop
@@ -140,7 +140,7 @@ loop-less c = let k = corner (c .before) in omega (arith, inside k)
 loop-again : tie.Need-loop-again Inv-loop μ-loop
 loop-again c =
     let k = corner (c .before) in let f = k .before .before .before .before .before .head in let t = turn k in let s = start t in let p = s .pre in let l = t .loop in let i = l .inv in
-    let n = inside k in let m = few k in let w = ports-noted c in let best = c .before .before .strip-best .ensures in (
+    let n = inside k in let m = few k in let w = ports-stored c in let best = c .before .before .strip-best .ensures in (
       omega (arith, i .0),
       omega arith,
       simp length-set (i .2),
