@@ -297,7 +297,7 @@
  * the buffer: at most 64 KiB of stack in any call (CHEREMYSL_STACK_BYTES). As built, a call takes
  * so many bytes of it at most, whatever it is given, from its return address on:
  *
- *      First 41,944   Next 42,120   Page 42,136   Count 58,984   Place 58,984   Measure 584
+ *      First 41,944   Next 42,120   Page 42,136   Count 59,032   Place 59,032   Measure 584
  *      Draw 136   TableFirst 25,496   TableNext 25,672   TableMeasure 568
  *      SlotsFirst 11,688   SlotsNext 11,832   SlotsMeasure 616
  *

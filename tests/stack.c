@@ -52,8 +52,8 @@ static const struct {
     [TABLE_NEXT] = {(function)cheremysl_table_next, 25672},
     [SLOTS_FIRST] = {(function)cheremysl_slots_first, 11688},
     [SLOTS_NEXT] = {(function)cheremysl_slots_next, 11832},
-    [COUNT] = {(function)cheremysl_count, 58984},
-    [PLACE] = {(function)cheremysl_place, 58984},
+    [COUNT] = {(function)cheremysl_count, 59032},
+    [PLACE] = {(function)cheremysl_place, 59032},
 #endif
 };
 

@@ -135,7 +135,7 @@ module _ (order cs bs lo hi : List ℕ) where
   marks-kept hs ms ms′ p h m a b ne N was = rw (getD-set-other hs p (place a b) h 0 ne, N .other (place a b) ne, N .long) was
 
   pub marked-step : (hs ms ms′ : List ℕ) (a b h m p : ℕ) → p ≡ place a b → length order ≤ 64 → a ≤ b → b ≤ length order → length hs ≡ 2145 → Stored ms ms′ p m
-      → (a < b → 0 < h → Marks B order (h - 1) a b m) → MarkedRow hs ms a b → MarkedRow (set hs p h) ms′ a (b + 1)
+      → (p < length ms → a < b → 0 < h → Marks B order (h - 1) a b m) → MarkedRow hs ms a b → MarkedRow (set hs p h) ms′ a (b + 1)
   marked-step hs ms ms′ a b h m p e few ab bn lh N marks R = record {
     after = λ a′ b′ u w x. marks-kept hs ms ms′ p h m a′ b′ (λ f. let s = place-start a′ b′ a b (omega arith) ab (f ∙ e) in absurd (omega arith)) N (R .after a′ b′ u w x);
     done = λ b′ u w. ⊎-elim
@@ -148,7 +148,7 @@ module _ (order cs bs lo hi : List ℕ) where
     where
       here : a < b → place a b < length ms′ → 0 < getD (set hs p h) (place a b) 0 → Marks B order (getD (set hs p h) (place a b) 0 - 1) a b (getD ms′ (place a b) 0)
       here u l = let t = corner-top b (omega arith) in
-          rw (sym e, getD-set-same hs p h 0 (omega arith), N .here (omega (arith, N .long))) (λ w. marks u w)
+          rw (sym e, getD-set-same hs p h 0 (omega arith), N .here (omega (arith, N .long))) (λ w. marks (omega (arith, N .long)) u w)
 
   pub marked-end : (hs ms : List ℕ) (a b : ℕ) → length order < b → MarkedRow hs ms a b → MarkedFrom order cs bs lo hi hs ms a
   marked-end hs ms a b h R a′ b′ u v w =

@@ -43,25 +43,41 @@ fn fill_row(
     while b <= n {
         let h = heads::head(at, seen, all, order, lo, hi, a, b);
         let i = totals::corner(b) + a;
-        let w = totals::strip_best(
-            lows,
-            sums,
-            heads,
-            totals,
-            order,
-            cost,
-            bars,
-            lo,
-            hi,
-            a,
-            b,
-            h,
-        );
-        let v = w.total;
-        let k = totals::kept(h, v) as u8;
+        let mut v: u64 = 0;
         if i < ports.len() {
+            let w = totals::strip_best(
+                lows,
+                sums,
+                heads,
+                totals,
+                order,
+                cost,
+                bars,
+                lo,
+                hi,
+                a,
+                b,
+                h,
+            );
             ports[i] = w.ports;
+            v = w.total;
+        } else {
+            v = totals::strip_total(
+                lows,
+                sums,
+                heads,
+                totals,
+                order,
+                cost,
+                bars,
+                lo,
+                hi,
+                a,
+                b,
+                h,
+            );
         }
+        let k = totals::kept(h, v) as u8;
         heads[i] = k;
         totals[i] = v;
         lows[b] = k;

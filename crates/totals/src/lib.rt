@@ -252,6 +252,46 @@ pub fn strip_best(
     )
 }
 
+// The same total alone: compiled into its caller, the loop does no work for ports that are not asked for.
+pub fn strip_total(
+    lows: &[u8],
+    sums: &[u64],
+    heads: &[u8],
+    totals: &[u64],
+    order: &[u8],
+    cost: &[u32],
+    bars: &[u8],
+    lo: &[u8],
+    hi: &[u8],
+    a: usize,
+    b: usize,
+    h: usize,
+) -> u64
+    requires { ⌜ Pads (now order) (now lo) (now hi) (length (now order)) ⌝ }
+    requires { ⌜ Sizes (now heads) (now totals) (now order) (now cost) (now bars) ⌝ }
+    requires { ⌜ (a ≤ b) × (b ≤ length (now order)) × Head (sidesOf (now lo) (now hi)) (now order) a b h ⌝ }
+    requires { ⌜ PartsOf (now order) (now cost) (now bars) (now lo) (now hi) (now heads) (now totals) a b ⌝ }
+    requires { ⌜ CopiedRow (now lows) (now sums) (now heads) (now totals) a b ⌝ }
+    ensures { λ v. ⌜ Valued (sidesOf (now (lo .entry)) (now (hi .entry))) (figures (now (cost .entry)) (now (bars .entry)) (length (now (order .entry))))
+        (now (order .entry)) a b h v ⌝ }
+{
+    let v = strip_best(
+        lows,
+        sums,
+        heads,
+        totals,
+        order,
+        cost,
+        bars,
+        lo,
+        hi,
+        a,
+        b,
+        h,
+    );
+    v.total
+}
+
 // The head as the table has it: 0 where the strip has no layout.
 pub fn kept(h: usize, v: u64) -> usize
     ensures { λ r. ⌜ (r ≡ cond (eqb v noTotal) 0 h) × (r ≤ h) ⌝ }

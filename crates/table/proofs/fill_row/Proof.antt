@@ -6,7 +6,7 @@ use mathlib.Core.List.{List}
 use Prim.Native.Nat.{ℕ, _+_, _-_, _≤_, _<_}
 use lib.ListN.{length, length-set}
 use Rattle.pads.specs.Pads.{sidesOf}
-use Rattle.totals.specs.Cell.{figures, place, CopiedRow}
+use Rattle.totals.specs.Cell.{noTotal, figures, gridOf, place, CopiedRow, Valued, Marks}
 use Rattle.heads.specs.Heads.{Tallies}
 use Rattle.totals.proofs.Corners.{corner-top, place-listed}
 use Rattle.totals.proofs.Cells.{figures-cheap, kept-cell}
@@ -53,16 +53,32 @@ in-totals k = let t = turn k in let s = start t in let i = t .loop .inv in
 
 -- a turn's corner, from where the head is kept
 abbrev corner : tie.After-kept Inv-loop μ-loop → tie.After-corner Inv-loop μ-loop
-corner d = d .before .before .before .before .before .before
+corner d = d .before .before
 
--- the strip's ports are in the list, as far as it goes
-ports-stored : (j : tie.Joined1 Inv-loop μ-loop) → let k = corner (j .before) in
-    Stored (turn k .loop .ports) (j .if1 .ports) (k .corner .result + start (turn k) .args .a) (j .before .before .strip-best .result .ports)
-ports-stored j = let k = corner (j .before) in let ms = turn k .loop .ports in let p = k .corner .result + start (turn k) .args .a in
-    let m = j .before .before .strip-best .result .ports in
+-- the strip's total, and its ports in the list as far as it goes
+record Made (order cost bars lo hi ms ms′ : List ℕ) (p a b h v : ℕ) : Type 0 where
+  ports : ℕ
+  stored-as : Stored ms ms′ p ports
+  valued : Valued (sidesOf lo hi) (figures cost bars (length order)) order a b h v
+  marks : p < length ms → (v ≡ noTotal → ⊥) → a < b → Marks (gridOf order cost bars lo hi) order (h - 1) a b ports
+
+made : (j : tie.Joined1 Inv-loop μ-loop) → let k = j .before in let t = turn k in let x = start t .args in
+    Made (x .order .now) (x .cost .now) (x .bars .now) (x .lo .now) (x .hi .now) (t .loop .ports) (j .if1 .ports) (k .corner .result + x .a) (x .a) (t .loop .b)
+    (k .before .before .before .before .before .head .result) (j .if1 .v)
+made j = let k = j .before in let ms = turn k .loop .ports in let p = k .corner .result + start (turn k) .args .a in
     ⊎-elim
-    (λ w. subst (λ (l : List ℕ). Stored ms l p m) (sym (w .1)) (stored ms p m))
-    (λ w. subst (λ (l : List ℕ). Stored ms l p m) (sym (w .1)) (passed-by ms p m (w .0 .left)))
+    (λ w. record {
+      ports = w .5 .result .ports;
+      stored-as = subst (λ (l : List ℕ). Stored ms l p (w .5 .result .ports)) (sym (w .6)) (stored ms p (w .5 .result .ports));
+      valued = rw (w .7) (w .5 .ensures .0);
+      marks = λ r. rw (w .7) (w .5 .ensures .1);
+    })
+    (λ w. record {
+      ports = 0;
+      stored-as = subst (λ (l : List ℕ). Stored ms l p 0) (sym (w .6)) (passed-by ms p 0 (w .0 .left));
+      valued = rw (w .7) (w .5 .ensures);
+      marks = λ r. absurd (omega (arith, w .0 .left));
+    })
     (j .if1 .came)
 
 loop-holds : tie.Need-loop-holds Inv-loop μ-loop
@@ -86,12 +102,21 @@ head-requires c κs = let t = c .before .before .before in let p = start t .pre 
 
 strip-best-requires : tie.Need-strip-best-requires Inv-loop μ-loop
 strip-best-requires c κs =
-    let t = c .before .before .before .before .before .before .before .before .before .before .before .before .before in
-    let p = start t .pre in let i = t .loop .inv in (
+    let k = c .before .before .before .before .before in let t = turn k in let p = start t .pre in let i = t .loop .inv in let n = inside k in (
       p .0,
       (
         sizes-with (p .1 .0) (i .2) (omega (arith, i .3, p .1 .0 .totals)),
-        ((i .0, omega arith, c .before .before .before .before .before .before .before .before .before .head .ensures .0), (row-parts _ _ _ _ _ _ _ (omega arith) (i .7), i .8)),
+        ((i .0, n, k .before .before .before .before .before .head .ensures .0), (row-parts _ _ _ _ _ _ _ n (i .7), i .8)),
+      ),
+    )
+
+strip-total-requires : tie.Need-strip-total-requires Inv-loop μ-loop
+strip-total-requires c κs =
+    let k = c .before .before .before .before .before in let t = turn k in let p = start t .pre in let i = t .loop .inv in let n = inside k in (
+      p .0,
+      (
+        sizes-with (p .1 .0) (i .2) (omega (arith, i .3, p .1 .0 .totals)),
+        ((i .0, n, k .before .before .before .before .before .head .ensures .0), (row-parts _ _ _ _ _ _ _ n (i .7), i .8)),
       ),
     )
 
@@ -102,7 +127,7 @@ add-i : tie.Need-add-i Inv-loop μ-loop
 add-i c = omega (arith, c .corner .ensures .1, turn c .loop .inv .0, inside c, few c)
 
 mul-ports : tie.Need-mul-ports Inv-loop μ-loop
-mul-ports c = let k = corner (c .before) in omega (arith, k .corner .ensures .1, turn k .loop .inv .0, inside k, few k)
+mul-ports c = let k = c .before .before .before .before .before .before in omega (arith, k .corner .ensures .1, turn k .loop .inv .0, inside k, few k)
 
 slice-write-ports : tie.Need-slice-write-ports Inv-loop μ-loop
 slice-write-ports c = search needs
@@ -114,33 +139,33 @@ cast-k : tie.Need-cast-k Inv-loop μ-loop
 cast-k c = let k = corner c in omega (arith, c .kept .ensures .1, k .before .before .before .before .before .head .ensures .0 .top, few k)
 
 slice-write-heads : tie.Need-slice-write-heads Inv-loop μ-loop
-slice-write-heads c = let k = corner (c .before) in omega (arith, here k, in-heads k)
+slice-write-heads c = let k = corner c in omega (arith, here k, in-heads k)
 
 mul-totals : tie.Need-mul-totals Inv-loop μ-loop
-mul-totals c = let k = corner (c .before) in omega (arith, k .corner .ensures .1, turn k .loop .inv .0, inside k, few k)
+mul-totals c = let k = corner c in omega (arith, k .corner .ensures .1, turn k .loop .inv .0, inside k, few k)
 
 slice-write-totals : tie.Need-slice-write-totals Inv-loop μ-loop
-slice-write-totals c = let k = corner (c .before) in omega (arith, here k, in-totals k)
+slice-write-totals c = let k = corner c in omega (arith, here k, in-totals k)
 
 slice-write-lows : tie.Need-slice-write-lows Inv-loop μ-loop
-slice-write-lows c = let k = corner (c .before) in omega (arith, turn k .loop .inv .8 .heads, inside k, few k)
+slice-write-lows c = let k = corner c in omega (arith, turn k .loop .inv .8 .heads, inside k, few k)
 
 mul-sums : tie.Need-mul-sums Inv-loop μ-loop
-mul-sums c = let k = corner (c .before) in omega (arith, turn k .loop .inv .0, inside k, few k)
+mul-sums c = let k = corner c in omega (arith, turn k .loop .inv .0, inside k, few k)
 
 slice-write-sums : tie.Need-slice-write-sums Inv-loop μ-loop
-slice-write-sums c = let k = corner (c .before) in omega (arith, turn k .loop .inv .0, turn k .loop .inv .8 .totals, inside k, few k)
+slice-write-sums c = let k = corner c in omega (arith, turn k .loop .inv .0, turn k .loop .inv .8 .totals, inside k, few k)
 
 add-b : tie.Need-add-b Inv-loop μ-loop
-add-b c = let k = corner (c .before) in omega (arith, inside k, few k)
+add-b c = let k = corner c in omega (arith, inside k, few k)
 
 loop-less : tie.Need-loop-less Inv-loop μ-loop
-loop-less c = let k = corner (c .before) in omega (arith, inside k)
+loop-less c = let k = corner c in omega (arith, inside k)
 
 loop-again : tie.Need-loop-again Inv-loop μ-loop
 loop-again c =
-    let k = corner (c .before) in let f = k .before .before .before .before .before .head in let t = turn k in let s = start t in let p = s .pre in let l = t .loop in let i = l .inv in
-    let n = inside k in let m = few k in let w = ports-stored c in let best = c .before .before .strip-best .ensures in (
+    let k = corner c in let f = k .before .before .before .before .before .head in let t = turn k in let p = start t .pre in let l = t .loop in let i = l .inv in
+    let n = inside k in let m = few k in let w = made (c .before) in (
       omega (arith, i .0),
       omega arith,
       simp length-set (i .2),
@@ -149,10 +174,11 @@ loop-again c =
       f .kept .1 .0 ∙ i .5,
       f .ensures .1,
       row-step _ _ _ _ _ _ (l .b) _ _ _ (here k) m (i .0) n (i .2) (omega (arith, i .3, p .1 .0 .totals))
-          (kept-cell _ _ (p .0 .level) (figures-cheap (p .1 .0)) _ _ _ _ _ _ (omega arith) (best .0) (c .before .kept .ensures .0)) (i .7),
+          (kept-cell _ _ (p .0 .level) (figures-cheap (p .1 .0)) _ _ _ _ _ _ (omega arith) (w .valued) (c .kept .ensures .0)) (i .7),
       copied-step _ _ _ _ _ (l .b) _ _ _ (here k) (i .0) (omega arith) (in-heads k) (in-totals k) (i .8),
-      marked-step _ _ _ _ _ _ _ _ _ (l .b) _ _ _ (here k) m (i .0) n (i .2) w (kept-marks _ _ _ _ _ _ _ _ (c .before .kept .ensures .0) (best .1)) (i .9),
-      w .long ∙ i .10,
+      marked-step _ _ _ _ _ _ _ _ _ (l .b) _ _ _ (here k) m (i .0) n (i .2) (w .stored-as)
+          (λ r. kept-marks _ _ _ _ _ _ _ _ (c .kept .ensures .0) (w .marks r)) (i .9),
+      w .stored-as .long ∙ i .10,
     )
 
 same-length : tie.Need-same-length Inv-loop μ-loop
@@ -191,10 +217,11 @@ fill-row-spec =
     corner-requires
     add-i
     strip-best-requires
-    kept-requires
-    cast-k
     mul-ports
     slice-write-ports
+    strip-total-requires
+    kept-requires
+    cast-k
     slice-write-heads
     mul-totals
     slice-write-totals
