@@ -20,8 +20,8 @@ static bool at_the_right(enum measured kind) { return kind == RIGHT || kind == A
 static bool unweighted(enum measured kind) { return kind == MIDDLE || kind >= FREE; }
 
 /*
- * In which gap each pad of free-worst lies, from right to left: as many ports lie below it. Found by annealing for as many
- * instructions of Count beside First's as can be, from several starts that came to the same within 1 in 100.
+ * In which gap each pad of free-worst lies, from right to left: as many ports lie below it. Found by annealing over a model
+ * of what Count costs beside First; of five boards that it came to, from as many starts, the one that counted most.
  */
 static const int worst_gaps[64] = {0,  0,  0,  0,  23, 33, 5,  17, 21, 44, 24, 61, 59, 49, 47, 22, 25, 20, 18, 43, 42, 7,
                                    23, 45, 57, 55, 3,  39, 50, 14, 37, 15, 6,  41, 13, 36, 63, 27, 28, 16, 19, 29, 53, 9,
