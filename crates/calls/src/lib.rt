@@ -19,7 +19,7 @@ ghost use Rattle.paper.specs.Job.{records};
 ghost use Rattle.paper.specs.Layouts.{boardOf, leader, byWeights};
 ghost use Rattle.paper.specs.Refusals.{Passed, drawTrials};
 ghost use Rattle.paper.specs.Promises.{number, countedNumber, FirstAnswers, NextAnswers, PageAnswers, MeasureAnswers, DrawAnswers};
-ghost use Rattle.paper.specs.Promises.{CountAnswers, PlaceAnswers, BufferPromise};
+ghost use Rattle.paper.specs.Promises.{CountAnswers, PlaceAnswers, SvgAnswers, BufferPromise};
 ghost use Rattle.paper.specs.laws.Drawn.{leaderDrawn};
 
 // First: the earliest best layout, in the first n entries of `list`.
@@ -173,5 +173,23 @@ pub fn draw(job: &[u8], i: u32, q: u32, points: &mut [f32]) -> Drawn
             d
         }
         Verdict::Refused(r) => Drawn::Refused(r),
+    }
+}
+
+// Svg: the leaders of an untouching layout, best or not, as text in the first bytes of `text`. Its checks are Measure's, and weights 0 and 0 pass.
+pub fn svg(job: &[u8], list: &[u16], text: &mut [u8]) -> Counted
+    ensures { λ r. ⌜ SvgAnswers (now (job .entry)) (now (list .entry)) (now (text .entry)) r (now (text .exit)) ⌝ }
+{
+    let v = verdicts::of_measure(
+        Form::Records,
+        job,
+        job,
+        verdicts::of_weights(0, 0),
+        Work::Unlent,
+        list,
+    );
+    match v {
+        Verdict::Sound => svg::sheet(job, list, text),
+        Verdict::Refused(r) => Counted::Refused(r),
     }
 }

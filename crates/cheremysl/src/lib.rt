@@ -11,10 +11,10 @@ ghost use Rattle.paper.specs.Job.{records, slots};
 ghost use Rattle.paper.specs.Layouts.{byWeights, byTable};
 ghost use Rattle.paper.specs.Promises.{refusalNumber, number, countedNumber, drawnNumber};
 ghost use Rattle.paper.specs.Promises.{FirstPromise, NextPromise, PagePromise, MeasurePromise, DrawPromise, WorkPromise};
-ghost use Rattle.paper.specs.Promises.{CountPromise, PlacePromise, BufferPromise};
+ghost use Rattle.paper.specs.Promises.{CountPromise, PlacePromise, SvgPromise, BufferPromise};
 ghost use Rattle.paper.specs.laws.Bounds.{Bounded, BoundedCount};
 
-// C's number of a refusal, of an answer, of a page and of a drawn leader.
+// C's number of a refusal, of an answer, of a page, a count or a text, and of a drawn leader.
 fn of_refusal(f: Refusal) -> i64
     ensures { λ r. ⌜ r ≡ refusalNumber f ⌝ }
 {
@@ -202,4 +202,11 @@ pub extern "C" fn cheremysl_draw(job: &[u8], record: u32, port: u32, points: &mu
     ensures { λ r. ⌜ DrawPromise (now (job .entry)) «record» port (now (points .entry)) r (now (points .exit)) ⌝ }
 {
     of_drawn(calls::draw(job, record, port, points))
+}
+
+#[no_mangle]
+pub extern "C" fn cheremysl_svg(job: &[u8], layout: &[u16], text: &mut [u8]) -> i64
+    ensures { λ r. ⌜ SvgPromise (now (job .entry)) (now (layout .entry)) (now (text .entry)) r (now (text .exit)) ⌝ }
+{
+    of_counted(calls::svg(job, layout, text))
 }

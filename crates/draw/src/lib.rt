@@ -7,7 +7,8 @@ ghost use mathlib.Core.Path.{_≡_};
 ghost use Prim.Native.Nat.{_≤_};
 ghost use lib.ListN.{length};
 ghost use lib.IntN.{negℤ, natAbs};
-ghost use Rattle.paper.specs.Promises.{coordinates, overwritten};
+ghost use Rattle.paper.specs.Canvas.{coordinates};
+ghost use Rattle.paper.specs.Promises.{overwritten};
 ghost use Rattle.paper.specs.laws.Quarter.{quarter};
 ghost use Rattle.paper.specs.laws.Drawn.{OnSheet, canvas, leaderDrawn};
 

@@ -38,7 +38,7 @@ fn signed(n: u32) -> i64
 }
 
 // A difference of heights without its sign.
-fn size(d: i64) -> u64
+pub fn size(d: i64) -> u64
     requires { ⌜ natAbs d < 4294967296 ⌝ }
     ensures { λ r. ⌜ r ≡ natAbs d ⌝ }
 {

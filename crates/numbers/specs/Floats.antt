@@ -1,18 +1,21 @@
--- Two laws of IEEE 754's formats that the kit lacks. `value-unique`: a value that fits its format is told by its sign and its size, as a fraction of any
+-- Three laws of IEEE 754's formats that the kit lacks. `value-unique`: a value that fits its format is told by its sign and its size, as a fraction of any
 -- denominator (the kit has it for whole numbers, `lib.Ieee.Back`, whose steps up to `zero-exp` are private there and stand here again).
+-- `round-back`: a float's own value, as such a fraction, is rounded to that float.
 -- `scaled`: a product with a power of two rounds once. Assumes nothing.
 use mathlib.Core.Path.{_≡_, refl, sym, ap, _∙_, subst}
-use Prim.Native.Nat.{ℕ, zero, suc, _*_, _%_, _^_, _<_}
+use Prim.Native.Nat.{ℕ, zero, suc, _+_, _*_, _-_, _%_, _^_, _≤_, _<_}
 use native.Mathlib.Nat.{mul-left-comm, mul-right-comm, mul-mul-mul-comm, mul-one, one-mul, pow-succ', eq-of-mul-eq-mul-right}
-use native.Mathlib.Nat.{zero-lt-suc, zero-mul, mul-pos, lt-irrefl, suc-inj}
+use native.Mathlib.Nat.{zero-lt-suc, zero-mul, mul-pos, lt-irrefl, suc-inj, mul-assoc, mul-comm, not-le-of-lt, lt-of-mul-lt-mul-right, mul-lt-mul-of-pos-right}
+use native.Mathlib.Decide.{decLt}
 use native.Mathlib.Omega.{arith}
 use mathlib.Core.Bool.{Bool, true, false, _&&_}
-use lib.Dec.{T, leb, ltb, eqb, eqb→eq}
-use lib.Pow.{pow-pos}
+use lib.Dec.{T, leb, ltb, eqb, eqb→eq, ltb→lt, leb→le}
+use lib.Pow.{pow-add, pow-pos, pow-lt}
 use lib.IntN.{ℤ, pos, negsuc}
 use lib.Ieee.{Float, fin, Format, prec, emax, low, up, down, round, mul, fits, unlike}
-use lib.Ieee.Exact.{HasValue}
-use lib.Ieee.Fits.{down-pos, up-pos, and-l}
+use lib.Ieee.Exact.{HasValue, round-exact}
+use lib.Ieee.Digits.{back}
+use lib.Ieee.Fits.{down-pos, up-pos, and-l, and-r, round-fits}
 use lib.Ieee.Scale.{round-same}
 
 -- ---- one float for each value
@@ -86,6 +89,62 @@ value-unique f (fin t (suc m) e) (fin u (suc n) g) s a k K p q v w =
     let same = cross (suc m * up e) (suc n * up g) (down e) (down g) a k K (v .1) (w .1) in
     let r = odd-exp (suc m) (suc n) e g (is-odd f t m e p) (is-odd f u n g q) same in
     λ i. fin ((v .0 ∙ sym (w .0)) i) (r .0 i) (r .1 i)
+
+-- ---- a float's own value rounds to it
+
+-- Powers of 2 are in the order of their exponents.
+pow-within : (i j : ℕ) → 2 ^ i ≤ 2 ^ j → i ≤ j
+pow-within i j h = go (decLt j i)
+  where
+    go : Dec (j < i) → i ≤ j
+    go (yes l) = absurd (not-le-of-lt (pow-lt l) h)
+    go (no w) = omega arith
+
+-- 2 ^ e, not below 2 ^ -l, is 2 ^ j times 2 ^ -l.
+inUnits : (l : ℕ) (e : ℤ) → down e ≤ 2 ^ l → (j : ℕ) × (2 ^ j * down e ≡ up e * 2 ^ l)
+inUnits l (pos k) h = (k + l, mul-one (2 ^ (k + l)) ∙ pow-add 2 k l)
+inUnits l (negsuc k) h =
+    (l - suc k, sym (pow-add 2 (l - suc k) (suc k)) ∙ ap (λ (x : ℕ). 2 ^ x) (back l (suc k) (pow-within (suc k) l h)) ∙ sym (one-mul (2 ^ l)))
+
+-- m * 2 ^ e that a format holds, as the fraction a / c, is rounded to that value;
+round-own : (f : Format) (s : Bool) (m : ℕ) (e : ℤ) (a c : ℕ) → 0 < c → m < 2 ^ prec f → down e ≤ 2 ^ low f → m * up e < 2 ^ suc (emax f) * down e
+    → m * up e * c ≡ a * down e → HasValue (round f s a c) s a c
+round-own f s m e a c C small lowest highest v = go (inUnits (low f) e lowest)
+  where
+    go : (j : ℕ) × (2 ^ j * down e ≡ up e * 2 ^ low f) → HasValue (round f s a c) s a c
+    go (j, u) =
+        let l = 2 ^ low f in
+        let d = down e in
+        let r = 2 ^ suc (emax f) in
+        let w : m * 2 ^ j * d ≡ m * up e * l = mul-assoc m (2 ^ j) d ∙ ap (λ (x : ℕ). m * x) u ∙ sym (mul-assoc m (up e) l) in
+        let g : r * d * l ≡ 2 ^ (low f + suc (emax f)) * d =
+        mul-comm (r * d) l ∙ sym (mul-assoc l r d) ∙ ap (λ (x : ℕ). x * d) (sym (pow-add 2 (low f) (suc (emax f)))) in
+        round-exact f s a c m j C small
+        (lt-of-mul-lt-mul-right d (rw (w, ← g) (mul-lt-mul-of-pos-right highest (pow-pos (low f)))))
+        (eq-of-mul-eq-mul-right d (down-pos e) (a * l) (m * 2 ^ j * c)
+        (mul-right-comm a l d ∙ ap (λ (x : ℕ). x * l) (sym v) ∙ mul-right-comm (m * up e) c l ∙ ap (λ (x : ℕ). x * c) (sym w) ∙ mul-right-comm (m * 2 ^ j) d c))
+
+-- so is the value of any float of the format,
+round-held : (f : Format) (x : Float) (s : Bool) (a c : ℕ) → 0 < c → T (fits f x) → HasValue x s a c → HasValue (round f s a c) s a c
+unfolding fits
+round-held f (fin t zero e) s a c C p v =
+    round-own f s zero (pos 0) a c C (pow-pos (prec f)) (pow-pos (low f)) (mul-pos (pow-pos (suc (emax f))) (zero-lt-suc 0))
+    (eq-of-mul-eq-mul-right (down e) (down-pos e) (zero * 1 * c) (a * 1) (simp (zero-mul, mul-one) (simp zero-mul at (v .1))))
+round-held f (fin t (suc m) e) s a c C p v =
+    let i = eqb (suc m % 2) 1 in
+    let j = ltb (suc m) (2 ^ prec f) in
+    let k = leb (down e) (2 ^ low f) in
+    let n = ltb (suc m * up e) (2 ^ suc (emax f) * down e) in
+    let q = and-l (i && j && k) n p in
+    round-own f s (suc m) e a c C
+    (ltb→lt (suc m) (2 ^ prec f) (and-r i j (and-l (i && j) k q)))
+    (leb→le (down e) (2 ^ low f) (and-r (i && j) k q))
+    (ltb→lt (suc m * up e) (2 ^ suc (emax f) * down e) (and-r (i && j && k) n p))
+    (v .1)
+
+-- and a / c rounded is that float.
+pub round-back : (f : Format) (x : Float) (s : Bool) (a c : ℕ) → 0 < c → T (fits f x) → HasValue x s a c → round f s a c ≡ x
+round-back f x s a c C p v = value-unique f (round f s a c) x s a c C (round-fits f s a c) p (round-held f x s a c C p v) v
 
 -- ---- a product with a power of two
 

@@ -3,6 +3,7 @@
 use mathlib.Core.Path.{_≡_}
 use mathlib.Core.Logic.{_≢_}
 use mathlib.Core.Bool.{Bool, true, false}
+use mathlib.Core.List.{List, [], _∷_}
 use Prim.Native.Nat.{ℕ}
 use lib.Dec.{T}
 use lib.IntN.{ℤ, pos, negsuc, natAbs, negℤ}
@@ -11,6 +12,8 @@ use lib.Ieee.Exact.{HasValue}
 use Rattle.paper.specs.declared.Point.{Point}
 use Rattle.paper.specs.declared.Two.{Two}
 use Rattle.paper.specs.declared.Three.{Three}
+use Rattle.paper.specs.declared.Drawn.{Drawn}
+use Rattle.paper.specs.declared.Drawn.the-variants.{Straight, Bent, Refused as NotDrawn}
 use Rattle.paper.specs.Leaders.{Leader}
 
 abbrev pub negative : ℤ → Bool
@@ -39,3 +42,15 @@ pub record DrawnBent (l : Leader) (d : Three) : Type 0 where
   pub pad : StandsFor (d .pad) (l .x) (l .y)
   pub bend : StandsFor (d .bend) (l .x) (l .port)
   pub port : StandsFor (d .port) 0 (l .port)
+
+-- The answer d draws the leader l.
+abbrev pub Draws : Leader → Drawn → Type 0
+Draws l (Straight d) = DrawnStraight l d
+Draws l (Bent d) = DrawnBent l d
+Draws l (NotDrawn r) = ⊥
+
+-- The points' coordinates, x before y.
+abbrev pub coordinates : Drawn → List Float
+coordinates (Straight d) = d .pad .x ∷ d .pad .y ∷ d .port .x ∷ d .port .y ∷ []
+coordinates (Bent d) = d .pad .x ∷ d .pad .y ∷ d .bend .x ∷ d .bend .y ∷ d .port .x ∷ d .port .y ∷ []
+coordinates (NotDrawn r) = []

@@ -4,9 +4,10 @@ pub mod Leaders
 pub mod Plane
 pub mod Layouts
 pub mod Problem
+pub mod Canvas
+pub mod Svg
 pub mod Refusals
 pub mod Points
-pub mod Canvas
 pub mod Promises
 pub mod Runs
 pub mod Sheets

@@ -3,7 +3,7 @@
 -- Of the work list that First and Next may be lent, and of the buffer of Count and Place, a promise knows the length alone: what it holds on entry changes no answer.
 use mathlib.Core.Path.{_≡_}
 use mathlib.Core.Logic.{_≢_, _⊎_, _↔_}
-use mathlib.Core.List.{List, [], _∷_, _++_}
+use mathlib.Core.List.{List, _++_}
 use Prim.Native.Nat.{ℕ, zero, suc, _+_, _*_, _/_, _%_, _≤_, _<_}
 use lib.ListN.{length, getD, drop}
 use lib.IntN.{ℤ, pos, negsuc, negℤ, natAbs}
@@ -21,8 +21,9 @@ use Rattle.paper.specs.declared.Work.the-variants.{Unlent}
 use Rattle.paper.specs.Job.{Job, records}
 use Rattle.paper.specs.Layouts.{boardOf, held, leader, Badness}
 use Rattle.paper.specs.Problem.{Problem, FirstBest, NextBest, LastBest, PlaceBest, CountBest}
-use Rattle.paper.specs.Refusals.{Trial, Passed, RefusedBy, refusal, drawTrials, Calls, entries, callsOf, countTrials, placeTrials}
-use Rattle.paper.specs.Canvas.{DrawnStraight, DrawnBent}
+use Rattle.paper.specs.Refusals.{Trial, Passed, RefusedBy, refusal, drawTrials, Calls, entries, callsOf, countTrials, placeTrials, svgTrials}
+use Rattle.paper.specs.Canvas.{DrawnStraight, DrawnBent, coordinates}
+use Rattle.paper.specs.Svg.{SheetWritten}
 
 -- ---- C's number for each answer
 
@@ -40,7 +41,7 @@ number (Total t) = pos t
 number End = negsuc 0
 number (Refused r) = refusalNumber r
 
--- Page's and Count's: how many layouts as itself, or the refusal's
+-- Page's, Count's and Svg's: how many layouts, or bytes, as itself, or the refusal's
 abbrev pub countedNumber : Counted → ℤ
 countedNumber (Many k) = pos k
 countedNumber (NotCounted r) = refusalNumber r
@@ -63,14 +64,8 @@ abbrev pub inTurn : ℕ → List ℕ → List ℕ → ℕ → ℕ → ℕ
 inTurn n given page zero i = held given i
 inTurn n given page (suc k) i = held page (k * n + i)
 
--- The points' coordinates, x before y.
-abbrev pub coordinates : Drawn → List Float
-coordinates (Straight d) = d .pad .x ∷ d .pad .y ∷ d .port .x ∷ d .port .y ∷ []
-coordinates (Bent d) = d .pad .x ∷ d .pad .y ∷ d .bend .x ∷ d .bend .y ∷ d .port .x ∷ d .port .y ∷ []
-coordinates (NotDrawn r) = []
-
--- They fill the first places, and the places after those keep their content.
-abbrev pub overwritten : List Float → List Float → List Float
+-- Draw's coordinates and the bytes of a text fill the first places, and the places after those keep their content.
+abbrev pub overwritten : {A : Type 0} → List A → List A → List A
 overwritten cs before = cs ++ drop (length cs) before
 
 -- ---- the promises
@@ -207,6 +202,16 @@ DrawAnswers job i q before (NotDrawn r) after = RefusedBy (drawTrials job i q (l
 
 abbrev pub DrawPromise : List ℕ → ℕ → ℕ → List Float → ℤ → List Float → Type 0
 DrawPromise job i q before c after = (d : Drawn) × DrawAnswers job i q before d after × (c ≡ drawnNumber d)
+
+-- SVG: the text of an untouching layout, best or not, fills the first bytes, and the answer is how many.
+abbrev pub SvgAnswers : List ℕ → List ℕ → List ℕ → Counted → List ℕ → Type 0
+SvgAnswers job list before (Many k) after =
+    Passed (svgTrials job list (length before))
+    × ((s : List ℕ) × SheetWritten (boardOf (records job)) (held list) s × (k ≡ length s) × (after ≡ overwritten s before))
+SvgAnswers job list before (NotCounted r) after = RefusedBy (svgTrials job list (length before)) r × (after ≡ before)
+
+abbrev pub SvgPromise : List ℕ → List ℕ → List ℕ → ℤ → List ℕ → Type 0
+SvgPromise job list before m after = (a : Counted) × SvgAnswers job list before a after × (m ≡ countedNumber a)
 
 -- ---- what is asked of a promise
 

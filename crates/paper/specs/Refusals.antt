@@ -1,4 +1,4 @@
--- DEFINITIONS. 01, "Refusal numbers", and of 02, 12 to 18, 24 and both records of 9: what is at fault for each number, and each call's trials, in their order.
+-- DEFINITIONS. 01, "Refusal numbers", and of 02, 12 to 19, 24 and both records of 9: what is at fault for each number, and each call's trials, in their order.
 use mathlib.Core.Path.{_≡_}
 use mathlib.Core.Logic.{_≢_, _⊎_}
 use mathlib.Core.List.{List, [], _∷_, _++_}
@@ -14,6 +14,7 @@ use Rattle.paper.specs.declared.Work.the-variants.{Unlent, Lent}
 use Rattle.paper.specs.Job.{Job, records, slots, padsOf, twos, count, nameOf, halfOf, xOf, yOf, lastOf, portCount, portOf}
 use Rattle.paper.specs.Layouts.{Board, boardOf, held, Touching, Badness, byWeights, byTable}
 use Rattle.paper.specs.Problem.{Problem, Best, CountBest, labelingOf}
+use Rattle.paper.specs.Svg.{SheetWritten}
 
 -- ---- trials
 
@@ -250,6 +251,17 @@ placeTrials c numbers place room = c .first room ++ (numberTrials (c .problem) n
 
 abbrev pub countTrials : Calls → ℕ → List Trial
 countTrials c numbers = c .first (entries c) ++ numberTrials (c .problem) numbers
+
+-- ---- export (02)
+
+-- 19: the layout's text has more bytes than there is room for
+abbrev pub TooLong : Board → (ℕ → ℕ) → ℕ → Type 0
+TooLong b f room = (s : List ℕ) × SheetWritten b f s × (room < length s)
+
+-- Svg, of the layout that the list holds with room for so many bytes: Measure's without 2, since no weights are given (0 and 0 are never at fault), and 19
+abbrev pub svgTrials : List ℕ → List ℕ → ℕ → List Trial
+svgTrials bytes list room =
+    measureTrials (records bytes) (byWeights 0 0) Unlent list ++ (ofWhole 19 (TooLong (boardOf (records bytes)) (held list) room) ∷ [])
 
 -- ---- which records a refusal names
 

@@ -1,9 +1,10 @@
 -- DEFINITIONS. 01, "Sheets worked by hand": the jobs as bytes, and the sheets P1 to P12, each with its call, its input and its whole reply.
 -- After P10 stands Measure's sheet for "its total is 85"; after P12, four for refusal 12, two for names of 0, four for both records of 9, those of tables, those of slots, and
--- those of squares. Page has its own list, and so have Count and Place.
+-- those of squares. Page has its own list, and so have Count, Place and Svg.
 use mathlib.Core.Path.{_≡_}
 use mathlib.Core.List.{List, [], _∷_, _++_}
 use Prim.Native.Nat.{ℕ, _+_, _*_, _/_, _%_}
+use lib.ListN.{replicate}
 use Rattle.paper.specs.declared.Work.{Work}
 use Rattle.paper.specs.declared.Work.the-variants.{Unlent, Lent}
 use Rattle.paper.specs.Job.{Job, records, slots}
@@ -13,7 +14,8 @@ use Rattle.paper.specs.declared.Answer.{Answer}
 use Rattle.paper.specs.declared.Answer.the-variants.{Total, End, Refused}
 use Rattle.paper.specs.declared.Counted.{Counted}
 use Rattle.paper.specs.declared.Counted.the-variants.{Many, Refused as NotCounted}
-use Rattle.paper.specs.Promises.{number, countedNumber, FirstPromise, NextPromise, PagePromise, MeasurePromise, CountPromise, PlacePromise}
+use Rattle.paper.specs.Promises.{number, countedNumber, FirstPromise, NextPromise, PagePromise, MeasurePromise, CountPromise, PlacePromise, SvgPromise}
+use Rattle.text.specs.Text.{bytes}
 
 -- 4 bytes, lowest first; a record of a name and a half-side, a pad (x, y) and a port height; and one whose pad is a point
 abbrev pub bytes4 : ℕ → List ℕ
@@ -289,4 +291,36 @@ placeSheets =
     placeSheet 50 3 (9 ∷ 9 ∷ 9 ∷ []) (refused 17 0) (9 ∷ 9 ∷ 9 ∷ []) ∷
     placeSheet 49 3 (9 ∷ 9 ∷ 9 ∷ []) (refused 18 0) (9 ∷ 9 ∷ 9 ∷ []) ∷
     placeSheet 49 0 (9 ∷ 9 ∷ []) (refused 3 0) (9 ∷ 9 ∷ []) ∷
+    []
+
+-- ---- Svg
+
+-- Its sheet: job, layout, the bytes at entry, the answer, the bytes at exit.
+pub record SvgSheet : Type 0 where
+  pub job : List ℕ
+  pub list : List ℕ
+  pub before : List ℕ
+  pub answer : Counted
+  pub after : List ℕ
+
+abbrev pub SvgAllowed : SvgSheet → Type 0
+SvgAllowed s = SvgPromise (s .job) (s .list) (s .before) (countedNumber (s .answer)) (s .after)
+
+abbrev pub svgSheet : List ℕ → List ℕ → List ℕ → Counted → List ℕ → SvgSheet
+svgSheet job list before answer after = record { job = job; list = list; before = before; answer = answer; after = after }
+
+-- J5's three lines: two straight leaders, and 02's example.
+abbrev pub J5lines : List ℕ
+J5lines = bytes "<polyline points=\"2.5,-2.5 0,-2.5\"/>\n<polyline points=\"5,-5 0,-5\"/>\n<polyline points=\"7.5,-7.5 7.5,0 0,0\"/>\n"
+
+-- In this order: room for just that; a byte more, which is kept; a byte less; quarters, and heights below 0; no room; 9 before 19; a layout that is too short.
+abbrev pub svgSheets : List SvgSheet
+svgSheets =
+    svgSheet J5 (1 ∷ 2 ∷ 0 ∷ []) (replicate 108 9) (Many 108) J5lines ∷
+    svgSheet J5 (1 ∷ 2 ∷ 0 ∷ []) (replicate 109 9) (Many 108) (J5lines ++ (9 ∷ [])) ∷
+    svgSheet J5 (1 ∷ 2 ∷ 0 ∷ []) (replicate 107 9) (NotCounted (refusal 19 0 0)) (replicate 107 9) ∷
+    svgSheet (padAndPort 101 5 4294967293 3) (0 ∷ []) (replicate 52 9) (Many 50) (bytes "<polyline points=\"1.25,0.75 1.25,-0.75 0,-0.75\"/>\n" ++ (9 ∷ 9 ∷ [])) ∷
+    svgSheet J1 (0 ∷ []) [] (NotCounted (refusal 19 0 0)) [] ∷
+    svgSheet J5 (1 ∷ 0 ∷ 2 ∷ []) [] (NotCounted (refusal 9 2 1)) [] ∷
+    svgSheet J5 (1 ∷ 2 ∷ []) (replicate 108 9) (NotCounted (refusal 3 0 0)) (replicate 108 9) ∷
     []

@@ -5,10 +5,10 @@
 use mathlib.Core.Path.{_≡_, refl}
 use mathlib.Core.Logic.{_≢_, _⊎_, _↔_}
 use mathlib.Core.Bool.{false}
-use mathlib.Core.List.{List, []}
-use Prim.Native.Nat.{ℕ, _+_, _*_, _≤_, _<_}
-use lib.Dec.{T}
-use lib.ListN.{length, getD}
+use mathlib.Core.List.{List, [], _++_}
+use Prim.Native.Nat.{ℕ, suc, _+_, _*_, _/_, _%_, _≤_, _<_}
+use lib.Dec.{T, eqb}
+use lib.ListN.{length, getD, take}
 use lib.IntN.{ℤ, pos, negsuc, negℤ, natAbs, _+ℤ_}
 use lib.Signed.{_≤ℤ_}
 use lib.Ieee.{Float, binary32, fin, mul, ofInt}
@@ -17,6 +17,7 @@ use Rattle.paper.specs.declared.Answer.the-variants.{Total, End}
 use Rattle.paper.specs.declared.Counted.the-variants.{Many}
 use Rattle.paper.specs.declared.Two.{Two}
 use Rattle.paper.specs.declared.Three.{Three}
+use Rattle.paper.specs.declared.Drawn.{Drawn}
 use Rattle.paper.specs.declared.Drawn.the-variants.{Straight, Bent}
 use Rattle.paper.specs.declared.Form.the-variants.{Records, Slots}
 use Rattle.paper.specs.declared.Work.{Work}
@@ -28,12 +29,14 @@ use Rattle.paper.specs.Layouts.{Board, boardOf, held, leader, LeadersTou
 use Rattle.paper.specs.Layouts.{Same, Differ, Proper}
 use Rattle.paper.specs.Problem.{Best, Before, FirstBest, NextBest, LastBest, PlaceBest, CountBest, labeling, labelingOf}
 use Rattle.paper.specs.Refusals.{FirstFault, Passed, refusal, ofPairs, soundTrials, firstTrials, measureTrials, nextTrials, drawTrials, callsOf, Alone, FirstPair, Named}
-use Rattle.paper.specs.Refusals.{bufferNeeded, TooMany, PastCount, countTrials, placeTrials}
-use Rattle.paper.specs.Canvas.{FourTimesIs, DrawnStraight, DrawnBent}
-use Rattle.paper.specs.Promises.{refusalNumber, refusalIn, Kept, coordinates, overwritten, FirstPromise, NextPromise, PagePromise, MeasurePromise, DrawPromise, WorkPromise}
+use Rattle.paper.specs.Refusals.{bufferNeeded, TooMany, PastCount, countTrials, placeTrials, TooLong, svgTrials}
+use Rattle.paper.specs.Canvas.{FourTimesIs, DrawnStraight, DrawnBent, coordinates}
+use Rattle.text.specs.Text.{bytes, Begins}
+use Rattle.paper.specs.Svg.{numeral, Written, LineWritten, SheetWritten, cut, readNumber, readLine, lineAt}
+use Rattle.paper.specs.Promises.{refusalNumber, refusalIn, Kept, overwritten, FirstPromise, NextPromise, PagePromise, MeasurePromise, DrawPromise, SvgPromise, WorkPromise}
 use Rattle.paper.specs.Promises.{CountPromise, PlacePromise, BufferPromise, FirstReplies, NextReplies, PageReplies, MeasureReplies, CountReplies, PlaceReplies, OneReply, RefusesBy}
 use Rattle.paper.specs.Runs.{NextRun, Run, AskedTo, Demand3, PageByNext, PagedOn}
-use Rattle.paper.specs.Sheets.{sample, Each, Allowed, sheets, PageAllowed, pages, CountAllowed, countSheets, PlaceAllowed, placeSheets}
+use Rattle.paper.specs.Sheets.{sample, Each, Allowed, sheets, PageAllowed, pages, CountAllowed, countSheets, PlaceAllowed, placeSheets, SvgAllowed, svgSheets}
 use Rattle.paper.specs.Straightening.{LeastOfAll, CostsNothing, BendsCanCost, TablesCanCost, SquaresCanCost}
 use Rattle.paper.specs.Points.{Points, pointCallsOf}
 use Rattle.paper.specs.laws.Tests.{meets}
@@ -43,7 +46,7 @@ use Rattle.paper.specs.laws as by
 
 -- ---- DEMAND 1: every input gets an answer, and bad ones, but no others, are refused by number with the record at fault; then nothing is written
 
--- Every input to First has exactly one reply; so has every input to Next, to Page, to Measure, to Count, to Place and to Draw.
+-- Every input to First has exactly one reply; so has every input to Next, to Page, to Measure, to Count, to Place, to Draw and to Svg.
 pub first-one-reply : (job : Job) (bad : Badness) (work : Work) (before : List ℕ) → OneReply (FirstPromise job bad work before)
 first-one-reply job bad work before = (by.Met.first-met (callsOf job bad work) (regular job bad work) before, by.Determined.first-determined (callsOf job bad work) before)
 
@@ -69,8 +72,11 @@ place-one-reply job bad numbers place before =
 pub draw-one-reply : (job : List ℕ) (i q : ℕ) (before : List Float) → OneReply (DrawPromise job i q before)
 draw-one-reply job i q before = (by.Met.draw-met job i q before, by.Determined.draw-determined job i q before)
 
+pub svg-one-reply : (job list before : List ℕ) → OneReply (SvgPromise job list before)
+svg-one-reply job list before = (by.Met.svg-met job list before, by.Determined.svg-determined job list before)
+
 -- First's number is a refusal exactly if one of its trials fails, and then it is that of the first that does, with its records, and the list holds what it held;
--- so are Next's, Page's, Measure's, Count's, Place's and Draw's.
+-- so are Next's, Page's, Measure's, Count's, Place's, Draw's and Svg's.
 pub first-refuses : (job : Job) (bad : Badness) (work : Work) (before : List ℕ) (m : ℤ) (after : List ℕ) → FirstPromise job bad work before m after
     → RefusesBy (firstTrials job bad work (length before)) m (after ≡ before)
 first-refuses job bad work before m after = by.Numbers.first-refuses (callsOf job bad work) (numbered job bad work) before after m
@@ -98,6 +104,10 @@ place-refuses job bad numbers place before m after = by.Numbers.place-refuses (c
 pub draw-refuses : (job : List ℕ) (i q : ℕ) (before : List Float) (m : ℤ) (after : List Float) → DrawPromise job i q before m after
     → RefusesBy (drawTrials job i q (length before)) m (after ≡ before)
 draw-refuses job i q before m after = by.Numbers.draw-refuses job i q before after m
+
+pub svg-refuses : (job list before : List ℕ) (m : ℤ) (after : List ℕ) → SvgPromise job list before m after
+    → RefusesBy (svgTrials job list (length before)) m (after ≡ before)
+svg-refuses job list before m after = by.Numbers.svg-refuses job list before after m
 
 -- The work list that First is lent holds what it held after every refusal but 15 (02), which comes where 1 to 7 are passed; Next's after every refusal but 10, which
 -- comes where Measure's trials are passed.
@@ -151,7 +161,7 @@ pub place-none : (job : Job) (bad : Badness) (numbers place : ℕ) (before : Lis
     → (m ≡ refusalNumber (refusal 15 0 0)) ↔ (Passed (soundTrials job bad Unlent (length before)) × ((f : ℕ → ℕ) → ¬ Untouching (boardOf job) f))
 place-none job bad numbers place before m after = by.Named.place-none job bad numbers place before after m
 
--- Next needs no 15: where 1 to 7 are passed and no layout is untouching it refuses by 8 or 9. So do Page and Measure.
+-- Next needs no 15: where 1 to 7 are passed and no layout is untouching it refuses by 8 or 9. So do Page, Measure and Svg.
 pub next-none : (job : Job) (bad : Badness) (work : Work) (before : List ℕ) (m : ℤ) (after : List ℕ) → NextPromise job bad work before m after
     → Passed (soundTrials job bad work (length before)) → ((f : ℕ → ℕ) → ¬ Untouching (boardOf job) f) → (refusalIn m .reason ≡ 8) ⊎ (refusalIn m .reason ≡ 9)
 next-none job bad work before m after p sound none =
@@ -173,13 +183,22 @@ measure-none job bad list m p sound none =
     let low = refused .exactly .1 (by.Named.not-measured job bad Unlent list sound none) in
     by.Named.measure-none job bad Unlent list sound none (refusalIn m) (refused .named low .0)
 
+pub svg-none : (job list before : List ℕ) (m : ℤ) (after : List ℕ) → SvgPromise job list before m after
+    → Passed (soundTrials (records job) (byWeights 0 0) Unlent (length list)) → ((f : ℕ → ℕ) → ¬ Untouching (boardOf (records job)) f)
+    → (refusalIn m .reason ≡ 8) ⊎ (refusalIn m .reason ≡ 9)
+svg-none job list before m after p sound none =
+    let refused = svg-refuses job list before m after p in
+    let low = refused .exactly .1 (λ q. by.Named.not-measured (records job) (byWeights 0 0) Unlent list sound none (by.Exported.svg-measured job list (length before) q .0)) in
+    by.Named.svg-none job list (length before) sound none (refusalIn m) (refused .named low .0)
+
 -- ---- both records of 9 (02)
 
 -- What 9 finds, on any board, is the first touching pair, and nothing else is.
 pub first-pair : (b : Board) (f : ℕ → ℕ) (i j : ℕ) → FirstFault (ofPairs 9 (b .pads) (Touching b f)) i j ↔ FirstPair b f i j
 first-pair = by.Named.first-pair
 
--- Measure's refusal names one record, or by 9 the first touching pair; so does Next's, and so Page's, whose trials are Next's.
+-- Measure's refusal names one record, or by 9 the first touching pair; so does Next's, and so Page's, whose trials are Next's; and
+-- Svg's, by 19 record 0, and it is never 2: Svg is given no weights.
 pub measure-names : (job : Job) (bad : Badness) (list : List ℕ) (m : ℤ) → MeasurePromise job bad list m → m ≤ℤ negℤ (pos 65536)
     → Named (boardOf job) (held list) (refusalIn m)
 measure-names job bad list m p l = by.Named.measure-named job bad Unlent list (refusalIn m) (measure-refuses job bad list m p .named l .0)
@@ -191,6 +210,13 @@ next-names job bad work before m after p l = by.Named.next-named job bad work be
 pub page-names : (job : Job) (bad : Badness) (work : Work) (given before : List ℕ) (m : ℤ) (after : List ℕ) → PagePromise job bad work given before m after → m ≤ℤ negℤ (pos 65536)
     → Named (boardOf job) (held given) (refusalIn m)
 page-names job bad work given before m after p l = by.Named.next-named job bad work given (refusalIn m) (page-refuses job bad work given before m after p .named l .0)
+
+pub svg-names : (job list before : List ℕ) (m : ℤ) (after : List ℕ) → SvgPromise job list before m after → m ≤ℤ negℤ (pos 65536)
+    → Named (boardOf (records job)) (held list) (refusalIn m) × (refusalIn m .reason ≡ 19 → refusalIn m .at ≡ 0) × (refusalIn m .reason ≢ 2)
+svg-names job list before m after p l =
+    let refused = svg-refuses job list before m after p .named l .0 in
+    let (named, zero) = by.Named.svg-named job list (length before) (refusalIn m) refused in
+    (named, zero, by.Named.svg-free job list (length before) (refusalIn m) refused)
 
 -- First, Count, Place and Draw name one record, and Count and Place by 16, 17 and 18 record 0; and of a refusal that names one, C's number is -(65,536 × r + i).
 pub first-names : (job : Job) (bad : Badness) (work : Work) (before : List ℕ) (m : ℤ) (after : List ℕ) → FirstPromise job bad work before m after → m ≤ℤ negℤ (pos 65536)
@@ -361,8 +387,8 @@ pub draw-bent : (job : List ℕ) (i q : ℕ) (before after : List Float)
     × (after ≡ overwritten (coordinates (Bent d)) before)))
 draw-bent job i q before after = (by.Numbers.bent-told job i q before after, λ (d, a). (Bent d, a, refl))
 
--- They fill the first places of the list, and the places after those keep their content.
-pub drawn-places : (cs before : List Float) (k : ℕ) (d : Float)
+-- They fill the first places of the list, and the places after those keep their content. So do the bytes of a text.
+pub drawn-places : {A : Type 0} (cs before : List A) (k : ℕ) (d : A)
     → (k < length cs → getD (overwritten cs before) k d ≡ getD cs k d) × (length cs ≤ k → getD (overwritten cs before) k d ≡ getD before k d)
 drawn-places = by.Drawn.overwritten-is
 
@@ -606,6 +632,70 @@ weighted-fits job lw bw work room p =
     let (accepted, fair, _) = by.Accepted.sound-accepted job (byWeights lw bw) work room p in
     by.Accepted.weighted-narrow accepted lw bw (fair .0) (fair .1)
 
+-- ---- export to SVG (02)
+
+-- Svg answers k exactly if its trials are passed, and the first k bytes then hold the layout's text, the bytes after it kept. They are passed exactly if Measure's are and
+-- the text fits; a layout has one text.
+pub svg-answers : (job list before : List ℕ) (k : ℕ) (after : List ℕ) → SvgPromise job list before (pos k) after
+    ↔ (Passed (svgTrials job list (length before))
+    × ((s : List ℕ) × SheetWritten (boardOf (records job)) (held list) s × (k ≡ length s) × (after ≡ overwritten s before)))
+svg-answers job list before k after = (by.Numbers.svg-told job list before after k, λ a. (Many k, a, refl))
+
+pub svg-passed : (job list : List ℕ) (room : ℕ) → Passed (svgTrials job list room)
+    ↔ (Passed (measureTrials (records job) (byWeights 0 0) Unlent list) × ((s : List ℕ) × SheetWritten (boardOf (records job)) (held list) s × (length s ≤ room)))
+svg-passed = by.Exported.svg-passed
+
+pub one-text : (b : Board) (f : ℕ → ℕ) (s t : List ℕ) → SheetWritten b f s → SheetWritten b f t → s ≡ t
+one-text = by.Texts.sheet-one
+
+-- By 19 it refuses exactly if Measure's are passed and the text is too long. A text has at most 4,864 bytes, so with room for these it never does.
+pub svg-too-long : (job list before : List ℕ) (m : ℤ) (after : List ℕ) → SvgPromise job list before m after
+    → (m ≡ refusalNumber (refusal 19 0 0)) ↔ (Passed (measureTrials (records job) (byWeights 0 0) Unlent list) × TooLong (boardOf (records job)) (held list) (length before))
+svg-too-long job list before m after = by.Named.svg-too-long job list before after m
+
+pub svg-bound : (job list before : List ℕ) (k : ℕ) (after : List ℕ) → SvgPromise job list before (pos k) after → k ≤ 4864
+svg-bound job list before k after p = by.Bounds.svg-bound job list before k after (svg-answers job list before k after .0 p)
+
+pub svg-roomy : (job list before : List ℕ) (m : ℤ) (after : List ℕ) → SvgPromise job list before m after → 4864 ≤ length before → m ≢ refusalNumber (refusal 19 0 0)
+svg-roomy job list before m after p h e = by.Exported.svg-roomy job list (length before) h (svg-too-long job list before m after p .0 e)
+
+-- The text determines the points. Line i, read back, is what Draw answers for record i and its port: how many points, and their coordinates. Any two drawn answers
+-- that have one line are equal, and there is a line for each record.
+pub svg-reads : (job list before : List ℕ) (k : ℕ) (after : List ℕ) → SvgPromise job list before (pos k) after → (i : ℕ) → i < count job
+    → (room : List Float) (m : ℤ) (points : List Float) → 6 ≤ length room → DrawPromise job i (held list i) room m points
+    → let read = readLine (lineAt (take k after) i) in (m ≡ pos (length read / 2)) × (points ≡ overwritten read room)
+svg-reads job list before k after p = by.Reading.svg-reads job list before k after (svg-answers job list before k after .0 p)
+
+pub line-reads : (d : Drawn) (s : List ℕ) → LineWritten d s → readLine s ≡ coordinates d
+line-reads = by.Reading.line-read
+
+pub line-one : (d e : Drawn) (s : List ℕ) → LineWritten d s → LineWritten e s → d ≡ e
+line-one = by.Reading.line-one
+
+pub number-reads : (a : Float) (s : List ℕ) → Written a s → readNumber s ≡ a
+number-reads = by.Reading.number-read
+
+pub lines-many : (b : Board) (f : ℕ → ℕ) (s : List ℕ) → SheetWritten b f s → length (cut (eqb 10) s) ≡ suc (b .pads)
+lines-many = by.Reading.lines-many
+
+-- 02's rules of a number: a digit stands before any point, no zero ends the part after it, a whole number has no point, and -0 is never written.
+pub digit-first : ((n : ℕ) → Begins (numeral (pos n))) × ((n : ℕ) → (s : List ℕ) × (numeral (negsuc n) ≡ bytes "-" ++ s) × Begins s)
+digit-first = by.Reading.digit-first
+
+pub ends-well : (v : ℤ) (s t r : List ℕ) → numeral v ≡ s ++ bytes "." ++ t → numeral v ≢ r ++ bytes "0"
+ends-well = by.Reading.ends-well
+
+pub no-point : (v : ℤ) (s t : List ℕ) → natAbs v % 4 ≡ 0 → numeral v ≢ s ++ bytes "." ++ t
+no-point = by.Reading.no-point
+
+pub no-minus-zero : (v : ℤ) → numeral v ≢ bytes "-0"
+no-minus-zero = by.Reading.no-minus-zero
+
+pub numerals : (numeral (pos 0) ≡ bytes "0") × (numeral (pos 1) ≡ bytes "0.25") × (numeral (pos 2) ≡ bytes "0.5") × (numeral (pos 3) ≡ bytes "0.75")
+    × (numeral (pos 30) ≡ bytes "7.5") × (numeral (negsuc 29) ≡ bytes "-7.5") × (numeral (pos 40) ≡ bytes "10")
+    × (numeral (negsuc 999998) ≡ bytes "-249999.75") × (numeral (pos 1000000) ≡ bytes "250000")
+numerals = by.Reading.numerals
+
 -- ---- the worked sheets
 
 -- The fields of a record, byte by byte: offsets, little-endian, two's complement.
@@ -614,8 +704,8 @@ pub fields-read : (count sample ≡ 2) × (nameOf sample 1 ≡ 513) × (halfOf s
     × (portCount Slots sample ≡ 8) × (portOf Slots sample 7 ≡ negℤ (pos 2147483648)) × (twos 2147483647 ≡ pos 2147483647)
 fields-read = by.Vectors.fields-read
 
--- P1 to P12, and those of 02 for 12, for both records of 9, by tables, on slots and with squares, are replies that the promises allow; so are Page's nine, Count's two
--- and Place's six.
+-- P1 to P12, and those of 02 for 12, for both records of 9, by tables, on slots and with squares, are replies that the promises allow; so are Page's nine, Count's two,
+-- Place's six and Svg's seven.
 pub worked : Each Allowed sheets
 worked = by.Worked.worked
 
@@ -627,3 +717,6 @@ worked-counts = by.Worked.worked-counts
 
 pub worked-places : Each PlaceAllowed placeSheets
 worked-places = by.Worked.worked-places
+
+pub worked-svg : Each SvgAllowed svgSheets
+worked-svg = by.Worked.worked-svg

@@ -19,6 +19,9 @@ pub mod Bounds
 pub mod Quarter
 pub mod Drawn
 pub mod Vectors
+pub mod Texts
+pub mod Reading
+pub mod Exported
 -- Existence, by straightening and by trying every assignment:
 pub mod Straighten
 pub mod Existence

@@ -26,7 +26,7 @@ pub enum Answer {
     Refused(Refusal),
 }
 
-// What Page and Count answer: how many layouts it wrote, and how many best ones there are.
+// What Page, Count and Svg answer: how many layouts it wrote, how many best ones there are, how many bytes it wrote.
 pub enum Counted {
     Many(u64),
     Refused(Refusal),

@@ -2,7 +2,7 @@
 use mathlib.Core.Path.{_≡_}
 use mathlib.Core.Bool.{cond}
 use mathlib.Core.List.{List, [], _∷_, _++_}
-use Prim.Native.Nat.{ℕ, zero, suc, _+_, _/_, _%_}
+use Prim.Native.Nat.{ℕ, zero, suc, _+_, _*_, _-_, _/_, _%_, _<_}
 use Prim.Native.Char.{code}
 use Prim.Native.String.{String, [] as none, _∷_ as _then_}
 use lib.Dec.{ltb}
@@ -22,6 +22,15 @@ digits (suc k) n = cond (ltb n 10) ((48 + n) ∷ []) (digits k (n / 10) ++ ((48 
 -- n in decimal: it has no more than n + 1 digits.
 unfoldable pub decimal : ℕ → List ℕ
 decimal n = digits (suc n) n
+
+-- A text that begins with a digit.
+abbrev pub Begins : List ℕ → Type 0
+Begins t = (d : ℕ) × (s : List ℕ) × (d < 10) × (t ≡ (48 + d) ∷ s)
+
+-- Digits read as a number, after those that came to v. (Those of `decimal n` come to n: `decimal-reads`.)
+abbrev pub value : ℕ → List ℕ → ℕ
+value v [] = v
+value v (d ∷ s) = value (10 * v + (d - 48)) s
 
 -- `text` is written from place `at` on, r is the place after it, and every other byte is kept. (`sets` of the kit: one store for each byte.)
 pub record Writes (before : List ℕ) (at : ℕ) (text : List ℕ) (r : ℕ) (after : List ℕ) : Type 0 where

@@ -19,7 +19,7 @@ pub fn word(s: &[u8], out: &mut [u8], at: usize) -> usize
 }
 
 // A number in decimal.
-fn decimal(n: u64, out: &mut [u8], at: usize) -> usize
+pub fn decimal(n: u64, out: &mut [u8], at: usize) -> usize
     requires { ⌜ at + length (in-decimal n) ≤ length (now out) ⌝ }
     ensures { λ r. ⌜ Writes (now (out .entry)) at (in-decimal n) r (now (out .exit)) ⌝ }
 {

@@ -8,7 +8,8 @@ use Rattle.paper.specs.Job.{records}
 use Rattle.paper.specs.Layouts.{boardOf, leader}
 use Rattle.paper.specs.Refusals.{drawTrials}
 use Rattle.checks.specs.Judged.{Judged, judged-sound, judged-refused, draw-judged}
-use Rattle.paper.specs.laws.Drawn.{Draws, drawn-is, coordinates-few, passed-on-sheet, draw-answers}
+use Rattle.paper.specs.Canvas.{Draws}
+use Rattle.paper.specs.laws.Drawn.{drawn-is, coordinates-few, passed-on-sheet, draw-answers}
 use Rattle.paper.specs.laws.Accepted.{draw-accepted}
 use Rattle.calls.proofs.draw.Statement.{statement}
 use Rattle.calls.proofs.draw.Tie as tie

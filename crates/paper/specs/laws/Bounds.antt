@@ -1,5 +1,5 @@
 -- A total is at most 64 times the largest figure of 32 bits. So every total that a call answers fits C's number; and so does how many layouts a page has, and a count.
---     first-bounded, next-bounded, measure-bounded, place-bounded, page-counted, count-bounded
+--     first-bounded, next-bounded, measure-bounded, place-bounded, page-counted, count-bounded, svg-bounded
 use mathlib.Core.Path.{_≡_}
 use mathlib.Core.List.{List}
 use Prim.Native.Nat.{ℕ, _^_, _≤_, _<_}
@@ -16,11 +16,12 @@ use Rattle.paper.specs.Job.{Job}
 use Rattle.paper.specs.Layouts.{boardOf, held, Badness, Layout}
 use Rattle.paper.specs.Problem.{labelingOf}
 use Rattle.paper.specs.Refusals.{Passed, soundTrials, firstTrials, callsOf}
-use Rattle.paper.specs.Promises.{FirstAnswers, NextAnswers, PageAnswers, MeasureAnswers, CountAnswers, PlaceAnswers}
+use Rattle.paper.specs.Promises.{FirstAnswers, NextAnswers, PageAnswers, MeasureAnswers, CountAnswers, PlaceAnswers, SvgAnswers}
 use Rattle.paper.specs.laws.Trials.{append-passed}
 use Rattle.paper.specs.laws.Totals.{totalOf}
 use Rattle.paper.specs.laws.Accepted.{Narrow, sound-accepted, first-sound, measure-accepted, measure-facts, next-measured, total-most}
 use Rattle.paper.specs.laws.Places.{place-best, count-few}
+use Rattle.paper.specs.laws.Exported.{text-bound, svg-measured, svg-text}
 
 abbrev pub Bounded : Answer → Type 0
 Bounded (Total t) = t ≤ 274877906880
@@ -75,3 +76,12 @@ page-counted job bad work given before (NotCounted r) after h n = tt
 pub count-bounded : (job : Job) (bad : Badness) (numbers : ℕ) (a : Counted) → CountAnswers job bad numbers a → BoundedCount a
 count-bounded job bad numbers (Many k) (p, is) = omega (arith, count-few (callsOf job bad Unlent) numbers k p is)
 count-bounded job bad numbers (NotCounted r) c = tt
+
+-- A text has at most 4,864 bytes.
+pub svg-bound : (job list before : List ℕ) (k : ℕ) (after : List ℕ) → SvgAnswers job list before (Many k) after → k ≤ 4864
+svg-bound job list before k after a =
+    omega (arith, svg-text job list before k after a .0, text-bound job list (svg-measured job list (length before) (a .0) .0))
+
+pub svg-bounded : (job list before : List ℕ) (a : Counted) (after : List ℕ) → SvgAnswers job list before a after → BoundedCount a
+svg-bounded job list before (Many k) after a = omega (arith, svg-bound job list before k after a)
+svg-bounded job list before (NotCounted r) after a = tt

@@ -22,8 +22,8 @@ use Rattle.paper.specs.Job.{records, xOf, yOf, portOf, twos}
 use Rattle.paper.specs.Leaders.{Leader, distance}
 use Rattle.paper.specs.Layouts.{boardOf, leader}
 use Rattle.paper.specs.Refusals.{Passed, drawTrials}
-use Rattle.paper.specs.Promises.{coordinates, overwritten, DrawAnswers}
-use Rattle.paper.specs.Canvas.{StandsFor, DrawnStraight, DrawnBent}
+use Rattle.paper.specs.Promises.{overwritten, DrawAnswers}
+use Rattle.paper.specs.Canvas.{StandsFor, DrawnStraight, DrawnBent, Draws, coordinates}
 use Rattle.paper.specs.Sheets.{J5}
 use Rattle.paper.specs.laws.Accepted.{draw-accepted}
 use Rattle.paper.specs.laws.Quarter.{quarter, quarter-is, four-times-one}
@@ -60,12 +60,6 @@ pub record OnSheet (l : Leader) : Type 0 where
   pub right : l .x ≤ 1000000
   pub pad : natAbs (l .y) ≤ 1000000
   pub port : natAbs (l .port) ≤ 1000000
-
--- The answer d draws the leader l, in the paper's words.
-abbrev pub Draws : Leader → Drawn → Type 0
-Draws l (Straight d) = DrawnStraight l d
-Draws l (Bent d) = DrawnBent l d
-Draws l (NotDrawn r) = ⊥
 
 small : {n : ℕ} → n ≤ 1000000 → n < 2 ^ 24
 small h = lt-of-le-of-lt h (lit< tt)
@@ -119,8 +113,8 @@ passed-on-sheet job i q room p =
     let a = draw-accepted job i q room p in
     record { right = a .0 .width i (a .2); pad = a .0 .pad i (a .2); port = a .0 .port q (a .3) }
 
--- The coordinates fill the first places, and the places after those keep their content.
-pub overwritten-is : (cs before : List Float) (k : ℕ) (d : Float)
+-- What is written fills the first places, and the places after those keep their content.
+pub overwritten-is : {A : Type 0} (cs before : List A) (k : ℕ) (d : A)
     → (k < length cs → getD (overwritten cs before) k d ≡ getD cs k d) × (length cs ≤ k → getD (overwritten cs before) k d ≡ getD before k d)
 overwritten-is cs before k d = (List·getD-append cs (drop (length cs) before) d k, late)
   where

@@ -3,6 +3,7 @@
 --     first-pair;  first-none;  measure-named, next-named, first-named, draw-named;  measure-none, next-none: 8 or 9 where no layout is untouching;  alone-number
 --     count-named, place-named;  count-15, count-18, count-16, place-15, place-18, place-16, place-17: when these are given
 --     count-none, count-too-short, count-too-many, place-none, place-too-short, place-too-many, place-past-count: so as C's numbers
+--     svg-named, svg-free: never 2;  svg-19, svg-too-long: when 19 is given;  svg-none
 --     count-free: neither 3 nor 17;  count-kept, place-kept: neither 16 nor 17
 use mathlib.Core.Path.{_≡_, refl, sym, subst}
 use mathlib.Core.Logic.{_≢_, _⊎_, inl, inr, ⊎-elim, _↔_, Iff·trans}
@@ -19,11 +20,11 @@ use Rattle.paper.specs.Layouts.{Board, boardOf, held, Touching, Badness,
 use Rattle.paper.specs.Problem.{Problem, labelingOf}
 use Rattle.paper.specs.Refusals.{Trial, FirstFault, Passed, RefusedBy, refusal, ofEach, ofWhole, ofPairs, sizeTrials, enoughTrials, workTrials, roomTrials, fieldTrials, boardTrials, jobTrials, layoutTrials, bestTrial, numberTrial}
 use Rattle.paper.specs.Refusals.{badnessTrial, NoLayout, noneTrial, soundTrials, firstTrials, measureTrials, nextTrials, drawTrials, Calls, callsOf, Alone, FirstPair, Named}
-use Rattle.paper.specs.Refusals.{bufferNeeded, TooMany, PastCount, numberTrials, countTrials, placeTrials}
-use Rattle.paper.specs.Promises.{refusalNumber, FirstReplies, CountReplies, PlaceReplies}
+use Rattle.paper.specs.Refusals.{bufferNeeded, TooMany, PastCount, numberTrials, countTrials, placeTrials, TooLong, svgTrials}
+use Rattle.paper.specs.Promises.{refusalNumber, FirstReplies, CountReplies, PlaceReplies, SvgPromise}
 use Rattle.paper.specs.laws.Trials.{not-both, refused-append, before-other, after-other, after-whole, not-whole, by-whole}
 use Rattle.paper.specs.laws.Accepted.{measure-accepted}
-use Rattle.paper.specs.laws.Numbers.{SmallRefusal, refuses-iff, first-refuses, count-refuses, place-refuses, numbered}
+use Rattle.paper.specs.laws.Numbers.{SmallRefusal, refuses-iff, first-refuses, count-refuses, place-refuses, svg-refuses, numbered}
 
 -- ---- a refusal by some trial
 
@@ -397,6 +398,87 @@ module _ (job : Job) (bad : Badness) (numbers : ℕ) where
     pub place-past-count : (m ≡ refusalNumber (refusal 17 0 0))
         ↔ (Passed (firstTrials job bad Unlent (length before)) × (bufferNeeded n ≤ numbers) × (¬ TooMany problem) × PastCount problem place)
     place-past-count = Iff·trans (place-is (refusal 17 0 0) (omega arith)) (place-17 place (length before))
+
+-- ---- Svg
+
+module _ (job list : List ℕ) (room : ℕ) where
+  abbrev measured : List Trial
+  measured = measureTrials (records job) (byWeights 0 0) Unlent list
+
+  abbrev long : Type 0
+  long = TooLong (boardOf (records job)) (held list) room
+
+  -- What Measure's trials refuse by weights 0 and 0 is refused neither by 2 nor by 19.
+  neither : (r : Refusal) → RefusedBy measured r → (r .reason ≢ 2) × (r .reason ≢ 19)
+  neither r =
+      refused-is Other measured r (
+        other 1 _ _ (omega arith),
+        (
+          (λ i j a. ⊎-elim (λ h. absurd (omega arith)) (λ h. absurd (omega arith)) (a .first .here)),
+          (
+            other 3 _ _ (omega arith),
+            (
+              other 4 _ _ (omega arith),
+              (
+                other 5 _ _ (omega arith),
+                (
+                  other 12 _ _ (omega arith),
+                  (other 6 _ _ (omega arith), (other 7 _ _ (omega arith), (other 8 _ _ (omega arith), ((λ i j a. omega arith), tt)))),
+                ),
+              ),
+            ),
+          ),
+        ),
+      )
+    where
+      Other : Refusal → Type 0
+      Other s = (s .reason ≢ 2) × (s .reason ≢ 19)
+
+      other : (k n : ℕ) (fault : ℕ → Type 0) → (k ≢ 2) × (k ≢ 19) → (i j : ℕ) → FirstFault (ofEach k n fault) i j → Other (refusal k i j)
+      other k n fault h i j a = h
+
+  -- THEOREM. It names one record, or by 9 the first touching pair, and by 19 record 0.
+  abbrev SvgTold : Refusal → Type 0
+  SvgTold r = Named (boardOf (records job)) (held list) r × (r .reason ≡ 19 → r .at ≡ 0)
+
+  pub svg-named : (r : Refusal) → RefusedBy (svgTrials job list room) r → SvgTold r
+  svg-named r a = ⊎-elim early (λ (p, b). late b) (refused-append measured (ofWhole 19 long ∷ []) r a)
+    where
+      early : RefusedBy measured r → SvgTold r
+      early b = (measure-named (records job) (byWeights 0 0) Unlent list r b, λ e. absurd (neither r b .1 e))
+
+      late : RefusedBy (ofWhole 19 long ∷ []) r → SvgTold r
+      late (inl (e, f)) = (inl (omega (arith, e), f .named .here), λ _. omega (arith, f .inside))
+      late (inr (c, b)) = absurd b
+
+  -- It is given no weights: no 2.
+  pub svg-free : (r : Refusal) → RefusedBy (svgTrials job list room) r → r .reason ≢ 2
+  svg-free r a = ⊎-elim (λ b. neither r b .0) late (refused-append measured (ofWhole 19 long ∷ []) r a)
+    where
+      late : Passed measured × RefusedBy (ofWhole 19 long ∷ []) r → r .reason ≢ 2
+      late (p, inl (e, f)) = omega (arith, e)
+      late (p, inr (c, b)) = absurd b
+
+  -- 19 exactly if Measure's are passed and the text is too long.
+  pub svg-19 : RefusedBy (svgTrials job list room) (refusal 19 0 0) ↔ (Passed measured × long)
+  svg-19 =
+      let A = after-other measured (ofWhole 19 long ∷ []) (refusal 19 0 0) (λ a. neither (refusal 19 0 0) a .1 refl) in
+      let B = by-whole 19 long [] (λ a. a) in
+      ((λ a. let (q, x) = A .0 a in (q, B .0 x)), (λ (q, h). A .1 (q, B .1 h)))
+
+  -- Where no layout is untouching: 8 or 9.
+  pub svg-none : Passed (soundTrials (records job) (byWeights 0 0) Unlent (length list)) → NoLayout (labelingOf (records job) (byWeights 0 0)) → (r : Refusal)
+      → RefusedBy (svgTrials job list room) r → (r .reason ≡ 8) ⊎ (r .reason ≡ 9)
+  svg-none sound none r a =
+      ⊎-elim (measure-none (records job) (byWeights 0 0) Unlent list sound none r)
+      (λ (p, b). absurd (not-measured (records job) (byWeights 0 0) Unlent list sound none p)) (refused-append measured (ofWhole 19 long ∷ []) r a)
+
+-- THEOREM. So it is with Svg's number.
+pub svg-too-long : (job list before after : List ℕ) (m : ℤ) → SvgPromise job list before m after
+    → (m ≡ refusalNumber (refusal 19 0 0)) ↔ (Passed (measureTrials (records job) (byWeights 0 0) Unlent list) × TooLong (boardOf (records job)) (held list) (length before))
+svg-too-long job list before after m p =
+    Iff·trans (refuses-iff (svgTrials job list (length before)) (after ≡ before) m (refusal 19 0 0) (omega arith) (svg-refuses job list before after m p))
+    (svg-19 job list (length before))
 
 -- ---- C's number
 

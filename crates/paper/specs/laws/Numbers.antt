@@ -1,6 +1,6 @@
 -- C's number tells the answer: the numbers of refusals are apart from totals, from the end and from one another.
---     first-refuses, next-refuses, page-refuses, measure-refuses, count-refuses, place-refuses, draw-refuses: a refusal exactly if a trial fails; refuses-iff: by which
---     total-told, next-total-told, end-told, wrote-told, measure-told, count-told, place-told, straight-told, bent-told: what every other number tells
+--     first-refuses, next-refuses, page-refuses, measure-refuses, count-refuses, place-refuses, svg-refuses, draw-refuses: a refusal exactly if a trial fails; refuses-iff: by which
+--     total-told, next-total-told, end-told, wrote-told, measure-told, count-told, place-told, svg-told, straight-told, bent-told: what every other number tells
 --     first-work, next-work, buffer-open, buffer-many, buffer-past, buffer-kept: what it tells of what is lent for work
 use mathlib.Core.Path.{_≡_, refl, sym, ap, subst, _∙_}
 use mathlib.Core.Logic.{_≢_, _⊎_, inl, inr, ⊎-elim, _↔_}
@@ -28,9 +28,9 @@ use Rattle.paper.specs.Layouts.{Board, boardOf, held, Badness, byWeights
 use Rattle.paper.specs.Problem.{FirstBest, PlaceBest, labelingOf}
 use Rattle.paper.specs.Refusals.{sizeTrials, enoughTrials, workTrials, roomTrials, fieldTrials, boardTrials, jobTrials, layoutTrials, numberTrial}
 use Rattle.paper.specs.Refusals.{Trial, Clean, Passed, RefusedBy, soundTrials, firstTrials, measureTrials, nextTrials, drawTrials, badnessTrial, bestTrial, noneTrial, Calls, entries, callsOf}
-use Rattle.paper.specs.Refusals.{refusal, ofWhole, PastCount, numberTrials, countTrials, placeTrials}
+use Rattle.paper.specs.Refusals.{refusal, ofWhole, PastCount, numberTrials, countTrials, placeTrials, TooLong, svgTrials}
 use Rattle.paper.specs.Promises.{refusalNumber, refusalIn, number, countedNumber, drawnNumber, FirstOver, NextOver, PageOver, MeasureOver, DrawAnswers}
-use Rattle.paper.specs.Promises.{Kept, CountOver, PlaceOver, CountReplies, PlaceReplies, OpenAfter, WorkAfter, WorkPromise, BufferPromise, FirstReplies, NextReplies, PageReplies, MeasureReplies, DrawPromise, RefusesBy}
+use Rattle.paper.specs.Promises.{Kept, CountOver, PlaceOver, CountReplies, PlaceReplies, OpenAfter, WorkAfter, WorkPromise, BufferPromise, FirstReplies, NextReplies, PageReplies, MeasureReplies, DrawPromise, SvgAnswers, SvgPromise, RefusesBy}
 use Rattle.paper.specs.laws.Trials.{not-both, refused-one, refused-left, refused-append}
 use Rattle.paper.specs.laws.Decided.{sound-parts}
 use Rattle.paper.specs.laws.Accepted.{sized, pads-sized, ports-sized}
@@ -353,6 +353,27 @@ numbered job bad work = record {
   where
     next : (work : Work) (list : List ℕ) (r : Refusal) → RefusedBy (nextTrials job bad work list) r → SmallRefusal r
     next work list r = refused-small (nextTrials job bad work list) r (next-small job bad work list)
+
+-- ---- Svg
+
+module _ (job list before after : List ℕ) where
+  svg-small : (r : Refusal) → RefusedBy (svgTrials job list (length before)) r → SmallRefusal r
+  svg-small =
+      after-small (measureTrials (records job) (byWeights 0 0) Unlent list) (ofWhole 19 (TooLong (boardOf (records job)) (held list) (length before)) ∷ [])
+      (numbered (records job) (byWeights 0 0) Unlent .measure list) (omega arith)
+
+  -- A number of 0 or more is that of the bytes written,
+  pub svg-told : (k : ℕ) → SvgPromise job list before (pos k) after → SvgAnswers job list before (Many k) after
+  svg-told k (Many m, p, e) = let n : m ≡ k = cc in rw n at p
+  svg-told k (NotCounted r, p, e) = absurd (refusal-apart r k (svg-small r (p .0)) e)
+
+  -- and every other one is a refusal.
+  pub svg-refuses : (m : ℤ) → SvgPromise job list before m after → RefusesBy (svgTrials job list (length before)) m (after ≡ before)
+  svg-refuses m (a, p, e) = answered-refuses (svgTrials job list (length before)) (after ≡ before) m svg-small (rw e (says a p))
+    where
+      says : (a : Counted) → SvgAnswers job list before a after → Answered (svgTrials job list (length before)) (after ≡ before) (countedNumber a)
+      says (Many k) p = inr (p .0, omega whole)
+      says (NotCounted r) p = inl (r, p .0, p .1, refl)
 
 -- ---- Draw
 

@@ -7,7 +7,7 @@ use lib.Ieee.{round}
 use Rattle.paper.specs.declared.Form.the-variants.{Records, Slots}
 use Rattle.paper.specs.Job.{records, count, twos, nameOf, halfOf, xOf, yOf, lastOf, portCount, portOf}
 use Rattle.paper.specs.Layouts.{boardOf, leader}
-use Rattle.paper.specs.Promises.{coordinates}
+use Rattle.paper.specs.Canvas.{coordinates}
 use Rattle.paper.specs.Sheets.{sample, J5}
 use Rattle.paper.specs.laws.Quarter.{quarter}
 use Rattle.paper.specs.laws.Drawn.{canvas, leaderDrawn}

@@ -1,6 +1,6 @@
--- THE WORKED SHEETS, P1 to P12 and those of 02, by one theorem over one list, and Page's, Count's and Place's by others: a test that the checker computes for each
+-- THE WORKED SHEETS, P1 to P12 and those of 02, by one theorem over one list, and Page's, Count's, Place's and Svg's by others: a test that the checker computes for each
 -- sheet, and a lemma that turns the test into the call's promise.
---     worked, worked-pages, worked-counts, worked-places
+--     worked, worked-pages, worked-counts, worked-places, worked-svg
 use mathlib.Core.Path.{_≡_, refl, sym, ap, _∙_}
 use mathlib.Core.Bool.{Bool, true, false, _&&_, _||_}
 use mathlib.Core.List.{List, [], _∷_, _++_}
@@ -19,10 +19,15 @@ use Rattle.paper.specs.declared.Work.the-variants.{Unlent}
 use Rattle.paper.specs.Job.{Job, records, twos, nameOf, halfOf, xOf, yOf, lastOf, portOf}
 use Rattle.paper.specs.Layouts.{Board, boardOf, held, Badness, byWeights, weighted, costOf, sum, Same, Differ}
 use Rattle.paper.specs.Problem.{Problem, FirstBest, LastBest, PlaceBest, CountBest, labelingOf}
-use Rattle.paper.specs.Refusals.{Trial, firstTrials, measureTrials, nextTrials, Calls, callsOf, numberTrials, countTrials, placeTrials}
-use Rattle.paper.specs.Promises.{Kept, inTurn, Following, FirstAnswers, NextAnswers, PageAnswers, MeasureAnswers, CountAnswers, PlaceAnswers}
+use Rattle.paper.specs.Refusals.{Trial, firstTrials, measureTrials, nextTrials, Calls, callsOf, numberTrials, countTrials, placeTrials, svgTrials}
+use Rattle.paper.specs.Promises.{Kept, inTurn, Following, FirstAnswers, NextAnswers, PageAnswers, MeasureAnswers, CountAnswers, PlaceAnswers, SvgAnswers, overwritten}
 use Rattle.paper.specs.laws.Totals.{totalOf}
 use Rattle.paper.specs.Sheets.{copper, sheet, sheets, Each, Call, First, Next, Measure, Sheet, AllowedBy, Allowed, pages, PageSheet, PageAllowed}
+use Rattle.text.specs.Text.{digits, decimal}
+use Rattle.paper.specs.Svg.{quarters, numeral}
+use Rattle.paper.specs.laws.Texts.{pointText, lineText, sheetText}
+use Rattle.paper.specs.laws.Exported.{svgTests, svg-tests, svg-measured, svg-made}
+use Rattle.paper.specs.Sheets.{SvgSheet, SvgAllowed, svgSheets}
 use Rattle.paper.specs.Sheets.{J3plus, CountSheet, PlaceSheet, CountAllowed, PlaceAllowed, countSheets, placeSheets}
 use Rattle.paper.specs.laws.Tests.{Test, somewhere, outside, between, leadersTouch, reaches, notRight, underTop, overBottom, meets, meetsLarge, jobTests, layoutTests, soundTests, measureTests}
 use Rattle.paper.specs.Leaders.{lengthOf, bendsOf}
@@ -101,6 +106,11 @@ countHolds job bad k numbers (NotCounted r) = refuses (countTests job bad k numb
 
 abbrev placeTests : Job → Badness → ℕ → ℕ → ℕ → ℕ → List Test
 placeTests job bad k numbers place room = firstTests job bad Unlent room ++ laterTests (boardOf job .pads) numbers k place
+
+abbrev svgHolds : List ℕ → List ℕ → List ℕ → Counted → List ℕ → Bool
+svgHolds job list l (Many k) m =
+    let s = sheetText (boardOf (records job)) (held list) in passes (svgTests job list (length l)) && (eqb k (length s) && sameList m (overwritten s l))
+svgHolds job list l (NotCounted r) m = refuses (svgTests job list (length l)) r && sameList m l
 
 abbrev placeHolds : Job → Badness → List (List ℕ) → ℕ → ℕ → List ℕ → Answer → List ℕ → Bool
 placeHolds job bad ls numbers place l (Total t) m =
@@ -319,6 +329,17 @@ module _ (job : Job) (bad : Badness) (ls : List (List ℕ)) (is : CountBest (lab
         let u = both (refuses tests r) (sameList m l) .0 h in
         (tests-refuse tests trials r place-tests (u .0), same-list m l (u .1))
 
+svg-holds : (job list l : List ℕ) (a : Counted) (m : List ℕ) → T (svgHolds job list l a m) → SvgAnswers job list l a m
+svg-holds job list l (Many k) m h =
+    let s = sheetText (boardOf (records job)) (held list) in
+    let u = both (passes (svgTests job list (length l))) (eqb k (length s) && sameList m (overwritten s l)) .0 h in
+    let v = both (eqb k (length s)) (sameList m (overwritten s l)) .0 (u .1) in
+    let (measured, fits) = svg-measured job list (length l) (tests-pass (svgTests job list (length l)) (svgTrials job list (length l)) (svg-tests job list (length l)) (u .0)) in
+    rw (eqb→eq k (length s) (v .0), same-list m (overwritten s l) (v .1)) (svg-made job list l measured fits)
+svg-holds job list l (NotCounted r) m h =
+    let u = both (refuses (svgTests job list (length l)) r) (sameList m l) .0 h in
+    (tests-refuse (svgTests job list (length l)) (svgTrials job list (length l)) r (svg-tests job list (length l)) (u .0), same-list m l (u .1))
+
 all-allowed : {S : Type 0} (test : S → Bool) (P : S → Type 0) → ((s : S) → T (test s) → P s) → (ss : List S) → T (allHold test ss) → Each P ss
 all-allowed test P says [] h = tt
 all-allowed test P says (s ∷ ss) h = let u = both (test s) (allHold test ss) .0 h in (says s (u .0), all-allowed test P says ss (u .1))
@@ -339,17 +360,20 @@ others = (1 ∷ 0 ∷ 2 ∷ []) ∷ (0 ∷ 1 ∷ 2 ∷ []) ∷ []
 abbrev countSheetHolds : CountSheet → Bool
 countSheetHolds s = countHolds three even 3 (s .numbers) (s .answer)
 
+abbrev svgSheetHolds : SvgSheet → Bool
+svgSheetHolds s = svgHolds (s .job) (s .list) (s .before) (s .answer) (s .after)
+
 abbrev placeSheetHolds : PlaceSheet → Bool
 placeSheetHolds s = placeHolds three even (earliest ∷ others) (s .numbers) (s .place) (s .before) (s .answer) (s .after)
 
 -- Each passes its test; and so does the example of squares that cost length.
 all-hold : T (allHold holds sheets) × T (allHold pageSheetHolds pages) × T (holds (sheet First (copper 4) 1 0 (9 ∷ 9 ∷ []) (Total 84) (1 ∷ 0 ∷ [])))
     × T (passes (firstTests three even Unlent 3)) × T (runTest (labelingOf three even) (untouchingTest (boardOf three)) earliest others)
-    × T (allHold countSheetHolds countSheets) × T (allHold placeSheetHolds placeSheets)
+    × T (allHold countSheetHolds countSheets) × T (allHold placeSheetHolds placeSheets) × T (allHold svgSheetHolds svgSheets)
 unfolding heads words any someWord leastTest misled untouchingTest differRight decidedAt beforeTest cheaper bestTest firstTest laterTest nextTest lastTest
     somewhere outside between leadersTouch reaches notRight underTop overBottom meets meetsLarge jobTests layoutTests soundTests firstTests measureTests nextTests
-    twos nameOf halfOf xOf yOf lastOf portOf lengthOf bendsOf sum weighted
-all-hold = (tt, tt, tt, tt, tt, tt, tt)
+    twos nameOf halfOf xOf yOf lastOf portOf lengthOf bendsOf sum weighted digits decimal quarters numeral pointText lineText
+all-hold = (tt, tt, tt, tt, tt, tt, tt, tt)
 
 pub copper-first : FirstAnswers (records (copper 4)) (byWeights 1 0) Unlent (9 ∷ 9 ∷ []) (Total 84) (1 ∷ 0 ∷ [])
 copper-first = first-holds (records (copper 4)) (byWeights 1 0) Unlent (9 ∷ 9 ∷ []) (Total 84) (1 ∷ 0 ∷ []) (all-hold .2)
@@ -384,3 +408,7 @@ worked-places =
     all-allowed placeSheetHolds PlaceAllowed
     (λ s h. (s .answer, place-holds three even (earliest ∷ others) three-count three-place (s .numbers) (s .place) (s .before) (s .answer) (s .after) h, refl))
     placeSheets (all-hold .6)
+
+-- THEOREM. So is every sheet of Svg's.
+pub worked-svg : Each SvgAllowed svgSheets
+worked-svg = all-allowed svgSheetHolds SvgAllowed (λ s h. (s .answer, svg-holds (s .job) (s .list) (s .before) (s .answer) (s .after) h, refl)) svgSheets (all-hold .7)
