@@ -16,8 +16,9 @@
  *     10 *-----o 101       |             cheremysl_place     the best sheet at a given place
  *        |                 |             cheremysl_measure   the total of any sheet that is sound
  *      0 *-----------------+             cheremysl_draw      one leader's points for the canvas
- *        +-----+-----+-----+--> x
- *        0    10    20    30             cheremysl_table_first     First, Next and Measure by the
+ *        +-----+-----+-----+--> x        cheremysl_svg       all leaders as text for a web page
+ *        0    10    20    30
+ *                                        cheremysl_table_first     First, Next and Measure by the
  *                                        cheremysl_table_next      caller's own figure for each
  *                                        cheremysl_table_measure   pad with each port
  *
@@ -49,7 +50,7 @@
  *
  * The example sheets.c takes them page by page; thumbs.c shows a page of them at any place;
  * antenna.c makes a table that keeps leaders off an area of the board; slots.c lays a board out on
- * a strip of slots.
+ * a strip of slots; webpage.c makes a web page of a sheet.
  *
  * THE JOB
  *
@@ -91,9 +92,10 @@
  * bytes. What it holds on entry changes no answer: it need not be filled, and one list will do for
  * any number of calls, one after the other. What it holds after them is of no use.
  *
- * These calls are by weights. Page, Count, Place, Draw and the table calls take jobs of the first
- * form. A pad with its port's height in its last field is such a job, of one record: Draw gives its
- * leader's points, and Measure with the layout {0} its length, or its bends.
+ * These calls are by weights. Page, Count, Place, Draw, Svg and the table calls take jobs of the
+ * first form. A pad with its port's height in its last field is such a job, of one record: Draw
+ * gives its leader's points, Svg with the layout {0} its line, and Measure with that layout its
+ * length, or its bends.
  *
  *      uint8_t one[CHEREMYSL_RECORD_BYTES];
  *      memcpy(one, pads + 16 * i, 12);
@@ -181,8 +183,8 @@
  *      0 or more           the total (First, Next, Place, Measure and the slots calls; at most
  *                          CHEREMYSL_MAX_TOTAL, and in the table calls at most
  *                          CHEREMYSL_MAX_TABLE_TOTAL), the number of layouts written (Page), of
- *                          best layouts, 1 to CHEREMYSL_MAX_COUNT (Count), or of points, 2 or 3
- *                          (Draw)
+ *                          best layouts, 1 to CHEREMYSL_MAX_COUNT (Count), of points, 2 or 3
+ *                          (Draw), or of bytes written, at most CHEREMYSL_MAX_SVG_BYTES (Svg)
  *      -1                  the end (Next, TableNext and SlotsNext only): no best layout comes
  *                          after the given one
  *      -(4294967296 * j + 65536 * r + i)
@@ -219,6 +221,7 @@
  *      16   there are more than 1,000,000,000,000,000,000 best layouts       0
  *      17   Place's place is the number of best layouts or more              0
  *      18   the buffer has fewer than 2(n + 2)(n + 2) numbers                0
+ *      19   Svg's text is longer than the bytes lent for it                  0
  *      24   the work list has fewer than 2(n + 1)(p + 2)(p + 2) numbers      0
  *
  * Each call checks for these, in this order, each over the whole job before the next:
@@ -230,6 +233,7 @@
  *      Place          1, 2, 3, 4, 5, 12, 6, 7, 15, 18, 16, 17
  *      Measure        1, 2, 3, 4, 5, 12, 6, 7, 8, 9
  *      Draw           1, 3, 4, 5, 12, 6, 7, 11
+ *      Svg            1, 3, 4, 5, 12, 6, 7, 8, 9, 19
  *      TableFirst     1, 13, 3, 4, 5, 12, 6, 7, 15
  *      TableNext      1, 13, 3, 4, 5, 12, 6, 7, 8, 9, 10
  *      TableMeasure   1, 13, 3, 4, 5, 12, 6, 7, 8, 9
@@ -253,18 +257,19 @@
  * WHO OWNS WHAT, AND WHAT STAYS UNCHANGED
  *
  * All memory is the caller's, and the library keeps no pointer after a call. Every list is lent
- * as a pointer and the number of its elements (bytes of a job, of pads or of ports, figures of a
- * table, entries of a layout or of a page, floats, numbers of a work list or of a buffer); all of
- * them must be there. NULL with 0 is an empty list; NULL with another number is not allowed. Job,
- * pads and ports may stand at any address; a table is aligned as uint32_t always is, layouts and
- * pages as uint16_t, floats as float, a work list and a buffer as uint64_t. A list that a call
- * writes must not overlap another that it is lent: to go on from the last layout of a page, copy it
- * out first.
+ * as a pointer and the number of its elements (bytes of a job, of pads, of ports or of a text,
+ * figures of a table, entries of a layout or of a page, floats, numbers of a work list or of a
+ * buffer); all of them must be there. NULL with 0 is an empty list; NULL with another number is not
+ * allowed. Job, pads, ports and text may stand at any address; a table is aligned as uint32_t
+ * always is, layouts and pages as uint16_t, floats as float, a work list and a buffer as uint64_t.
+ * A list that a call writes must not overlap another that it is lent: to go on from the last layout
+ * of a page, copy it out first.
  *
  *      the job, pads and ports,      never written
  *      the table
- *      the layout of Page, Measure,  never written
- *      TableMeasure, SlotsMeasure
+ *      the layout of Page, Svg,      never written
+ *      Measure, TableMeasure,
+ *      SlotsMeasure
  *      after a refusal, or the end   nothing was written: every lent list is as it was, but for
  *                                    the work list after the end or refusal 10 or 15, and for the
  *                                    buffer after refusal 16 or 17
@@ -279,6 +284,8 @@
  *      Page with k layouts           the page's entries 0 to k * n - 1 are replaced, those from
  *                                    k * n on unchanged
  *      Draw with 2 or 3 points       the first 4 or 6 floats are replaced, those after unchanged
+ *      Svg with k bytes              the text's bytes 0 to k - 1 are replaced, those from k on
+ *                                    unchanged
  *
  * Reply and lists depend on the arguments and on what the lists hold, and on nothing else; what a
  * work list or a buffer holds on entry makes no difference. What a work list holds after a total,
@@ -298,16 +305,16 @@
  * so many bytes of it at most, whatever it is given, from its return address on:
  *
  *      First 41,944   Next 42,120   Page 42,136   Count 59,032   Place 59,032   Measure 584
- *      Draw 136   TableFirst 25,496   TableNext 25,672   TableMeasure 568
+ *      Draw 136   Svg 6,000   TableFirst 25,496   TableNext 25,672   TableMeasure 568
  *      SlotsFirst 11,688   SlotsNext 11,832   SlotsMeasure 616
  *
  * tests/stack.c measures it at 64 records, and fails if a call takes 48 bytes more.
  *
- * First and Next take time that grows with n cubed, Measure with n squared, and each table call as
- * its namesake. What grows with n cubed is the finding of least totals, for every run of ports.
- * Page does as Next does, and finds them once for the whole page. Count and Place take time that
- * grows as First's, whatever the place. SlotsFirst and SlotsNext take time that grows with n times
- * p cubed, SlotsMeasure as Measure and with p.
+ * First and Next take time that grows with n cubed, Measure and Svg with n squared, and each table
+ * call as its namesake. What grows with n cubed is the finding of least totals, for every run of
+ * ports. Page does as Next does, and finds them once for the whole page. Count and Place take time
+ * that grows as First's, whatever the place. SlotsFirst and SlotsNext take time that grows with n
+ * times p cubed, SlotsMeasure as Measure and with p.
  *
  * COMPILERS AND PLATFORMS
  *
@@ -348,14 +355,14 @@
 /* ---- version ----------------------------------------------------------------------------- */
 
 #define CHEREMYSL_VERSION_MAJOR 2
-#define CHEREMYSL_VERSION_MINOR 2
+#define CHEREMYSL_VERSION_MINOR 3
 #define CHEREMYSL_VERSION_PATCH 0
 
-/* A number to compare, in #if too: 2002000 for 2.2.0. */
+/* A number to compare, in #if too: 2003000 for 2.3.0. */
 #define CHEREMYSL_VERSION_NUMBER \
     (1000000 * CHEREMYSL_VERSION_MAJOR + 1000 * CHEREMYSL_VERSION_MINOR + CHEREMYSL_VERSION_PATCH)
 
-/* A string: "2.2.0". */
+/* A string: "2.3.0". */
 #define CHEREMYSL_VERSION_TEXT \
     CHEREMYSL_JOIN(CHEREMYSL_VERSION_MAJOR, CHEREMYSL_VERSION_MINOR, CHEREMYSL_VERSION_PATCH)
 #define CHEREMYSL_JOIN(major, minor, patch) CHEREMYSL_JOIN_WORDS(major, minor, patch)
@@ -432,6 +439,7 @@ extern "C" {
 #define CHEREMYSL_MAX_TABLE_TOTAL 274877906880  /* no total by a table is larger */
 #define CHEREMYSL_MAX_COUNT 1000000000000000000 /* of more best layouts none has a place */
 #define CHEREMYSL_DRAW_FLOATS 6                 /* floats that Draw must be lent */
+#define CHEREMYSL_MAX_SVG_BYTES 4864            /* bytes of Svg's text, for the largest job */
 #define CHEREMYSL_STACK_BYTES 65536             /* no call needs more stack */
 
 /*
@@ -445,6 +453,12 @@ extern "C" {
  * 2(n + 2)(n + 2). n is taken twice.
  */
 #define CHEREMYSL_BUFFER(n) (UINT64_C(2) * ((n) + 2) * ((n) + 2))
+
+/*
+ * Bytes that will do for Svg's text of n records, as a constant where n is: 76 for each line, which
+ * none exceeds.
+ */
+#define CHEREMYSL_SVG_BYTES(n) (UINT64_C(76) * (n))
 
 /* ---- numbers in answers ------------------------------------------------------------------ */
 
@@ -469,6 +483,7 @@ enum cheremysl_refusal {
     CHEREMYSL_TOO_MANY = 16,       /* more than 1,000,000,000,000,000,000 best layouts */
     CHEREMYSL_PAST_COUNT = 17,     /* Place's place is the number of best layouts or more */
     CHEREMYSL_NO_BUFFER_ROOM = 18, /* a buffer of fewer than 2(n + 2)(n + 2) numbers */
+    CHEREMYSL_TEXT_TOO_LONG = 19,  /* Svg's text is longer than the bytes lent for it */
     CHEREMYSL_NO_WORK_ROOM = 24    /* a work list of fewer than 2(n + 1)(p + 2)(p + 2) numbers */
 };
 
@@ -629,6 +644,44 @@ int64_t cheremysl_draw(const uint8_t *job, size_t job_bytes, uint32_t record, ui
     CHEREMYSL_CALL CHEREMYSL_READS(1, 2) CHEREMYSL_WRITES(5, 6);
 
 /*
+ * Svg: the leaders of a layout without a touching pair, best or not, as text for a web page: a
+ * fragment of SVG, to stand inside an svg element.
+ *
+ *      job, job_bytes    the job; only read
+ *      layout, entries   a list of at least n entries, whose first n are the layout; only read
+ *      text, text_bytes  lent bytes, to be filled; what they hold on entry makes no difference
+ *
+ * The text has a line for each record, in the order of the records, each with a newline at its end:
+ * the leader's points, x before y, those of Draw in Draw's order. With the layout {1, 2, 0} of the
+ * board above:
+ *
+ *      <polyline points="2.5,-2.5 0,-2.5"/>
+ *      <polyline points="5,-5 0,-5"/>
+ *      <polyline points="7.5,-7.5 7.5,0 0,0"/>
+ *
+ * Each number is Draw's, exactly: digits, without a leading zero but the one of 0 and 0.25, and
+ * after a point 25, 5 or 75 if it is not whole; a minus before it if it is negative. So what reads
+ * the text, strtof or a browser, has the floats of Draw to the bit, a zero positive.
+ *
+ * Answers the number of bytes written; those after them are unchanged, and no zero byte ends the
+ * text. No text of n records has more than CHEREMYSL_SVG_BYTES(n), 76 * n bytes, which some have.
+ * Or refuses with 1, 3 to 5, 12, 6 to 9 or 19, checked in this order, and writes nothing: 19
+ * exactly if the text does not fit text_bytes. NULL with 0 is allowed. Refusal 9 names the first
+ * pair of records that touch. The text must overlap neither the job nor the layout.
+ *
+ *      char text[CHEREMYSL_MAX_SVG_BYTES];
+ *      int64_t bytes = cheremysl_svg(job, job_bytes, layout, n, text, sizeof text);
+ *      if (bytes >= 0) {
+ *          puts("<svg viewBox=\"0 -10 10 12\" fill=\"none\" stroke=\"black\">");
+ *          fwrite(text, 1, (size_t)bytes, stdout);
+ *          puts("</svg>");
+ *      }
+ */
+int64_t cheremysl_svg(const uint8_t *job, size_t job_bytes, const uint16_t *layout, size_t entries,
+                      char *text, size_t text_bytes)
+    CHEREMYSL_CALL CHEREMYSL_READS(1, 2) CHEREMYSL_READS(3, 4) CHEREMYSL_WRITES(5, 6);
+
+/*
  * TableFirst: the earliest best layout by a table. As First, with a table in place of the weights.
  *
  *      job, job_bytes   the job; only read
@@ -747,7 +800,7 @@ static inline int cheremysl_is_refusal(int64_t answer) { return answer < CHEREMY
 /* 1 if the answer is the end, else 0. */
 static inline int cheremysl_is_end(int64_t answer) { return answer == CHEREMYSL_END; }
 
-/* The refusal's number, 1 to 18 or 24; 0 if the answer is not a refusal. */
+/* The refusal's number, 1 to 19 or 24; 0 if the answer is not a refusal. */
 static inline int cheremysl_refusal_number(int64_t answer) {
     return cheremysl_is_refusal(answer) ? CHEREMYSL_CAST(int, answer / -65536 % 65536) : 0;
 }
@@ -811,6 +864,8 @@ static inline const char *cheremysl_refusal_text(int64_t answer) {
         return "There is no best sheet at this place: they are fewer.";
     case CHEREMYSL_NO_BUFFER_ROOM:
         return "The buffer is too short for so many pads.";
+    case CHEREMYSL_TEXT_TOO_LONG:
+        return "The text of this sheet is longer than the room lent for it.";
     case CHEREMYSL_NO_WORK_ROOM:
         return "The work list is too short for so many pads and ports.";
     }

@@ -7,8 +7,8 @@
 #include <stdio.h>
 #include <string.h>
 
-#if CHEREMYSL_VERSION_NUMBER < 2002000 || CHEREMYSL_VERSION_NUMBER >= 3000000
-#error "the version is not 2.2 or a later 2"
+#if CHEREMYSL_VERSION_NUMBER < 2003000 || CHEREMYSL_VERSION_NUMBER >= 3000000
+#error "the version is not 2.3 or a later 2"
 #endif
 
 /* These are refused by the compiler if a prototype is another. */
@@ -17,6 +17,7 @@ typedef int64_t read_only(const uint8_t *, size_t, uint32_t, uint32_t, const uin
 typedef int64_t fill_page(const uint8_t *, size_t, uint32_t, uint32_t, const uint16_t *, size_t,
                           uint16_t *, size_t);
 typedef int64_t draw(const uint8_t *, size_t, uint32_t, uint32_t, float *, size_t);
+typedef int64_t write_text(const uint8_t *, size_t, const uint16_t *, size_t, char *, size_t);
 typedef int64_t fill_by_table(const uint8_t *, size_t, const uint32_t *, size_t, uint16_t *,
                               size_t);
 typedef int64_t read_by_table(const uint8_t *, size_t, const uint32_t *, size_t, const uint16_t *,
@@ -32,6 +33,7 @@ typedef int64_t fill_at_place(const uint8_t *, size_t, uint32_t, uint32_t, uint6
 
 static read_only *const measure_call = cheremysl_measure;
 static draw *const draw_call = cheremysl_draw;
+static write_text *const svg_call = cheremysl_svg;
 static read_by_table *const table_measure_call = cheremysl_table_measure;
 static read_on_slots *const slots_measure_call = cheremysl_slots_measure;
 #ifndef NO_SEARCH
@@ -71,6 +73,7 @@ static void answers(void) {
     is_no_refusal(CHEREMYSL_MAX_TOTAL, 0);
     is_no_refusal(CHEREMYSL_MAX_TABLE_TOTAL, 0);
     is_no_refusal(CHEREMYSL_MAX_COUNT, 0);
+    is_no_refusal(CHEREMYSL_MAX_SVG_BYTES, 0);
     is_no_refusal(CHEREMYSL_END, 1);
     for (int number = CHEREMYSL_BAD_SIZE; number <= CHEREMYSL_NO_WORK_ROOM; number++)
         for (int record = 0; record < CHEREMYSL_MAX_SLOTS; record++)
@@ -90,7 +93,7 @@ static void pairs(void) {
 static const char *text(int number) { return cheremysl_refusal_text(-65536 * (int64_t)number); }
 
 static int is_known(int number) {
-    return number <= CHEREMYSL_NO_BUFFER_ROOM || number == CHEREMYSL_NO_WORK_ROOM;
+    return number <= CHEREMYSL_TEXT_TOO_LONG || number == CHEREMYSL_NO_WORK_ROOM;
 }
 
 /* A sentence, and not one that a smaller number has, if that or this is known. */
@@ -104,7 +107,7 @@ static void is_sentence(int number) {
 
 /* All that are unknown share one. */
 static void texts(void) {
-    int unknown = CHEREMYSL_NO_BUFFER_ROOM + 1;
+    int unknown = CHEREMYSL_TEXT_TOO_LONG + 1;
     for (int number = CHEREMYSL_BAD_SIZE; number <= CHEREMYSL_NO_WORK_ROOM + 1; number++)
         is_sentence(number);
     check(strcmp(text(23), text(unknown)) == 0 && strcmp(text(65535), text(unknown)) == 0);
@@ -115,6 +118,7 @@ static void texts(void) {
 static void calls(void) {
     is_refusal(measure_call(NULL, 0, 0, 0, NULL, 0), CHEREMYSL_BAD_SIZE, 0, 0);
     is_refusal(draw_call(NULL, 0, 0, 0, NULL, 0), CHEREMYSL_BAD_SIZE, 0, 0);
+    is_refusal(svg_call(NULL, 0, NULL, 0, NULL, 0), CHEREMYSL_BAD_SIZE, 0, 0);
     is_refusal(table_measure_call(NULL, 0, NULL, 0, NULL, 0), CHEREMYSL_BAD_SIZE, 0, 0);
     is_refusal(slots_measure_call(NULL, 0, NULL, 0, 0, 0, NULL, 0), CHEREMYSL_BAD_SIZE, 0, 0);
 #ifndef NO_SEARCH
@@ -150,6 +154,9 @@ static void limits(void) {
     check(CHEREMYSL_MAX_BUFFER == CHEREMYSL_BUFFER(CHEREMYSL_MAX_RECORDS));
     check(CHEREMYSL_BUFFER(3) == 50 && CHEREMYSL_BUFFER(1 + 2) == 50);
     check(CHEREMYSL_MAX_COUNT / 1000000000 == 1000000000 && CHEREMYSL_MAX_COUNT % 1000000000 == 0);
+    check(CHEREMYSL_TEXT_TOO_LONG == 19);
+    check(CHEREMYSL_MAX_SVG_BYTES == CHEREMYSL_SVG_BYTES(CHEREMYSL_MAX_RECORDS));
+    check(CHEREMYSL_SVG_BYTES(3) == 228 && CHEREMYSL_SVG_BYTES(1 + 2) == 228);
 }
 
 static void version(void) {
@@ -243,6 +250,32 @@ static void no_buffer(void) {
     is_refusal(place_call(NULL, 0, 1, 0, 0, layout, 1, buffer, BUFFER), CHEREMYSL_BAD_SIZE, 0, 0);
 }
 #endif
+
+static const char one_line[] = "<polyline points=\"1.25,0 0,0\"/>\n";
+enum { LINE = sizeof one_line - 1, TEXT = LINE + 8 };
+
+/* No layout, then no room for a text, with a pointer and without. */
+static void no_text(void) {
+    uint16_t layout[1] = {0};
+    char text[1] = {'x'};
+    is_refusal(svg_call(one_pad, PAD, NULL, 0, text, 1), CHEREMYSL_NO_ROOM, 0, 0);
+    is_refusal(svg_call(one_pad, PAD, layout, 1, NULL, 0), CHEREMYSL_TEXT_TOO_LONG, 0, 0);
+    is_refusal(svg_call(one_pad, PAD, layout, 1, text, 0), CHEREMYSL_TEXT_TOO_LONG, 0, 0);
+    is_refusal(svg_call(NULL, 0, layout, 1, text, 1), CHEREMYSL_BAD_SIZE, 0, 0);
+    check(text[0] == 'x');
+}
+
+/* So many bytes lent: a line, or nothing; what stood after it stays. */
+static void svg_keeps(size_t bytes, int64_t wanted) {
+    char text[TEXT];
+    uint16_t layout[LENT];
+    size_t written = wanted > 0 ? LINE : 0;
+    layout[0] = 0;
+    memset(text, 'x', sizeof text);
+    check(cheremysl_svg(one_pad, PAD, layout, LENT, text, bytes) == wanted);
+    check(memcmp(text, one_line, written) == 0);
+    for (size_t i = written; i < TEXT; i++) check(text[i] == 'x');
+}
 
 /* A layout that was filled in part: entries from n on are not looked at. */
 static void measures(void) {
@@ -384,6 +417,10 @@ static void lists(void) {
     int64_t bad_size = -65536 * CHEREMYSL_BAD_SIZE;
     draw_keeps(sizeof one_pad, 2, 4);
     draw_keeps(0, bad_size, 0);
+    svg_keeps(TEXT, LINE);
+    svg_keeps(LINE, LINE);
+    svg_keeps(LINE - 1, -65536 * CHEREMYSL_TEXT_TOO_LONG);
+    svg_keeps(0, -65536 * CHEREMYSL_TEXT_TOO_LONG);
 #ifndef NO_SEARCH
     int64_t bad_entry = -65536 * CHEREMYSL_BAD_ENTRY;
     first_keeps(sizeof one_pad, 5, 1);
@@ -418,6 +455,7 @@ int main(void) {
     no_table();
     no_room();
     no_list();
+    no_text();
 #ifndef NO_SEARCH
     no_buffer();
 #endif

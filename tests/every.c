@@ -62,6 +62,7 @@ static bool run_alike(struct question q, const struct sheets *all) {
 static void from_this(struct question *q) {
     for (q->call = 0; q->call < CALLS; q->call++) {
         if (!takes_layout(q->call) || takes_slots(q->call)) continue;
+        if (q->call == SVG) lend_text(q, any_text_room(q));
         expect(q, plain_reply(q));
         if (q->call == MEASURE || q->call == NEXT) alike(q);
     }

@@ -220,6 +220,7 @@ static void probe(void) {
 static const function entrances[CALLS] = {
     [MEASURE] = (function)cheremysl_measure,
     [DRAW] = (function)cheremysl_draw,
+    [SVG] = (function)cheremysl_svg,
     [TABLE_MEASURE] = (function)cheremysl_table_measure,
     [SLOTS_MEASURE] = (function)cheremysl_slots_measure,
 #ifndef NO_SEARCH

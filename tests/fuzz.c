@@ -143,6 +143,14 @@ static void take_page(struct bytes *b, struct question *q) {
     lend_page(q, kind < 248 ? n * (kind % 8) + rest : take(b, PAGE_ROOM + 1));
 }
 
+/* Room for just the text, or for some bytes more or less; now and then any room. */
+static void take_text(struct bytes *b, struct question *q) {
+    size_t length = text_length(q), most = TEXT_ROOM - 2, kind = take(b, 16);
+    if (length > most) length = most; /* only of fields that are refused */
+    lend_text(q, kind < 12 ? length + kind / 4 : take(b, TEXT_ROOM + 1));
+    if (kind == 3) q->text_bytes -= length > 0;
+}
+
 /* Another figure, or another length: any, one that is close, or the right one in its last bits. */
 static void damage_table(struct bytes *b, struct question *q) {
     size_t right = q->figures;
@@ -154,10 +162,12 @@ static void damage_table(struct bytes *b, struct question *q) {
     }
 }
 
-/* The numbers, or the table that a call has in their place. */
+/* The numbers, or the table or the text that a call has in their place. */
 static void damage_numbers(struct bytes *b, struct question *q, uint32_t *number) {
     if (takes_table(q->call))
         damage_table(b, q);
+    else if (q->call == SVG)
+        take_text(b, q);
     else
         *number = take_bits(b);
 }
@@ -236,6 +246,7 @@ static void question_of(const uint8_t *data, size_t size, struct question *q) {
     if (takes_table(q->call)) take_table(&b, q);
     if (takes_layout(q->call)) take_layout(&b, q);
     if (q->call == PAGE) take_page(&b, q);
+    if (q->call == SVG) take_text(&b, q);
     if (q->call == PLACE) q->place = take_place(&b);
     if (takes_buffer(q->call) && take(&b, 32) == 31) take_plenty(q);
     uint32_t times = take(&b, 8);

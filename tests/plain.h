@@ -23,7 +23,7 @@
 extern const int first_checks[], next_checks[], measure_checks[], draw_checks[];
 extern const int table_first_checks[], table_next_checks[], table_measure_checks[];
 extern const int slots_first_checks[], slots_next_checks[], slots_measure_checks[];
-extern const int count_checks[], place_checks[];
+extern const int count_checks[], place_checks[], svg_checks[];
 
 /*
  * What a call is given. First's and Draw's lists, the work list and the buffer have a size only;
@@ -46,6 +46,7 @@ struct given {
     size_t floats;
     bool draw; /* refusal 3 is about the floats */
     uint64_t place;
+    size_t text_bytes;
 };
 
 /* The calls, over weights or a table. What they write may be the list that they are given. */
@@ -56,6 +57,14 @@ int64_t plain_count(const struct given *g);
 int64_t plain_place(const struct given *g, uint16_t *layout);
 int64_t plain_measure(const struct given *g);
 int64_t plain_draw(const struct given *g, float *points);
+int64_t plain_svg(const struct given *g, char *text);
+
+/*
+ * The lines of those records that have a leader, whatever else is wrong with the job; how many
+ * bytes. As many as a job of the tests can have, of fields of any size, fit PLAIN_TEXT.
+ */
+#define PLAIN_TEXT 16384
+size_t plain_text(const struct given *g, char *text);
 
 /* The first record at fault for one refusal number, whatever the others say; -1 if none is. */
 int plain_fault(const struct given *g, int number);

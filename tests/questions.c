@@ -44,6 +44,11 @@ size_t any_room(size_t n) {
     return n * below(below(4) ? 4 : 21) + (below(2) ? below((uint32_t)n) : 0);
 }
 
+size_t any_text_room(const struct question *q) {
+    size_t enough = text_length(q), rest = TEXT_ROOM - enough;
+    return enough + (below(2) ? 0 : below(2) ? below(4) : below((uint32_t)rest + 1));
+}
+
 /* Makes a job, and lends work: n pads, perhaps with squares, and, if they stand apart, p ports. */
 static void any_pads(struct question *q, size_t n, size_t p) {
     enum board kind = below(4) ? below(BOARDS) : GAP;
@@ -127,6 +132,7 @@ void sound_question(struct question *q, enum call call) {
     else if (takes_layout(call))
         any_layout(q, q->list.layout);
     if (call == PAGE) lend_page(q, any_room(n));
+    if (call == SVG) lend_text(q, any_text_room(q));
     if (takes_buffer(call) && below(64) == 0) plentiful_job(q);
     if (call == PLACE) q->place = likely_place(q);
 }
@@ -247,8 +253,22 @@ static void damage_work(struct question *q) {
     q->numbers = below(5) ? others[below(4)] : enough + below(9);
 }
 
-/* The numbers, or the table that a call has in their place; or what it works in; or the place. */
+/* One byte too few for its text, just enough, or any number. */
+static void damage_text(struct question *q) {
+    size_t length = text_length(q), enough = length < TEXT_ROOM ? length : TEXT_ROOM;
+    size_t others[] = {enough - (enough > 0), enough, 0, below((uint32_t)enough + 1)};
+    q->text_bytes = below(5) ? others[below(4)] : below(TEXT_ROOM + 1);
+}
+
+/*
+ * The numbers, or the table or the text that a call has in their place; or what it works in; or the
+ * place.
+ */
 static void damage_numbers(struct question *q) {
+    if (q->call == SVG) {
+        damage_text(q);
+        return;
+    }
     if (takes_table(q->call)) {
         damage_table(q);
         return;

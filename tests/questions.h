@@ -23,6 +23,9 @@ void damage(struct question *q);
 /* How many entries a page has: room for none, or for some, exactly or with a remainder; n pads. */
 size_t any_room(size_t n);
 
+/* How many bytes are lent for a text: just enough for that of the question, or some more. */
+size_t any_text_room(const struct question *q);
+
 /* Gives the question, of Count or Place, a job with too many sheets. */
 void plentiful_job(struct question *q);
 

@@ -6,7 +6,8 @@
  * too large, at every record, and squares that leave no layout, for 1 to 64 pads. Tables of other
  * lengths than the right one, for 1 to 64 pads, and of lengths that no memory has. Work lists of
  * just enough numbers and of one too few, for up to 64 pads and 128 ports; buffers so for 1 to 64
- * pads. Every other refusal on a board with too many sheets: 16 comes after all but 17.
+ * pads. Every other refusal on a board with too many sheets: 16 comes after all but 17. Texts of one
+ * byte more than there is room for, for 1 to 64 pads.
  */
 #include <stdio.h>
 #include <string.h>
@@ -40,6 +41,7 @@ static struct question good(enum call call) {
     if (takes_work(call) || takes_buffer(call)) lend_work(&q, 0);
     memset(&q.list, 0xC3, sizeof q.list);
     lend_page(&q, 2 * N + 1);
+    lend_text(&q, TEXT_ROOM);
     if (call == DRAW) {
         q.a = 4;
         q.b = 5;
@@ -128,6 +130,14 @@ static void late_place(struct question *q, int way) {
     q->place = places[way];
 }
 
+/* A text of one byte more than there is room for, or far more: of the lines that there can be. */
+static void short_text(struct question *q, int way) {
+    size_t length = text_length(q), less = length - (length > 0);
+    size_t others[LENGTHS] = {less, 0, less / 2, less / 3, less - less / 4, less - (less > 0),
+                              less < 36 ? less : 36, less < 76 ? less : 76};
+    q->text_bytes = others[way];
+}
+
 /* Those of the whole input name record 0. */
 static bool is_whole(int number) {
     return number <= 3 || number == 10 || number == 11 || number == 13 || number >= 14;
@@ -171,6 +181,7 @@ static bool spoil(struct question *q, int number, size_t i, int way) {
     case 15: return bad_squares(q, way);
     case 17: late_place(q, way % LENGTHS); return way < LENGTHS;
     case 18: short_buffer(q, way % LENGTHS); return way < LENGTHS;
+    case 19: short_text(q, way % LENGTHS); return way < LENGTHS;
     case 24: short_work(q, way % LENGTHS); return way < LENGTHS;
     default: return false;
     }
@@ -486,6 +497,21 @@ static void buffers(enum call call) {
     endless_work(call);
 }
 
+/* ---- texts that do not fit ---- */
+
+/* Just enough bytes pass, one less does not; without any, 9 comes first. */
+static void text_lengths(size_t n) {
+    struct question q = straight(SVG, n, n);
+    lend_text(&q, text_length(&q));
+    check(ask(&q, AT_END).answer == (int64_t)q.text_bytes, &q, "just enough bytes");
+    q.text_bytes--;
+    is_refused(q, 19, 0);
+    q.text_bytes = 0;
+    is_refused(q, 19, 0);
+    put_half(q.job, 0, 10);
+    if (n > 1) is_refused(q, 9, 1);
+}
+
 /* ---- too many sheets ---- */
 
 static struct question plentiful(enum call call) {
@@ -547,6 +573,7 @@ int main(void) {
         if (takes_work(call)) works(call);
         if (takes_buffer(call)) buffers(call);
         if (takes_buffer(call)) too_many(call);
+        for (size_t n = 1; n <= 64 && call == SVG; n++) text_lengths(n);
         if (!takes_table(call)) continue;
         for (size_t n = 1; n <= 64; n++) table_lengths(call, n);
         endless_tables(call);

@@ -27,6 +27,7 @@ static struct question about(enum call call, size_t n, const struct record *reco
     for (size_t k = 0; k < LIST_ROOM; k++) q.list.layout[k] = (uint16_t)(KEPT + k);
     q.count = n + 2;
     lend_page(&q, 2 * n + 1);
+    lend_text(&q, TEXT_ROOM);
     if (takes_table(call)) lend_weights(&q, table, 1, 0);
     return q;
 }
@@ -511,6 +512,74 @@ static void bends_can_cost(void) {
     }
 }
 
+/* ---- Svg ---- */
+
+/* A text's line: the points of one leader. */
+#define LINE(points) "<polyline points=\"" points "\"/>\n"
+
+/* Points a quarter from the edge and from each other; pads at the corners of the board. */
+static const struct record quarters[] = {{1, 1, -1}, {2, -2, 10}, {3, 3, 21}};
+static const struct record corners[] = {{999999, 999999, -999999}, {1000000, -1000000, 1000000}};
+static const struct record below_zero[] = {{4, -4, -4}, {40, -40, 40}};
+
+/* A job, a layout, and its text: best or not. */
+static const struct {
+    const char *mark;
+    const struct record *job;
+    size_t n;
+    int given[3];
+    const char *text;
+} texts[] = {
+    {"J5", J5, 3, {1, 2, 0}, LINE("2.5,-2.5 0,-2.5") LINE("5,-5 0,-5") LINE("7.5,-7.5 7.5,0 0,0")},
+    {"J1", J1, 1, {0}, LINE("1.25,-0.75 0,-0.75")},
+    {"J2", J2, 2, {0, 1}, LINE("2.5,0 2.5,-2.5 0,-2.5") LINE("5,-7.5 5,-5 0,-5")},
+    {"J3, P5", J3, 2, {1, 0}, LINE("2.5,-3.75 2.5,-5 0,-5") LINE("5,-3.75 5,-2.5 0,-2.5")},
+    {"J3, P6", J3, 2, {0, 1}, LINE("2.5,-3.75 2.5,-2.5 0,-2.5") LINE("5,-3.75 5,-5 0,-5")},
+    {"J4, not best", J4, 2, {1, 0}, LINE("2.5,-3.75 2.5,-5 0,-5") LINE("5,-15 5,-2.5 0,-2.5")},
+    {"quarters", quarters, 3, {1, 0, 2},
+     LINE("0.25,-0.25 0.25,-2.5 0,-2.5") LINE("0.5,0.5 0.5,0.25 0,0.25")
+     LINE("0.75,-0.75 0.75,-5.25 0,-5.25")},
+    {"corners", corners, 2, {1, 0},
+     LINE("249999.75,-249999.75 249999.75,-250000 0,-250000")
+     LINE("250000,250000 250000,249999.75 0,249999.75")},
+    {"below zero", below_zero, 2, {0, 1}, LINE("1,1 0,1") LINE("10,10 10,-10 0,-10")},
+};
+
+/* In just as many bytes as it has, and in more; in one less it is refused. */
+static void worked_text(struct question q, const char *mark, const char *text) {
+    size_t bytes = strlen(text);
+    struct reply r = keeps(&q, (int64_t)bytes);
+    memcpy(r.text, text, bytes);
+    if (!expect(&q, r)) printf("  this was %s\n", mark);
+    struct reply plain = plain_reply(&q);
+    check(plain.answer == r.answer && memcmp(plain.text, r.text, sizeof r.text) == 0, &q,
+          "the plain account differs");
+    q.text_bytes = bytes;
+    expect(&q, r);
+    q.text_bytes--;
+    expect(&q, keeps(&q, REFUSED(19, 0)));
+}
+
+static void worked_texts(void) {
+    for (size_t k = 0; k < sizeof texts / sizeof *texts; k++) {
+        struct question q = about(SVG, texts[k].n, texts[k].job);
+        put_layout(q.list.layout, texts[k].given, texts[k].n);
+        worked_text(q, texts[k].mark, texts[k].text);
+    }
+}
+
+/* Half-sides count where records touch, and nowhere else; 9 comes before 19. */
+static void squares_and_text(void) {
+    struct question q = about(SVG, 2, near_upper);
+    put_layout(q.list.layout, (const int[]){0, 1}, 2);
+    put_half(q.job, 0, 3);
+    worked_text(q, "near", LINE("2.5,-4 2.5,-2.5 0,-2.5") LINE("5,-15 5,-5 0,-5"));
+    put_half(q.job, 0, 4);
+    expect(&q, keeps(&q, TOUCHING(1, 0)));
+    q.text_bytes = 0;
+    expect(&q, keeps(&q, TOUCHING(1, 0)));
+}
+
 /* ---- Draw ---- */
 
 static void put_bits(union list *list, size_t k, uint32_t bits) {
@@ -617,6 +686,7 @@ static void is_straight(const struct question *q) {
     bool fills_list = gives_first(q->call) || q->call == PLACE;
     struct reply r = keeps(q, takes_best(q->call) ? none_follows : 5 * n * (n + 1));
     if (q->call == COUNT) r.answer = 1;
+    if (q->call == SVG) r = plain_reply(q);
     for (int64_t i = 0; i < n && fills_list; i++) r.list.layout[i] = (uint16_t)i;
     if (q->call == DRAW)
         drawn(q, 2, (const uint32_t[]){0x40200000, 0, 0, 0});
@@ -765,7 +835,7 @@ static void buffers(enum call call) {
 
 static void weights(enum call call) {
     struct question q = good(call, 3);
-    if (call == DRAW || takes_table(call)) return;
+    if (!takes_weights(call)) return;
     q.a = q.b = 1000;
     passes(&q);
     q.a = 1001;
@@ -818,6 +888,15 @@ static void room(enum call call) {
     q.count = enough + 20;
     passes(&q);
     for (q.count = 0; q.count < enough; q.count++) is_refused(&q, 3, 0);
+}
+
+/* Bytes for a text: just enough, and each number below. */
+static void text_room(enum call call) {
+    struct question q = good(call, 3);
+    if (call != SVG) return;
+    q.text_bytes = text_length(&q);
+    passes(&q);
+    while (q.text_bytes-- > 0) is_refused(&q, 19, 0);
 }
 
 typedef void put_field(uint8_t *job, size_t i, int64_t value);
@@ -1054,6 +1133,8 @@ int main(void) {
     worked_places();
     worked_short_list();
     bends_can_cost();
+    worked_texts();
+    squares_and_text();
     drawn_sheets();
     drawn_squares();
     drawn_range();
@@ -1067,6 +1148,7 @@ int main(void) {
         weights(call);
         tables(call);
         room(call);
+        text_room(call);
         fields(call);
         half_sides(call);
         last_fields(call);

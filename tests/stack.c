@@ -42,6 +42,7 @@ static const struct {
 } calls[CALLS] = {
     [MEASURE] = {(function)cheremysl_measure, 584},
     [DRAW] = {(function)cheremysl_draw, 136},
+    [SVG] = {(function)cheremysl_svg, 6000},
     [TABLE_MEASURE] = {(function)cheremysl_table_measure, 568},
     [SLOTS_MEASURE] = {(function)cheremysl_slots_measure, 616},
 #ifndef NO_SEARCH
@@ -175,6 +176,7 @@ static void make_question(enum call call, enum board board, enum squares squares
     struct plan plan = plan_of(&question);
     any_untouching(&plan, question.list.layout);
     lend_page(&question, PAGE_ROOM);
+    lend_text(&question, CHEREMYSL_MAX_SVG_BYTES);
     if (call != DRAW) return;
     question.a = PADS - 1;
     question.b = 0;

@@ -14,6 +14,7 @@
 
 #include "boards.h"
 #include "cheremysl.h"
+#include "questions.h"
 #include "trial.h"
 
 #define PADS CHEREMYSL_MAX_RECORDS
@@ -127,6 +128,7 @@ static bool names(struct question *q, struct pair pair) {
     for (; q->call < CALLS; q->call++) {
         if (!takes_layout(q->call) || takes_slots(q->call)) continue;
         lend_page(q, 2 * records_of(q) + 1);
+        if (q->call == SVG) lend_text(q, below(2) ? TEXT_ROOM : 0);
         ok &= expect(q, keeps(q, answer));
         q->page_entries = 0;
         ok &= q->call != PAGE || expect(q, keeps(q, answer));
@@ -305,13 +307,19 @@ static bool has_total(struct question *q, enum call call) {
     return expect(q, keeps(q, plain_total(&g, q->list.layout)));
 }
 
-/* By points: the pair is named, or Measure has the total, of weights and of figures. */
+static bool has_text(struct question *q) {
+    q->call = SVG;
+    lend_text(q, any_text_room(q));
+    return expect(q, plain_reply(q));
+}
+
+/* By points: the pair is named, or Measure has the total, of weights and of figures, Svg a text. */
 static bool judged(struct question *q) {
     static uint32_t table[TABLE_ROOM];
     struct pair pair = first_pair(q);
     if (pair.record > 0) return names(q, pair);
     lend_table(q, table, ANY_FIGURES);
-    return has_total(q, MEASURE) && has_total(q, TABLE_MEASURE);
+    return has_text(q) && has_total(q, MEASURE) && has_total(q, TABLE_MEASURE);
 }
 
 static size_t orders_of(size_t n) { return n < 2 ? 1 : n * orders_of(n - 1); }

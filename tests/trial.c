@@ -21,14 +21,14 @@ const int *const refusals_of[] = {
     [PAGE] = next_checks,       [SLOTS_MEASURE] = slots_measure_checks,
     [DRAW] = draw_checks,       [SLOTS_FIRST] = slots_first_checks,
     [SLOTS_NEXT] = slots_next_checks, [COUNT] = count_checks,
-    [PLACE] = place_checks,
+    [PLACE] = place_checks,     [SVG] = svg_checks,
 };
 const char *const call_names[] = {
     [MEASURE] = "Measure", [TABLE_MEASURE] = "TableMeasure", [SLOTS_MEASURE] = "SlotsMeasure",
     [FIRST] = "First",     [TABLE_FIRST] = "TableFirst",     [SLOTS_FIRST] = "SlotsFirst",
     [NEXT] = "Next",       [TABLE_NEXT] = "TableNext",       [SLOTS_NEXT] = "SlotsNext",
     [PAGE] = "Page",       [DRAW] = "Draw",                  [COUNT] = "Count",
-    [PLACE] = "Place",
+    [PLACE] = "Place",     [SVG] = "Svg",
 };
 
 /* ---- counting ---- */
@@ -50,7 +50,18 @@ static void show_floats(const float *list, size_t count) {
     printf("\n");
 }
 
-static void show_lists(const struct question *q, const union list *list, const uint16_t *page) {
+/* Bytes that are in no text as they are: a caller's own. */
+static void show_text(const char *text, size_t bytes) {
+    printf("  text of %zu:\n", bytes);
+    for (size_t k = 0; k < bytes; k++) {
+        bool usual = text[k] == '\n' || (text[k] >= ' ' && text[k] <= '~');
+        printf(usual ? "%c" : "\\%02x", (unsigned char)text[k]);
+    }
+    printf("\n");
+}
+
+static void show_lists(const struct question *q, const union list *list, const uint16_t *page,
+                       const char *text) {
     if (q->call == COUNT) {
         printf("no list\n");
         return;
@@ -60,6 +71,7 @@ static void show_lists(const struct question *q, const union list *list, const u
         show_floats(list->points, q->count);
     else
         show_entries(list->layout, q->count);
+    if (q->call == SVG) show_text(text, q->text_bytes);
     if (q->call != PAGE) return;
     printf("  page of %zu:", q->page_entries);
     show_entries(page, q->page_entries);
@@ -90,7 +102,7 @@ static void show(const struct question *q) {
     if (takes_work(q->call)) printf("work list of %zu, %s, ", q->numbers, content_name());
     if (takes_buffer(q->call)) printf("buffer of %zu, %s, ", q->numbers, content_name());
     if (q->call == PLACE) printf("place %" PRIu64 ", ", q->place);
-    show_lists(q, &q->list, q->page);
+    show_lists(q, &q->list, q->page, q->text);
 }
 
 bool check(bool ok, const struct question *q, const char *what) {
@@ -142,7 +154,7 @@ static bool measures(enum call call) { return kind_of(call) == 0; }
 bool gives_first(enum call call) { return kind_of(call) == 1; }
 bool can_end(enum call call) { return kind_of(call) == 2; }
 bool takes_best(enum call call) { return can_end(call) || call == PAGE; }
-bool takes_layout(enum call call) { return measures(call) || takes_best(call); }
+bool takes_layout(enum call call) { return measures(call) || takes_best(call) || call == SVG; }
 
 static bool in_family(int family, enum call call) {
     int kind = kind_of(call);
@@ -153,6 +165,7 @@ bool takes_table(enum call call) { return in_family(1, call); }
 bool takes_slots(enum call call) { return in_family(2, call); }
 bool takes_work(enum call call) { return takes_slots(call) && !measures(call); }
 bool takes_buffer(enum call call) { return call == COUNT || call == PLACE; }
+bool takes_weights(enum call call) { return call != DRAW && call != SVG && !takes_table(call); }
 
 static enum call turned(enum call call, int family) {
     int kind = kind_of(call);
@@ -211,6 +224,18 @@ void lend_page(struct question *q, size_t entries) {
     for (size_t k = 0; k < PAGE_ROOM; k++) q->page[k] = (uint16_t)(from + 40503 * k);
 }
 
+void lend_text(struct question *q, size_t bytes) {
+    size_t from = below(256);
+    q->text_bytes = bytes;
+    for (size_t k = 0; k < TEXT_ROOM; k++) q->text[k] = (char)(uint8_t)(from + 157 * k);
+}
+
+size_t text_length(const struct question *q) {
+    static char text[PLAIN_TEXT];
+    struct given g = given_of(q);
+    return plain_text(&g, text);
+}
+
 size_t records_of(const struct question *q) { return q->job_bytes / 16; }
 
 size_t ports_of(const struct question *q) {
@@ -241,11 +266,12 @@ struct given given_of(const struct question *q) {
                       .entries = q->count, .floats = q->count, .draw = draw,
                       .table = q->table, .figures = q->figures, .by_table = by_table,
                       .ports = q->ports, .port_bytes = q->port_bytes, .numbers = q->numbers,
-                      .slots = takes_slots(q->call), .place = q->place};
+                      .slots = takes_slots(q->call), .place = q->place,
+                      .text_bytes = q->text_bytes};
     if (draw) {
         g.record = q->a;
         g.port = q->b;
-    } else if (!by_table) {
+    } else if (takes_weights(q->call)) {
         g.length_weight = q->a;
         g.bend_weight = q->b;
     }
@@ -267,6 +293,7 @@ struct reply keeps(const struct question *q, int64_t answer) {
     r.answer = answer;
     r.list = q->list;
     memcpy(r.page, q->page, sizeof r.page);
+    memcpy(r.text, q->text, sizeof r.text);
     return r;
 }
 
@@ -321,6 +348,7 @@ struct reply plain_reply(const struct question *q) {
     if (q->call == PAGE) r.answer = plain_page(&g, r.page, q->page_entries);
     if (q->call == COUNT) r.answer = plain_count(&g);
     if (q->call == PLACE) r.answer = plain_place(&g, r.list.layout);
+    if (q->call == SVG) r.answer = plain_svg(&g, r.text);
     bool unknown = takes_buffer(q->call) && r.answer == PLAIN_UNKNOWN;
     return unknown ? ranked_reply(q, &g) : r;
 }
@@ -344,6 +372,10 @@ static size_t bytes_of(const struct question *q) {
 /* Other calls have no page. */
 static size_t page_bytes_of(const struct question *q) {
     return q->call == PAGE ? q->page_entries * sizeof *q->page : 0;
+}
+
+static size_t text_bytes_of(const struct question *q) {
+    return q->call == SVG ? q->text_bytes : 0;
 }
 
 /* More figures than there is room for are lent with no memory behind them. */
@@ -399,6 +431,7 @@ struct lent {
     void *list;
     uint16_t *page;
     uint64_t *work;
+    char *text;
 };
 
 static int64_t call_over(const struct question *q, struct lent at) {
@@ -406,6 +439,7 @@ static int64_t call_over(const struct question *q, struct lent at) {
     switch (q->call) {
     case MEASURE: return cheremysl_measure(at.job, bytes, q->a, q->b, at.list, count);
     case DRAW: return cheremysl_draw(at.job, bytes, q->a, q->b, at.list, count);
+    case SVG: return cheremysl_svg(at.job, bytes, at.list, count, at.text, q->text_bytes);
     case TABLE_MEASURE:
         return cheremysl_table_measure(at.job, bytes, at.table, figures, at.list, count);
     case SLOTS_MEASURE:
@@ -436,11 +470,11 @@ static int64_t call_over(const struct question *q, struct lent at) {
 }
 
 int64_t call_library(struct question *q) {
-    struct lent own = {q->job, q->ports, q->table, &q->list, q->page, held};
+    struct lent own = {q->job, q->ports, q->table, &q->list, q->page, held, q->text};
     return call_over(q, own);
 }
 
-/* Job, then ports or table if it takes them, weights, place, layout, page or work list. */
+/* Job, then ports or table if it takes them, weights, place, layout, page, work list or text. */
 void put_arguments(struct question *q, uint64_t *arguments) {
     bool tabled = takes_table(q->call), apart = takes_slots(q->call);
     bool works = apart || takes_buffer(q->call);
@@ -450,7 +484,7 @@ void put_arguments(struct question *q, uint64_t *arguments) {
         *arguments++ = tabled ? (uintptr_t)q->table : (uintptr_t)q->ports;
         *arguments++ = tabled ? q->figures : q->port_bytes;
     }
-    if (!tabled) {
+    if (takes_weights(q->call) || q->call == DRAW) {
         *arguments++ = q->a;
         *arguments++ = q->b;
     }
@@ -458,6 +492,11 @@ void put_arguments(struct question *q, uint64_t *arguments) {
     if (q->call != COUNT) {
         *arguments++ = (uintptr_t)&q->list;
         *arguments++ = q->count;
+    }
+    if (q->call == SVG) {
+        *arguments++ = (uintptr_t)q->text;
+        *arguments++ = q->text_bytes;
+        return;
     }
     *arguments++ = works ? (uintptr_t)held : (uintptr_t)q->page;
     *arguments++ = works ? q->numbers : q->page_entries;
@@ -474,7 +513,7 @@ static bool can_answer(enum call call, int64_t answer) {
     return *own != 0 && earlier < record && answer == refused_pair(record, earlier);
 }
 
-static struct guarded jobs, ports, tables, read_only, writable, pages;
+static struct guarded jobs, ports, tables, read_only, writable, pages, texts;
 static struct guarded works[WORK_SIZES], unwritable; /* for work lists */
 
 static void need_memory(void) {
@@ -485,11 +524,12 @@ static void need_memory(void) {
     read_only = guard_memory(false, sizeof(uint16_t), LIST_ROOM * sizeof(uint16_t));
     writable = guard_memory(true, sizeof(float), sizeof(union list));
     pages = guard_memory(true, sizeof(uint16_t), PAGE_ROOM * sizeof(uint16_t));
+    texts = guard_memory(true, 1, TEXT_ROOM);
     unwritable = guard_memory(false, sizeof(uint64_t), WORK_ROOM * sizeof(uint64_t));
 }
 
 static struct guarded *memory_of(enum call call) {
-    return measures(call) || call == PAGE ? &read_only : &writable;
+    return measures(call) || call == PAGE || call == SVG ? &read_only : &writable;
 }
 
 /* Memory of about the list's size: what stands around a list is looked at too. */
@@ -510,7 +550,7 @@ static uint64_t *lend_held(const struct question *q, enum side side, bool spared
 }
 
 static struct lent lend(const struct question *q, enum side side, bool spared) {
-    struct lent at = {NULL, NULL, NULL, NULL, NULL, NULL};
+    struct lent at = {NULL, NULL, NULL, NULL, NULL, NULL, NULL};
     need_memory();
     at.job = guard_put(&jobs, side, q->job, q->job_bytes);
     at.list = guard_put(memory_of(q->call), side, &q->list, bytes_of(q));
@@ -518,6 +558,7 @@ static struct lent lend(const struct question *q, enum side side, bool spared) {
     if (takes_slots(q->call)) at.ports = guard_put(&ports, side, q->ports, q->port_bytes);
     if (takes_numbers(q->call)) at.work = lend_held(q, side, spared);
     if (q->call == PAGE) at.page = guard_put(&pages, side, q->page, page_bytes_of(q));
+    if (q->call == SVG) at.text = guard_put(&texts, side, q->text, text_bytes_of(q));
     return at;
 }
 
@@ -559,7 +600,8 @@ static struct reply ask_sparing(const struct question *q, enum side side, bool s
     r.answer = call_over(q, at);
     asked = NULL;
     if (!guard_get(memory_of(q->call), side, &r.list, bytes_of(q)) ||
-        (q->call == PAGE && !guard_get(&pages, side, r.page, page_bytes_of(q))))
+        (q->call == PAGE && !guard_get(&pages, side, r.page, page_bytes_of(q))) ||
+        (q->call == SVG && !guard_get(&texts, side, r.text, text_bytes_of(q))))
         check(false, q, "written beside the list");
     check_kept(q, side);
     if (takes_numbers(q->call) && !spared && !kept_work(q, side, r.answer))
@@ -572,13 +614,14 @@ struct reply ask(const struct question *q, enum side side) { return ask_sparing(
 
 static bool same(const struct question *q, const struct reply *r, const struct reply *expected) {
     if (r->answer == expected->answer && memcmp(&r->list, &expected->list, bytes_of(q)) == 0 &&
-        memcmp(r->page, expected->page, page_bytes_of(q)) == 0)
+        memcmp(r->page, expected->page, page_bytes_of(q)) == 0 &&
+        memcmp(r->text, expected->text, text_bytes_of(q)) == 0)
         return true;
     if (failed < FAILURES_SHOWN) {
         printf("expected %" PRId64 ", ", expected->answer);
-        show_lists(q, &expected->list, expected->page);
+        show_lists(q, &expected->list, expected->page, expected->text);
         printf("answered %" PRId64 ", ", r->answer);
-        show_lists(q, &r->list, r->page);
+        show_lists(q, &r->list, r->page, r->text);
     }
     return false;
 }

@@ -13,15 +13,15 @@
 #include "guard.h"
 #include "plain.h"
 
-/* With NO_SEARCH the tests keep to the calls that search for nothing: the first four. */
+/* With NO_SEARCH the tests keep to the calls that search for nothing: the first five. */
 enum call {
-    MEASURE, DRAW, TABLE_MEASURE, SLOTS_MEASURE,
+    MEASURE, DRAW, SVG, TABLE_MEASURE, SLOTS_MEASURE,
     FIRST, NEXT, PAGE, TABLE_FIRST, TABLE_NEXT, SLOTS_FIRST, SLOTS_NEXT, COUNT, PLACE
 };
 #ifdef NO_SEARCH
-#define CALLS 4
+#define CALLS 5
 #else
-#define CALLS 13
+#define CALLS 14
 #endif
 
 #define JOB_ROOM 1056 /* two records more than the largest job */
@@ -29,6 +29,7 @@ enum call {
 #define LIST_ROOM 80
 #define TABLE_ROOM 4356 /* figures for as many records */
 #define PAGE_ROOM 1343 /* 20 layouts of the largest job, and an entry too few for one more */
+#define TEXT_ROOM 4880 /* 16 bytes more than the longest text */
 #define WORK_ROOM 2197008 /* eight numbers more than the largest job needs */
 
 union list {
@@ -42,7 +43,7 @@ struct question {
     size_t job_bytes;
     uint8_t ports[PORTS_ROOM]; /* .. and ports here */
     size_t port_bytes;
-    uint32_t a, b; /* length weight and bend weight; Draw: record number and port number */
+    uint32_t a, b; /* length weight and bend weight, if any; Draw: record number, port number */
     union list list;
     size_t count; /* of the list's entries or floats; Count has no list */
     uint16_t page[PAGE_ROOM]; /* Page alone has it; its list is the given layout */
@@ -51,22 +52,29 @@ struct question {
     size_t figures; /* more than TABLE_ROOM stand nowhere, and must not be read */
     size_t numbers; /* of the work list, or of the buffer; the same for more than WORK_ROOM */
     uint64_t place;
+    char text[TEXT_ROOM]; /* Svg alone has it */
+    size_t text_bytes;
 };
 
 struct reply {
     int64_t answer;
     union list list;
     uint16_t page[PAGE_ROOM];
+    char text[TEXT_ROOM];
 };
 
 /* By call: its name, and the refusal numbers that it can give, in order of checks; 0 ends it. */
 extern const char *const call_names[];
 extern const int *const refusals_of[];
 
-/* Is the call given a layout? And does it refuse one that is not best? Is it given a table? */
+/*
+ * Is the call given a layout? And does it refuse one that is not best? Is it given a table, or
+ * weights?
+ */
 bool takes_layout(enum call call);
 bool takes_best(enum call call);
 bool takes_table(enum call call);
+bool takes_weights(enum call call);
 
 /* Is the job of the second form? And is a work list lent? Is a buffer, to Count or Place? */
 bool takes_slots(enum call call);
@@ -101,6 +109,10 @@ void set_port(struct question *q, size_t i, int64_t height);
 
 /* Lends a page of so many entries, which hold other numbers each time, all different. */
 void lend_page(struct question *q, size_t entries);
+
+/* Lends so many bytes for a text, which hold other bytes each time; how many its text would have. */
+void lend_text(struct question *q, size_t bytes);
+size_t text_length(const struct question *q);
 
 /* How many records and ports the job has, and the question as the plain account is given it. */
 size_t records_of(const struct question *q);
