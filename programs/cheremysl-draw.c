@@ -12,8 +12,8 @@
  * they are, equal ones stay equal, and these orders alone decide what touches: the picture shows no
  * touching that is not there, hides none, and has room for every line, dot, name and label. An
  * area's sides are pushed on with what lies before them, so they too keep their places in these
- * orders. A polyline's data-points are Draw's numbers as they are, its points the same places in
- * pixels.
+ * orders. A polyline's data-points are those of Svg's text as they are, its points the same places
+ * in pixels.
  */
 #include <inttypes.h>
 
@@ -29,6 +29,8 @@
 #define LABELS 13.0     /* least distance of two ports */
 #define AROUND 16.0     /* left free at the picture's borders, and between edge and pads */
 #define NAME_LETTERS 40 /* letters of the file's name that are shown */
+
+#define PORT_FIELD (CHEREMYSL_RECORD_BYTES - CHEREMYSL_PORT_BYTES) /* where a record has its port */
 
 static char program[] = "cheremysl-draw";
 static const char usage[] =
@@ -51,11 +53,12 @@ struct square {
     struct side left, top, right, bottom;
 };
 
-/* One leader as Draw gives it: 2 or 3 points, the pad's first, the port's last. */
+/* One leader as Svg writes it: 2 or 3 points, the pad's first, the port's last. */
 struct leader {
     size_t record, port;
     int name, half, points;
-    float at[CHEREMYSL_DRAW_FLOATS];
+    char text[CHEREMYSL_SVG_BYTES(1) + 1]; /* its points as they stand there .. */
+    float at[CHEREMYSL_DRAW_FLOATS];       /* .. and their numbers */
     double right, down;   /* pixels that its pad is pushed on */
     struct square square; /* the pad's; of half-side 0 it is not drawn, and all 0 */
 };
@@ -97,7 +100,7 @@ struct picture {
 static double larger(double a, double b) { return a > b ? a : b; }
 static double smaller(double a, double b) { return a < b ? a : b; }
 
-/* ---- the sheet: read, judged, drawn by Draw ---- */
+/* ---- the sheet: read, judged, led by Svg ---- */
 
 static size_t pads_in(const struct given_sheet *s) { return s->job_bytes / CHEREMYSL_RECORD_BYTES; }
 static size_t ports_in(const struct given_sheet *s) {
@@ -207,16 +210,42 @@ static struct square square_of(const struct leader *l) {
     return (struct square){{larger(0, x - half), 0}, {y - half, 0}, {x + half, 0}, {y + half, 0}};
 }
 
-/* Draw takes jobs of the first form: pad and port height make one of a single record. */
+/* What stands between the quotes of the text, a line, and how many bytes it has. */
+static void keep_points(struct leader *l, const char *text, size_t bytes) {
+    const char *from = (const char *)memchr(text, '"', bytes) + 1;
+    size_t left = bytes - (size_t)(from - text);
+    const char *to = memchr(from, '"', left);
+    memcpy(l->text, from, (size_t)(to - from));
+}
+
+/* The numbers, each a float exactly; a comma or a blank stands between two. */
+static void read_points(struct leader *l) {
+    int numbers = 0;
+    for (char *at = l->text; *at != 0; at += *at == ',' || *at == ' ')
+        l->at[numbers++] = strtof(at, &at);
+    l->points = numbers / 2;
+}
+
+/*
+ * Svg takes jobs of the first form: pad and port height make one of a single record, which touches
+ * nothing and is never refused, since the job was judged.
+ */
+static void lead(struct leader *l, const uint8_t *pad, const uint8_t *height) {
+    static const uint16_t layout[1] = {0};
+    uint8_t one[CHEREMYSL_RECORD_BYTES];
+    char text[CHEREMYSL_SVG_BYTES(1)];
+    memcpy(one, pad, PORT_FIELD);
+    memcpy(one + PORT_FIELD, height, CHEREMYSL_PORT_BYTES);
+    int64_t bytes = cheremysl_svg(one, sizeof one, layout, 1, text, sizeof text);
+    keep_points(l, text, (size_t)bytes);
+    read_points(l);
+}
+
 static struct leader leader_of(const struct given_sheet *s, size_t record, size_t port) {
     struct leader l = {.record = record, .port = port, .name = pad_name(s, record)};
-    size_t last = CHEREMYSL_RECORD_BYTES - CHEREMYSL_PORT_BYTES; /* the field for the height */
-    uint8_t one[CHEREMYSL_RECORD_BYTES];
-    memcpy(one, s->job + CHEREMYSL_RECORD_BYTES * record, last);
-    memcpy(one + last, s->slots ? s->ports + CHEREMYSL_PORT_BYTES * port
-                                : s->job + CHEREMYSL_RECORD_BYTES * port + last,
-           CHEREMYSL_PORT_BYTES);
-    l.points = (int)cheremysl_draw(one, sizeof one, 0, 0, l.at, CHEREMYSL_DRAW_FLOATS);
+    const uint8_t *height = s->slots ? s->ports + CHEREMYSL_PORT_BYTES * port
+                                     : s->job + CHEREMYSL_RECORD_BYTES * port + PORT_FIELD;
+    lead(&l, s->job + CHEREMYSL_RECORD_BYTES * record, height);
     l.half = pad_half(s, record);
     l.square = square_of(&l);
     return l;
@@ -225,7 +254,7 @@ static struct leader leader_of(const struct given_sheet *s, size_t record, size_
 static float port_height(const struct leader *l) { return l->at[2 * l->points - 1]; }
 static int bends_of(const struct leader *l) { return l->points - 2; }
 
-/* Exact: Draw's numbers are quarters of whole ones. */
+/* Exact: the numbers are quarters of whole ones. */
 static int64_t length_of(const struct leader *l) {
     double hand = (double)l->at[1] - (double)port_height(l);
     return (int64_t)(4 * (l->at[0] + (hand < 0 ? -hand : hand)));
@@ -626,9 +655,7 @@ static void draw_squares(const struct picture *p) {
 
 static void draw_line(const struct picture *p, const struct leader *l) {
     double x = pad_x(p, l), pad = pad_y(p, l), port = port_y(p, l->port);
-    printf("<polyline data-points=\"%.9g,%.9g", l->at[0], l->at[1]);
-    for (int k = 1; k < l->points; k++) printf(" %.9g,%.9g", l->at[2 * k], l->at[2 * k + 1]);
-    printf("\" points=\"%.6g,%.6g", x, pad);
+    printf("<polyline data-points=\"%s\" points=\"%.6g,%.6g", l->text, x, pad);
     if (l->points == 3) printf(" %.6g,%.6g", x, port);
     printf(" %.6g,%.6g\"/>\n", p->left, port);
 }
