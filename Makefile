@@ -8,7 +8,7 @@
 # make bench      instructions beside plain C's, into docs/SPEED.md
 # make times      microseconds on this machine
 # make fuzz       SECONDS=600: the fuzz trial for longer
-# make pictures   the drawings in docs/
+# make pictures   the drawings in docs/, and the web page in examples/
 # make clean      removes all that was built
 PREFIX = /usr/local
 DESTDIR =
@@ -30,7 +30,7 @@ program = target/bin/sheet
 soname = libcheremysl.so.$(firstword $(subst ., ,$(VERSION)))
 shared = build/libcheremysl.so.$(VERSION)
 commands = $(patsubst programs/%.c,build/%,$(wildcard programs/*.c))
-programs = build/sheets build/audit build/antenna build/slots build/thumbs build/cheremysl-draw
+programs = build/sheets build/audit build/antenna build/slots build/thumbs build/webpage build/cheremysl-draw
 samples = $(wildcard examples/*.job examples/*.pads examples/*.ports examples/*.txt examples/*.layout)
 sources := crates.txt $(shell find crates -name '*.rt' -o -name '*.antt')
 
@@ -68,7 +68,7 @@ build/proved: always
 	@mkdir -p build
 	@echo '$(proved)' | cmp -s - $@ || echo '$(proved)' >$@
 
-pictures: build/cheremysl-draw
+pictures: build/cheremysl-draw build/webpage
 	build/cheremysl-draw examples/J5.job 1 2 0 >docs/j5.svg
 	build/cheremysl-draw --any examples/crossing.job $$(cat examples/crossing.layout) >docs/crossing.svg
 	build/cheremysl-draw --any examples/level.job 0 1 >docs/level-crossed.svg
@@ -83,6 +83,7 @@ pictures: build/cheremysl-draw
 	build/cheremysl-draw examples/sequencer.job >docs/board-24.svg
 	build/cheremysl-draw examples/strip.job >docs/board-40.svg
 	build/cheremysl-draw examples/matrix.job >docs/board-64.svg
+	build/webpage examples/copper.job >examples/sheet.html
 
 # A page stands under each name that its NAME line has: words PAGE:NAME for the names other than the page's own.
 names = $(shell sed -n '/^\.SH NAME/,/ \\-/{/^\.SH/d;s/ *\\-.*//;s/,/ /g;p;}' $(1))
@@ -94,7 +95,7 @@ libexec = $(DESTDIR)$(LIBEXECDIR)/cheremysl
 include = $(DESTDIR)$(INCLUDEDIR)
 man = $(DESTDIR)$(MANDIR)
 data = $(DESTDIR)$(DATADIR)/cheremysl
-texts = $(samples) $(wildcard examples/*.c examples/*.h)
+texts = $(samples) $(wildcard examples/*.c examples/*.h examples/*.html)
 scripts = $(wildcard examples/mkjob examples/*.py)
 pages1 = $(wildcard man/*.1)
 pages3 = $(wildcard man/*.3)

@@ -83,7 +83,7 @@ strict="-std=c99 -Wall -Wextra -Werror -pedantic"
 compile() { $cc $strict -o "$room/$1" "$2" $flags $libs -Wl,-rpath,"$lib"; }
 compile_archive() { $cc $strict $static -o "$room/sheets-archive" "$share/sheets.c" $flags "$lib/libcheremysl.a"; }
 uses_shared() { $readelf -d "$room/$1" | grep -qF "[$soname]"; }
-for program in sheets audit antenna slots thumbs; do
+for program in sheets audit antenna slots thumbs webpage; do
     check "$program.c" compile $program "$share/$program.c"
     check "$program uses the shared library" uses_shared $program
 done
@@ -239,6 +239,21 @@ prints 1 "refused 15 record 0: $no_sheet" $run "$room/thumbs" "$room/enlarged.jo
 for words in '' one 'one 2 three'; do prints 0 'usage: thumbs JOB PLACE: a job file, and a place counted from 0' thumbs $words; done
 for word in -1 x 1x ''; do prints 0 "thumbs: '$word' is not a place" thumbs "$share/J3.job" "$word"; done
 
+# The web page: the one that lies beside it; the leaders stand in it as Svg writes them; what is refused, and where it cannot be written.
+webpage() { $run "$room/webpage" "$@" 2>&1 | sed "s|$room/||"; }
+page_again() { $run "$room/webpage" "$share/copper.job" | cmp - "$share/sheet.html"; }
+check "the web page" page_again
+leaders_of_j5() { $run "$room/webpage" "$share/J5.job" | grep '^<polyline'; }
+prints 0 '<polyline points="2.5,-2.5 0,-2.5"/>
+<polyline points="5,-5 0,-5"/>
+<polyline points="7.5,-7.5 7.5,0 0,0"/>' leaders_of_j5
+prints 1 '' sh -c '"$@" 2>/dev/null' sh $run "$room/webpage" "$room/enlarged.job"
+prints 0 "webpage: refused 15 record 0: $no_sheet" webpage "$room/enlarged.job"
+prints 0 "webpage: refused 1 record 0: $size" webpage "$share/webpage.c"
+for words in '' 'one two'; do prints 0 'usage: webpage JOB >HTML: a job file' webpage $words; done
+unwritten() { "$@" >/dev/full; }
+prints 2 "$room/webpage: cannot write the page: No space left on device" unwritten $run "$room/webpage" "$share/J5.job"
+
 # A file that is not there is named.
 unopened() { $run "$@" 2>&1 | sed "s|.*cannot open $room/none: No such|No such|"; }
 prints 0 'No such file or directory' unopened "$room/sheets" "$room/none"
@@ -246,6 +261,7 @@ prints 0 'No such file or directory' unopened "$room/audit" "$room/none" 0
 prints 0 'No such file or directory' unopened "$room/antenna" "$room/none" $area
 prints 0 'No such file or directory' unopened "$room/slots" "$share/sensor.pads" "$room/none"
 prints 0 'No such file or directory' unopened "$room/thumbs" "$room/none" 0
+prints 0 'No such file or directory' unopened "$room/webpage" "$room/none"
 
 # The README's example is the one that was compiled.
 readme_example() { sed -n '/^```c$/,/^```$/{/^```/!p}' README.md | cmp - examples/sheets.c; }
@@ -309,7 +325,7 @@ for page in "$installed"/share/man/man?/*; do
 done
 for program in "$installed"/bin/*; do check "manual" [ -f "$installed/share/man/man1/${program##*/}.1" ]; done
 functions=$(sed -nE 's/^(static inline |int64_t ).*(cheremysl_[a-z_]+)\(.*/\2/p' include/cheremysl.h)
-check "functions of the header: $functions" [ "$(echo $functions | wc -w)" -ge 19 ]
+check "functions of the header: $functions" [ "$(echo $functions | wc -w)" -ge 20 ]
 for function in $functions; do
     check "manual of each function" grep -q "$function(" "$installed/share/man/man3/$function.3"
 done

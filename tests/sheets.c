@@ -103,6 +103,7 @@ static const struct {
     {"J5, 2 with 1", J5, 3, MEASURE, 1, 0, {1, 0, 2}, TOUCHING(2, 1), NONE},
     {"J5, 2 with 1", J5, 3, NEXT, 1, 0, {1, 0, 2}, TOUCHING(2, 1), NONE},
     {"J5, 2 with 1", J5, 3, PAGE, 1, 0, {1, 0, 2}, TOUCHING(2, 1), NONE},
+    {"J5, 2 with 1", J5, 3, SVG, 0, 0, {1, 0, 2}, TOUCHING(2, 1), NONE},
     /* Ports 8 and 7 apart. */
     {"ports 8 apart", J2_8, 2, FIRST, 1, 0, NONE, 52, {0, 1}},
     {"ports 8 apart", J2_8, 2, NEXT, 1, 0, {0, 1}, END, NONE},

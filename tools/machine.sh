@@ -17,18 +17,29 @@ cc=${cross}gcc cxx=${cross}g++ nm=${cross}nm
 # Two scripts may need packages at once, and apt-get does not wait for another.
 in_turn() { flock "${TMPDIR:-/tmp}/cheremysl-packages" "$@"; }
 
-# need PACKAGES COMMAND_OR_FILE..: installs the packages by apt-get if one of the others is missing
-need() {
+there() { { command -v "$1" || [ -f "$1" ]; } >/dev/null; }
+
+# have PACKAGES COMMAND_OR_FILE..: installs the packages by apt-get if one of the others is missing; false if it stays missing
+have() {
     packages=$1
     shift
     for thing; do
-        { command -v "$thing" || [ -f "$thing" ]; } >/dev/null && continue
-        { in_turn apt-get update && in_turn apt-get install -y --no-install-recommends $packages; } >/dev/null 2>&1 && return
-        echo "$0: needs the packages $packages" >&2
-        exit 2
+        there "$thing" && continue
+        { in_turn apt-get update && in_turn apt-get install -y --no-install-recommends $packages; } >/dev/null 2>&1 && there "$thing"
+        return
     done
+}
+
+# need PACKAGES COMMAND_OR_FILE..: the same, and the script ends with 2 if that fails
+need() {
+    have "$@" && return
+    echo "$0: needs the packages $1" >&2
+    exit 2
 }
 
 # What is needed to compile C and to run it; to run a program only.
 need_compilers() { need "$compilers" $cc $cxx ${run%% *} $headers/stdio.h; }
 need_run() { [ -z "$run" ] || need "qemu-user libc6-amd64-cross" ${run%% *} /usr/x86_64-linux-gnu/lib/libc.so.6; }
+
+# A browser, if one can be had: for a trial that is left out without it.
+have_browser() { have chromium chromium && chromium --version >/dev/null 2>&1; }
