@@ -11,6 +11,7 @@ As a module, the calls of the shared library for Python:
     total, ports = library.first(job)
     for total, ports in library.sheets(job, length_weight=1, bend_weight=0): ...
     total, ports = library.place(job, library.count(job) // 2)  # the sheet in the middle of them
+    text = library.svg(job, ports)  # its leaders for a web page, inside an svg element
     total, ports = library.table_first(job, [7, 0, 0, 7])  # the figure of each pad with each port
     squares = job_of([(101, 10, 15, 10), (102, 20, 15, 20)], half_sides=2)  # or one for each pad
     pads, strip = pads_of([(101, 10, 15), (102, 20, 15)]), ports_of(range(0, 320, 10))
@@ -34,6 +35,7 @@ HEIGHT = struct.Struct("<i")  # of a port that stands apart
 MAX_RECORDS = 64
 MAX_SLOTS = 128
 DRAW_FLOATS = 6
+SVG_BYTES = 76  # that a leader's line has at most
 PAGE_SHEETS = 20  # fetched at once
 END = -1
 
@@ -58,6 +60,7 @@ TEXTS = {  # as cheremysl_refusal_text of the C header has them
     16: "This board has more than 1,000,000,000,000,000,000 best sheets.",
     17: "There is no best sheet at this place: they are fewer.",
     18: "The buffer is too short for so many pads.",
+    19: "The text of this sheet is longer than the room lent for it.",
     24: "The work list is too short for so many pads and ports.",
 }
 
@@ -179,6 +182,7 @@ class Cheremysl:
         self._place = call("place", *numbers, ctypes.c_uint64, *layout, *work)
         self._measure = call("measure", *numbers, *layout)
         self._draw = call("draw", *numbers, *points)
+        self._svg = call("svg", *layout, ctypes.c_char_p, ctypes.c_size_t)
         self._table_first = call("table_first", *table, *layout)
         self._table_next = call("table_next", *table, *layout)
         self._table_measure = call("table_measure", *table, *layout)
@@ -238,6 +242,12 @@ class Cheremysl:
         points = (ctypes.c_float * DRAW_FLOATS)()
         count = self._ask(self._draw, job, record, port, points, DRAW_FLOATS)
         return [(points[2 * k], points[2 * k + 1]) for k in range(count)]
+
+    def svg(self, job, layout, room=SVG_BYTES * MAX_RECORDS):
+        """The leaders of a sheet on which nothing touches, best or not: a line of SVG for each."""
+        text = ctypes.create_string_buffer(room)
+        written = self._ask_lists(self._svg, job, *layout_of(layout), text, room)
+        return text.raw[:written].decode("ascii")
 
     def table_first(self, job, table):
         """The earliest best sheet by a table, as from first; the total is that of its figures."""

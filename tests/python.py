@@ -199,6 +199,22 @@ def tables(r, board):
         yield board.weighted(r.randint(0, 1000), r.randint(0, 1000))
     yield r.choice([[0] * (n + 1), [0] * max(n - 1, 0), [0] * (2 * n), [], [1] * board.n])
 
+def quarter(units):
+    """A quarter of a whole number in decimal, as Python writes it."""
+    return repr(units / 4).removesuffix('.0')
+
+def try_svg(library, job, board, given):
+    """The text of every layout on which nothing touches, in just enough bytes and in one less; else the refusal, without any room too."""
+    for layout in given + [list(f) for f in ([] if board.bad else board.sheets()[:20])]:
+        bad = board.refusal(layout, 0)
+        if bad:
+            check('svg', (reply(library.svg, job, layout), reply(library.svg, job, layout, 0)), (bad, bad))
+            continue
+        points = [board.points(i, layout[i]) for i in range(board.n)]
+        text = ''.join('<polyline points="%s"/>\n' % ' '.join(','.join(quarter(round(4 * v)) for v in point) for point in line) for line in points)
+        check('svg', (reply(library.svg, job, layout), reply(library.svg, job, tuple(layout), len(text))), (text, text))
+        check('svg, a short text', reply(library.svg, job, layout, len(text) - 1), (19, 0, None))
+
 def try_draw(library, job, board):
     for i, q in itertools.product(range(board.n + 1), repeat=2):
         there = max(i, q) < board.n
@@ -220,6 +236,7 @@ def try_job(library, job, r):
     weights, board = r.choice(WEIGHTS + [(r.randint(0, 9), r.randint(0, 9))]), Board(job)
     given = list(layouts(r, min(board.n, 64), min(board.n, 64))) if board.n else [[], [0]]
     try_weights(library, job, board, weights, given)
+    try_svg(library, job, board, given)
     for table in tables(r, board):
         try_table(library, job, board, table, given)
     if not board.bad:
@@ -254,6 +271,7 @@ def try_numbers(library):
         check('figure', reply(library.table_measure, job, [bad], [0]), OverflowError)
     for bad in -1, 65536, 2 ** 32:
         check('entry', reply(library.measure, job, [bad]), OverflowError)
+        check('entry', reply(library.svg, job, [bad]), OverflowError)
         check('entry', reply(library.table_measure, job, [0], [bad]), OverflowError)
     strip = binding.ports_of([3, 11])
     for bad in -1, 2 ** 32:
@@ -286,6 +304,8 @@ def try_numbers(library):
     check('largest job', reply(library.first, job * 65), (1, 0, None))
     most = binding.job_of((1 + i, 100 + i, 8 * i, 8 * i) for i in range(64))
     check('64 records', library.first(most), (sum(range(100, 164)), list(range(64))))
+    longest = binding.job_of((1 + i, 999999 - 2 * i, 999003 + 8 * i, 999001 + 8 * i) for i in range(64))
+    check('longest text', (len(library.svg(longest, range(64))), reply(library.svg, longest, range(64), 4863)), (4864, (19, 0, None)))
     check('a long list of ports', library.measure(most, list(range(1000))), sum(range(100, 164)))
     check('largest figures', library.table_first(most, iter([4294967295] * 4096))[0], 274877906880)
     check('largest figures', library.table_measure(most, [4294967295] * 4096, range(64)), 274877906880)
