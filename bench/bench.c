@@ -1,7 +1,7 @@
 /*
  * bench.c: the library beside the plain C program, on the same jobs.
  *
- *   bench same TRIALS SEED  both on random jobs, sound and spoilt: fails if an answer, a list or a page differs
+ *   bench same TRIALS SEED  both on random jobs, sound and spoilt: fails if an answer, a list, a page or a text differs
  *   bench count             each call on each board at 8, 16, 32 and 64 pads, on those with squares at 32 and 64, and on
  *                           slots at some sizes, by the library and then by plain C, marked for the emulator, which
  *                           counts instructions; Count and Place by the library, and then its First. Prints CALL BOARD
@@ -28,7 +28,11 @@
 static uint8_t job[CHEREMYSL_MAX_JOB_BYTES], ports[CHEREMYSL_MAX_PORT_BYTES];
 static size_t bytes, port_bytes, figures, entries = ENTRIES, page_entries, numbers;
 static uint32_t length_weight, bend_weight, table[CHEREMYSL_MAX_FIGURES + 1]; /* one too many is lent too */
-static uint16_t page[PAGE_ENTRIES];
+static struct {
+    uint16_t page[PAGE_ENTRIES];
+    char text[CHEREMYSL_MAX_SVG_BYTES];
+} lent;
+static size_t text_bytes = CHEREMYSL_MAX_SVG_BYTES;
 static uint64_t work[CHEREMYSL_MAX_SLOTS_WORK]; /* holds what the last call left there; a buffer for Count and Place */
 static uint64_t place;
 
@@ -36,7 +40,8 @@ static uint64_t place;
 
 /* A call by a table directly after that by weights: the emulator's plugin tells what the two have in common. */
 enum {
-    FIRST, TABLE_FIRST, SLOTS_FIRST, NEXT, TABLE_NEXT, SLOTS_NEXT, PAGE, MEASURE, TABLE_MEASURE, SLOTS_MEASURE, CALLS
+    FIRST, TABLE_FIRST, SLOTS_FIRST, NEXT, TABLE_NEXT, SLOTS_NEXT, PAGE, MEASURE, TABLE_MEASURE, SLOTS_MEASURE, SVG,
+    CALLS
 };
 
 typedef int64_t call_of(uint16_t *layout);
@@ -49,12 +54,13 @@ BY_BOTH(first, length_weight, bend_weight, layout, entries)
 BY_BOTH(table_first, table, figures, layout, entries)
 BY_BOTH(next, length_weight, bend_weight, layout, entries)
 BY_BOTH(table_next, table, figures, layout, entries)
-BY_BOTH(page, length_weight, bend_weight, layout, entries, page, page_entries)
+BY_BOTH(page, length_weight, bend_weight, layout, entries, lent.page, page_entries)
 BY_BOTH(measure, length_weight, bend_weight, layout, entries)
 BY_BOTH(table_measure, table, figures, layout, entries)
 BY_BOTH(slots_first, ports, port_bytes, length_weight, bend_weight, layout, entries, work, numbers)
 BY_BOTH(slots_next, ports, port_bytes, length_weight, bend_weight, layout, entries, work, numbers)
 BY_BOTH(slots_measure, ports, port_bytes, length_weight, bend_weight, layout, entries)
+BY_BOTH(svg, layout, entries, lent.text, text_bytes)
 
 static const struct {
     const char *name;
@@ -68,7 +74,8 @@ static const struct {
                {"Page", our_page, plain_page},
                {"Measure", our_measure, plain_measure},
                {"Table-Measure", our_table_measure, plain_table_measure},
-               {"Slots-Measure", our_slots_measure, plain_slots_measure}};
+               {"Slots-Measure", our_slots_measure, plain_slots_measure},
+               {"Svg", our_svg, plain_svg}};
 
 /* Place gives the sheet in the middle of all. */
 static int64_t our_count(uint16_t *layout) {
@@ -84,24 +91,25 @@ static bool on_slots(int call) { return call == SLOTS_FIRST || call == SLOTS_NEX
 /* Every second mark ends a stretch, whose instructions the emulator's plugin prints (insns.c); a dozen are the caller's. */
 static void mark(void) { (void)getppid(); }
 
-/* Asks with a page that holds other numbers than any layout, and keeps a copy of what it then holds. */
-static int64_t ask(call_of *call, uint16_t *layout, uint16_t *copy) {
-    for (size_t k = 0; k < PAGE_ENTRIES; k++) page[k] = (uint16_t)(1000 + k);
+/* Asks with a page that holds other numbers than any layout, a text of zeros, and keeps a copy of what they then hold. */
+static int64_t ask(call_of *call, uint16_t *layout, void *copy) {
+    for (size_t k = 0; k < PAGE_ENTRIES; k++) lent.page[k] = (uint16_t)(1000 + k);
+    memset(lent.text, 0, sizeof lent.text);
     mark();
     int64_t answer = call(layout);
     mark();
-    memcpy(copy, page, sizeof page);
+    memcpy(copy, &lent, sizeof lent);
     return answer;
 }
 
 /* Does both, from the same lists; the layout is then the library's. */
 static int64_t both(int call, uint16_t *layout) {
-    static uint16_t our_copy[PAGE_ENTRIES], their_copy[PAGE_ENTRIES];
+    static unsigned char our_copy[sizeof lent], their_copy[sizeof lent];
     uint16_t theirs[ENTRIES];
     memcpy(theirs, layout, sizeof theirs);
     int64_t answer = ask(by[call].ours, layout, our_copy);
     int64_t expected = ask(by[call].plain, theirs, their_copy);
-    bool agree = memcmp(layout, theirs, sizeof theirs) == 0 && memcmp(our_copy, their_copy, sizeof page) == 0;
+    bool agree = memcmp(layout, theirs, sizeof theirs) == 0 && memcmp(our_copy, their_copy, sizeof lent) == 0;
     if (answer == expected && agree) return answer;
     printf("%s, %zu bytes: library %" PRId64 ", plain C %" PRId64 ", %s\n", by[call].name, bytes, answer, expected,
            agree ? "lists agree" : "lists differ");
@@ -126,7 +134,7 @@ static void take_slots(enum measured kind, int n, int p) {
     numbers = CHEREMYSL_SLOTS_WORK((size_t)n, (size_t)p);
 }
 
-/* The calls of either form on the board taken. Next and Page go on from First's sheet; Measure measures it. */
+/* The calls of either form on the board taken. Next and Page go on from First's sheet; Measure measures it, Svg writes it. */
 static void count_calls(bool slots, int last, const char *board, const char *size) {
     uint16_t start[ENTRIES] = {0};
     for (int call = 0; call <= last; call++) {
@@ -142,7 +150,7 @@ static void count_calls(bool slots, int last, const char *board, const char *siz
 
 /* Count or Place, and then First, on the board taken; 16 is an answer too. */
 static int64_t beside_first(const char *name, call_of *call, const char *board, int n) {
-    static uint16_t copy[PAGE_ENTRIES];
+    static unsigned char copy[sizeof lent];
     uint16_t layout[ENTRIES] = {0}, first[ENTRIES] = {0};
     int64_t answer = ask(call, layout, copy), total = ask(our_first, first, copy);
     bool sheet = answer == total || call == our_count;
@@ -269,7 +277,7 @@ static void random_pads(size_t n, int way) {
     any_squares(job, &plan);
 }
 
-/* Any job, one in three spoilt, once or twice; what the lists hold; how much of a page is lent. */
+/* Any job, one in three spoilt, once or twice; what the lists hold; how much of a page and of a text is lent. */
 static void random_job(size_t n, uint16_t *layout, int way) {
     for (int i = 0; i < ENTRIES; i++) layout[i] = (uint16_t)below(65536);
     random_pads(n, way);
@@ -277,6 +285,7 @@ static void random_job(size_t n, uint16_t *layout, int way) {
     random_table(figures);
     entries = ENTRIES;
     page_entries = n * below(below(4) ? 4 : LAYOUTS) + below((uint32_t)n + 1);
+    text_bytes = below(4) ? CHEREMYSL_SVG_BYTES(n) : below((uint32_t)CHEREMYSL_SVG_BYTES(n));
     any_weights(&length_weight, &bend_weight);
     for (uint32_t k = below(3) ? 0 : 1 + below(2); k > 0; k--) {
         if (way == ON_SLOTS && below(2))
@@ -296,6 +305,7 @@ static void other_sheets(size_t n, uint16_t *layout, int way) {
         if (spoilt) layout[i] = below(2) ? layout[j] : (uint16_t)p;
         if (spoilt && below(3) && i != j) layout[i] = layout[j], layout[j] = kept;
         tried(MEASURE + way, layout);
+        if (way == BY_WEIGHTS) tried(SVG, layout);
         if (way == BY_WEIGHTS) tried(PAGE, layout);
         tried(NEXT + way, layout);
     }
@@ -306,6 +316,7 @@ static void trial(size_t n, int way) {
     random_job(n, layout, way);
     bool accepted = tried(FIRST + way, layout) >= 0;
     tried(MEASURE + way, layout);
+    if (way == BY_WEIGHTS) tried(SVG, layout);
     if (way == BY_WEIGHTS) tried(PAGE, layout);
     for (int k = 0; k < 5 && tried(NEXT + way, layout) >= 0; k++) steps++;
     if (accepted) other_sheets(n, layout, way);

@@ -1,4 +1,4 @@
-/* plain.h: the calls that search or measure in plain C, with the library's prototypes: the yardstick for its speed. */
+/* plain.h: the calls that search, measure or write in plain C, with the library's prototypes: the yardstick for its speed. */
 #ifndef BENCH_PLAIN_H
 #define BENCH_PLAIN_H
 
@@ -13,6 +13,8 @@ int64_t c_page(const uint8_t *job, size_t job_bytes, uint32_t length_weight, uin
                const uint16_t *layout, size_t entries, uint16_t *page, size_t page_entries);
 int64_t c_measure(const uint8_t *job, size_t job_bytes, uint32_t length_weight,
                   uint32_t bend_weight, const uint16_t *layout, size_t entries);
+int64_t c_svg(const uint8_t *job, size_t job_bytes, const uint16_t *layout, size_t entries, char *text,
+              size_t text_bytes);
 int64_t c_table_first(const uint8_t *job, size_t job_bytes, const uint32_t *table, size_t figures,
                       uint16_t *layout, size_t entries);
 int64_t c_table_next(const uint8_t *job, size_t job_bytes, const uint32_t *table, size_t figures,

@@ -79,7 +79,7 @@ FILENAME == ARGV[2] {
     next
 }
 FNR == 1 { work_out() }
-$0 == "@table@" { print_rows("First|Next|Page|Measure|Table-.*", "8 16 32 64", 1, 1, 0); next }
+$0 == "@table@" { print_rows("First|Next|Page|Measure|Svg|Table-.*", "8 16 32 64", 1, 1, 0); next }
 $0 == "@shared@" { print_rows("Shared", "8 16 32 64", 0, 0, 0); next }
 $0 == "@slots@" { print_rows("Slots-.*", "32x64 64x128", 1, 0, 0); next }
 $0 == "@slots-by-pads@" { print_rows("Slots-First", "8x128 16x128 32x128 64x128", 1, 0, 0); next }
@@ -87,7 +87,7 @@ $0 == "@slots-by-ports@" { print_rows("Slots-First", "16x16 16x32 16x64 16x128",
 $0 == "@full@" { print_rows("Full", "8x8 16x16 32x32 64x64", 0, 0, 0); next }
 $0 == "@beside-points@" { print_rows("Squares", "32 64", 0, 0, 1); next }
 $0 == "@beside-points-on-slots@" { print_rows("Squares", "32x64 64x128", 0, 0, 1); next }
-$0 == "@squares@" { print_rows("First|Next|Page|Measure|Table-.*", "32 64", 1, 0, 1); next }
+$0 == "@squares@" { print_rows("First|Next|Page|Measure|Svg|Table-.*", "32 64", 1, 0, 1); next }
 $0 == "@places@" { print_rows("Count|Place", "32 64", 1, 0, 0); next }
 $0 == "@places-with-squares@" { print_rows("Count|Place", "32 64", 1, 0, 1); next }
 $0 == "@squares-on-slots@" { print_rows("Slots-.*", "32x64 64x128", 1, 0, 1); next }

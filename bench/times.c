@@ -23,7 +23,7 @@
 #define LARGEST 10000  /* layouts on a page */
 #define ENTRIES CHEREMYSL_MAX_RECORDS
 
-enum { CALLS = 10, SIZES = 4, LISTINGS = 2, PAGES = 4 };
+enum { CALLS = 11, SIZES = 4, LISTINGS = 2, PAGES = 4 };
 
 static struct given on;
 static size_t pads;
@@ -31,7 +31,7 @@ static uint16_t start[ENTRIES], layout[ENTRIES], page[LARGEST * ENTRIES];
 static uint64_t amid, buffer[CHEREMYSL_MAX_BUFFER]; /* the place in the middle of all sheets */
 static volatile int64_t answer; /* of the last call */
 
-/* ---- the calls: Next and Page go on from First's sheet, Measure measures it, Draw draws one of its leaders ---- */
+/* ---- the calls: Next and Page go on from First's sheet, Measure measures it, Svg writes it, Draw draws a leader ---- */
 
 static void first(void) { answer = cheremysl_first(on.job, on.bytes, on.length_weight, 0, layout, pads); }
 static void next(void) {
@@ -58,6 +58,10 @@ static void table_next(void) {
 static void table_measure(void) {
     answer = cheremysl_table_measure(on.job, on.bytes, on.table, on.figures, start, pads);
 }
+static void svg(void) {
+    static char text[CHEREMYSL_MAX_SVG_BYTES];
+    answer = cheremysl_svg(on.job, on.bytes, start, pads, text, sizeof text);
+}
 static void draw(void) {
     float points[CHEREMYSL_DRAW_FLOATS];
     answer = cheremysl_draw(on.job, on.bytes, 0, start[0], points, CHEREMYSL_DRAW_FLOATS);
@@ -75,6 +79,7 @@ static const struct {
                   {"Table First", table_first},
                   {"Table Next", table_next},
                   {"Table Measure", table_measure},
+                  {"Svg", svg},
                   {"Draw, one leader", draw}};
 
 static void take_board(int kind, int n) {
