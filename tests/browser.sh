@@ -47,6 +47,9 @@ if have_browser && browse "$room/probe.html" | grep -q '<p>here</p>'; then
     dom=$room/dom
     dump() { browse "$room/sheets.html" >"$dom"; }
     check "the browser dumps its page" dump
+    leaders() { browse "$PWD/examples/sheet.html" | sed -n 's|^\(<polyline .*\)></polyline>$|\1/>|p' | cmp - "$room/leaders"; }
+    grep '^<polyline' examples/sheet.html >"$room/leaders"
+    check "the example's leaders in the browser" leaders
     echo "browser: $(chromium --version 2>/dev/null)"
 else
     echo "tests/browser.sh: no browser runs here: what one reads is not tried"
