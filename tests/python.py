@@ -305,7 +305,7 @@ def try_numbers(library):
     most = binding.job_of((1 + i, 100 + i, 8 * i, 8 * i) for i in range(64))
     check('64 records', library.first(most), (sum(range(100, 164)), list(range(64))))
     longest = binding.job_of((1 + i, 999999 - 2 * i, 999003 + 8 * i, 999001 + 8 * i) for i in range(64))
-    check('longest text', (len(library.svg(longest, range(64))), reply(library.svg, longest, range(64), 4863)), (4864, (19, 0, None)))
+    check('longest text', (len(reply(library.svg, longest, range(64))), reply(library.svg, longest, range(64), 4863)), (4864, (19, 0, None)))
     check('a long list of ports', library.measure(most, list(range(1000))), sum(range(100, 164)))
     check('largest figures', library.table_first(most, iter([4294967295] * 4096))[0], 274877906880)
     check('largest figures', library.table_measure(most, [4294967295] * 4096, range(64)), 274877906880)
