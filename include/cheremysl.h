@@ -653,7 +653,7 @@ int64_t cheremysl_draw(const uint8_t *job, size_t job_bytes, uint32_t record, ui
  *
  * The text has a line for each record, in the order of the records, each with a newline at its end:
  * the leader's points, x before y, those of Draw in Draw's order. With the layout {1, 2, 0} of the
- * board above:
+ * board at the top of this file:
  *
  *      <polyline points="2.5,-2.5 0,-2.5"/>
  *      <polyline points="5,-5 0,-5"/>
