@@ -266,10 +266,12 @@ static void wide_rooms(void) {
     bool lent = memory != MAP_FAILED && mprotect(memory, readable, PROT_READ | PROT_WRITE) == 0;
     if (!check(lent, NULL, "4 GiB of addresses")) return;
     any_sheet(&q, 3, STRAIGHT);
+    for (size_t i = 0; i < 3; i++) put_half(q.job, i, 0);
     lend_text(&q, TEXT_ROOM);
     struct plan plan = plan_of(&q);
-    if (!any_untouching(&plan, q.list.layout)) memset(&q.list, 0, sizeof q.list);
+    any_untouching(&plan, q.list.layout);
     struct reply r = written(&q);
+    check(r.answer > 0, &q, "points have a sheet");
     for (size_t k = 0; k < sizeof wide / sizeof *wide; k++) {
         memcpy(memory, q.text, sizeof q.text);
         int64_t answer = cheremysl_svg(q.job, q.job_bytes, q.list.layout, q.count, memory, wide[k]);
