@@ -42,7 +42,7 @@ static const struct {
 } calls[CALLS] = {
     [MEASURE] = {(function)cheremysl_measure, 584},
     [DRAW] = {(function)cheremysl_draw, 136},
-    [SVG] = {(function)cheremysl_svg, 6000},
+    [SVG] = {(function)cheremysl_svg, 5496},
     [TABLE_MEASURE] = {(function)cheremysl_table_measure, 568},
     [SLOTS_MEASURE] = {(function)cheremysl_slots_measure, 616},
 #ifndef NO_SEARCH

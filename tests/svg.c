@@ -1,9 +1,10 @@
 /*
  * svg [COUNT [SEED]]: Svg's text beside another writer, libc's, and beside Draw, by reading it back.
- * Every number that a text can have, in every place that it can have; boards of 1 to 64 pads of
- * every kind, best sheets and others, squares among them; rooms of every size around the text's own,
- * the largest text among them, and rooms of more than 32 bits; each byte of a job and each entry of
- * a layout changed, where Svg refuses what Measure refuses with weights 0, 0.
+ * Every number that a text can have, in every place that it can have, and numbers beyond these;
+ * boards of 1 to 64 pads of every kind, best sheets and others, squares among them; rooms of every
+ * size around the text's own, the largest text among them, and rooms of more than 32 bits; each byte
+ * of a job and each entry of a layout changed, where Svg refuses what Measure refuses with weights
+ * 0, 0.
  */
 #define _DEFAULT_SOURCE
 #include <stdio.h>
@@ -193,6 +194,28 @@ static void every_number(int blocks) {
             if (from + k / 2 <= MOST && !heights_from(from + k / 2, k % 2)) return;
 }
 
+/*
+ * Every quarter number up to four times as far out as a sheet goes, as a pad's height on a board of
+ * its own: written like the other writer's, or beyond the largest height refused by 4.
+ */
+static void every_quarter(int step) {
+    static struct question q;
+    char text[LONGEST], expected[LONGEST];
+    for (int v = -4000004; v <= 4000004; v += step) {
+        bool inside = v >= -MOST && v <= MOST;
+        put_record(q.job, 0, 1, 1, v, 0);
+        q.job_bytes = 16;
+        int64_t bytes = inside ? (int64_t)write_text(&q, expected) : refused(4, 0);
+        int64_t answer = cheremysl_svg(q.job, 16, q.list.layout, 1, text, sizeof text);
+        bool ok = answer == bytes && (!inside || memcmp(text, expected, (size_t)bytes) == 0);
+        if (!ok) {
+            check(false, &q, "a quarter number is written otherwise");
+            return;
+        }
+    }
+    check(true, NULL, "every quarter number");
+}
+
 /* ---- boards ---- */
 
 static void any_sheet(struct question *q, size_t n, enum board kind) {
@@ -341,6 +364,7 @@ int main(int argc, char **argv) {
     begin();
     write_numbers();
     every_number(count < 300 ? 10 : 1);
+    every_quarter(count < 300 ? 11 : 1);
     for (size_t n = 1; n <= PADS; n++) one_board(n, (enum board)(n % BOARDS));
     for (long k = 0; k < count; k++) one_board(1 + below(PADS), (enum board)(k % BOARDS));
     for (size_t n = 1; n <= PADS; n++) largest(n);
