@@ -7,7 +7,7 @@ use lib.Dec.{eqb}
 use lib.ListN.{length, getD}
 use lib.IntN.{ℤ, pos, negsuc}
 use lib.Ieee.{Float, binary32, round}
-use Rattle.text.specs.Text.{bytes, decimal, value}
+use Rattle.text.specs.Text.{bytes, decimal, joined, value}
 use Rattle.paper.specs.declared.Point.{Point}
 use Rattle.paper.specs.declared.Drawn.{Drawn}
 use Rattle.paper.specs.declared.Drawn.the-variants.{Straight, Bent, Refused as NotDrawn}
@@ -54,18 +54,13 @@ LineWritten (Bent d) s =
     × (s ≡ line (pad ++ bytes " " ++ bend ++ bytes " " ++ port))
 LineWritten (NotDrawn r) s = ⊥
 
--- Lines 0 to n - 1, each with a newline after it.
-abbrev pub inOrder : (ℕ → List ℕ) → ℕ → List ℕ
-inOrder lines zero = []
-inOrder lines (suc n) = inOrder lines n ++ lines n ++ bytes "\n"
-
--- The text s of a layout: for each record in file order the line of what Draw answers for its leader.
+-- The text s of a layout: for each record in file order the line of what Draw answers for its leader, and a newline.
 pub record SheetWritten (b : Board) (f : ℕ → ℕ) (s : List ℕ) : Type 0 where
   pub drawn : ℕ → Drawn
   pub lines : ℕ → List ℕ
   pub draws : (i : ℕ) → i < b .pads → Draws (leader b i (f i)) (drawn i)
   pub written : (i : ℕ) → i < b .pads → LineWritten (drawn i) (lines i)
-  pub text : s ≡ inOrder lines (b .pads)
+  pub text : s ≡ joined (λ i. lines i ++ bytes "\n") (b .pads)
 
 -- ---- reading such a text
 

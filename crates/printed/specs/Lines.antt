@@ -3,7 +3,6 @@ use mathlib.Core.Path.{_≡_, ap, sym, subst, _∙_}
 use mathlib.Core.List.{List}
 use Prim.Native.Nat.{ℕ, _+_, _≤_}
 use native.Mathlib.Omega.{arith}
-use native.Mathlib.Numerals.{add-one}
 use lib.ListN.{length, replicate, take}
 use lib.Seq.{sets}
 use Rattle.paper.specs.declared.Refusal.{Refusal}
@@ -20,7 +19,7 @@ use Rattle.paper.specs.laws.Decided.{sound-parts}
 use Rattle.paper.specs.laws.Accepted.{fair-iff, first-sound, sound-accepted, sound-other-room, untouching-passed}
 use Rattle.paper.specs.laws.Determined.{first-answer}
 use Rattle.text.specs.Text.{bytes, Writes}
-use Rattle.text.specs.Writing.{writes-none, writes-then, writes-whole}
+use Rattle.text.specs.Writing.{writes-none, writes-then, writes-joined, writes-whole}
 use Rattle.printed.specs.Printed.{field, line, lines, lengths, bends, sheet, refused, told, Printed, Prints}
 
 -- THEOREM: what is printed for a job is determined.
@@ -55,7 +54,7 @@ lines-none job list b = writes-none b 0
 pub lines-more : (job list : List ℕ) (i : ℕ) {b m a : List ℕ} {r q : ℕ} → Writes b 0 (lines job list i) r m → Writes m r (line job i (held list i)) q a
     → Writes b 0 (lines job list (i + 1)) q a
 unfolding lines
-lines-more job list i f g = rw add-one (writes-then f g)
+lines-more job list = writes-joined (λ i. line job i (held list i))
 
 -- First's total with the weights 1, 0 is the sum of lengths, and Measure's with 0, 1 the sum of bends.
 lengths-are : (job list : List ℕ) (t : ℕ) → t ≡ totalOf (boardOf (records job)) (byWeights 1 0) list → t ≡ lengths job list

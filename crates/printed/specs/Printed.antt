@@ -1,7 +1,7 @@
 -- DEFINITIONS. 01, "The printing program": what it prints for a job.
 use mathlib.Core.Path.{_≡_}
 use mathlib.Core.List.{List, [], _++_}
-use Prim.Native.Nat.{ℕ, zero, suc}
+use Prim.Native.Nat.{ℕ}
 use Prim.Native.String.{String}
 use lib.ListN.{replicate}
 use Rattle.paper.specs.declared.Refusal.{Refusal}
@@ -12,7 +12,7 @@ use Rattle.paper.specs.Job.{records, count, nameOf}
 use Rattle.paper.specs.Leaders.{lengthOf, bendsOf}
 use Rattle.paper.specs.Layouts.{byWeights, boardOf, leader, held, sum}
 use Rattle.paper.specs.Promises.{FirstAnswers}
-use Rattle.text.specs.Text.{bytes, decimal, Writes}
+use Rattle.text.specs.Text.{bytes, decimal, joined, Writes}
 
 -- A number in decimal, and what stands after it.
 abbrev pub field : ℕ → String → List ℕ
@@ -25,8 +25,7 @@ line job i q =
 
 -- The lines of the first n records, in file order, for the layout that a list holds.
 unfoldable pub lines : List ℕ → List ℕ → ℕ → List ℕ
-lines job list zero = []
-lines job list (suc n) = lines job list n ++ line job n (held list n)
+lines job list = joined (λ i. line job i (held list i))
 
 -- Sums of the lengths and of the bends that are printed.
 abbrev pub lengths : List ℕ → List ℕ → ℕ

@@ -10,7 +10,6 @@ use lib.Signed.{ltZ}
 use borrow.Author.Tests.{ltb-true}
 use native.Mathlib.Omega.{arith}
 use native.Mathlib.Nat.{zero-add}
-use native.Mathlib.Numerals.{add-one}
 use Rattle.text.specs.Text.{bytes, decimal, Writes}
 use Rattle.text.specs.Writing.{writes-then, writes-whole}
 use Rattle.paper.specs.Leaders.{Leader}
@@ -107,12 +106,7 @@ line-long l = go (ℤ-discrete (l .y) (l .port))
     go (yes e) = omega (arith, straight-length l e)
     go (no n) = omega (arith, bent-length l n)
 
--- The lines so far, and one more.
-pub lines-more : (b : Board) (f : ℕ → ℕ) (i : ℕ) {o m a : List ℕ} {r q : ℕ} → Writes o 0 (linesText b f i) r m → Writes m r (lineText (leader b i (f i)) ++ bytes "\n") q a
-    → Writes o 0 (linesText b f (i + 1)) q a
-lines-more b f i g h = rw add-one (writes-as (sym (append-assoc (linesText b f i) (lineText (leader b i (f i))) (bytes "\n"))) (writes-then g h))
-
--- There is room for it.
+-- There is room for one more line.
 pub lines-room : (b : Board) (f : ℕ → ℕ) → AllOnSheet b f → b .pads ≤ 64 → (i : ℕ) → i < b .pads → length (linesText b f i) + length (lineText (leader b i (f i))) + 1 ≤ 4864
 lines-room b f on few i h = omega (arith, lines-short b f on i (omega arith), line-short (leader b i (f i)) (on i h))
 

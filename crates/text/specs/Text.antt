@@ -27,6 +27,11 @@ decimal n = digits (suc n) n
 abbrev pub Begins : List ℕ → Type 0
 Begins t = (d : ℕ) × (s : List ℕ) × (d < 10) × (t ≡ (48 + d) ∷ s)
 
+-- Texts 0 to n - 1, one after the other.
+abbrev pub joined : (ℕ → List ℕ) → ℕ → List ℕ
+joined texts zero = []
+joined texts (suc n) = joined texts n ++ texts n
+
 -- Digits read as a number, after those that came to v. (Those of `decimal n` come to n: `decimal-reads`.)
 abbrev pub value : ℕ → List ℕ → ℕ
 value v [] = v

@@ -7,7 +7,7 @@ use native.Mathlib.Nat.{add-zero, add-suc, suc-add}
 use native.Mathlib.Omega.{arith}
 use lib.ListN.{length, take, drop, set, getD, length-append}
 use lib.Seq.{sets, sets-eq, length-sets, take-at, take-suc, take-all, length-take-le}
-use Rattle.text.specs.Text.{decimal, Writes}
+use Rattle.text.specs.Text.{decimal, joined, Writes}
 use Rattle.text.specs.Digits.{decimal-one, decimal-more}
 
 sets-append : (l : List ℕ) (at : ℕ) (s t : List ℕ) → sets l at (s ++ t) ≡ sets (sets l at s) (at + length s) t
@@ -45,6 +45,11 @@ writes-next b m s at k h w =
 
 pub writes-all : {b a s : List ℕ} {at r : ℕ} (k : ℕ) → length s ≤ k → Writes b at (take k s) r a → Writes b at s r a
 writes-all {s = s} k h w = rw (take-all k s h) at w
+
+-- A loop that writes texts: the next text.
+pub writes-joined : (texts : ℕ → List ℕ) (i : ℕ) {b m a : List ℕ} {at r q : ℕ} → Writes b at (joined texts i) r m → Writes m r (texts i) q a
+    → Writes b at (joined texts (i + 1)) q a
+writes-joined texts i f g = rw add-one (writes-then f g)
 
 -- A number: the only digit, or those of its tenth and then the last one.
 pub writes-one : (b : List ℕ) (at n : ℕ) → n < 10 → Writes b at (decimal n) (at + 1) (set b at (48 + n))

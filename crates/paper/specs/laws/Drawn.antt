@@ -39,19 +39,30 @@ twoOf l = record { pad = canvas (l .x) (l .y); port = canvas 0 (l .port) }
 abbrev pub threeOf : Leader → Three
 threeOf l = record { pad = canvas (l .x) (l .y); bend = canvas (l .x) (l .port); port = canvas 0 (l .port) }
 
--- The leader as it is drawn: straight where the heights are equal, else bent.
-unfoldable pub leaderDrawn : Leader → Drawn
-leaderDrawn l = cond (eqb (distance (l .y) (l .port)) 0) (Straight (twoOf l)) (Bent (threeOf l))
+-- One of two, by whether the leader bends: the first where the heights are equal.
+unfoldable pub byBend : {A : Type 0} → Leader → A → A → A
+byBend l straight bent = cond (eqb (distance (l .y) (l .port)) 0) straight bent
 
--- Which of the two it is.
+module _ {A : Type 0} (l : Leader) (straight bent : A) where
+  pub by-level : l .y ≡ l .port → byBend l straight bent ≡ straight
+  unfolding byBend
+  by-level e = ap (λ (b : Bool). cond b straight bent) (eq-eqb (distance (l .y) (l .port)) 0 (zero-apart (l .y) (l .port) e))
+
+  pub by-bend : (l .y ≡ l .port → ⊥) → byBend l straight bent ≡ bent
+  unfolding byBend
+  by-bend n = ap (λ (b : Bool). cond b straight bent) (ne-eqb (distance (l .y) (l .port)) 0 (λ e. n (apart-zero (l .y) (l .port) e)))
+
+-- The leader as it is drawn.
+unfoldable pub leaderDrawn : Leader → Drawn
+leaderDrawn l = byBend l (Straight (twoOf l)) (Bent (threeOf l))
+
 pub level-drawn : (l : Leader) → l .y ≡ l .port → leaderDrawn l ≡ Straight (twoOf l)
 unfolding leaderDrawn
-level-drawn l e = ap (λ (b : Bool). cond b (Straight (twoOf l)) (Bent (threeOf l))) (eq-eqb (distance (l .y) (l .port)) 0 (zero-apart (l .y) (l .port) e))
+level-drawn l = by-level l (Straight (twoOf l)) (Bent (threeOf l))
 
 pub bend-drawn : (l : Leader) → (l .y ≡ l .port → ⊥) → leaderDrawn l ≡ Bent (threeOf l)
 unfolding leaderDrawn
-bend-drawn l n =
-    ap (λ (b : Bool). cond b (Straight (twoOf l)) (Bent (threeOf l))) (ne-eqb (distance (l .y) (l .port)) 0 (λ e. n (apart-zero (l .y) (l .port) e)))
+bend-drawn l = by-bend l (Straight (twoOf l)) (Bent (threeOf l))
 
 -- ---- the paper's words
 
@@ -151,11 +162,11 @@ halves s n = fin s n (negsuc 0)
 -- J5, record 2 to port 0: (7.5, -7.5), (7.5, 0), (0, 0)
 pub bent-sheet : leaderDrawn (leader (boardOf (records J5)) 2 0)
     ≡ Bent (record { pad = at (halves false 15) (halves true 15); bend = at (halves false 15) nought; port = at nought nought })
-unfolding leaderDrawn canvas quarter round xOf yOf portOf twos
+unfolding leaderDrawn byBend canvas quarter round xOf yOf portOf twos
 bent-sheet = refl
 
 -- J5, record 0 to port 1: (2.5, -2.5), (0, -2.5)
 pub straight-sheet : leaderDrawn (leader (boardOf (records J5)) 0 1)
     ≡ Straight (record { pad = at (halves false 5) (halves true 5); port = at nought (halves true 5) })
-unfolding leaderDrawn canvas quarter round xOf yOf portOf twos
+unfolding leaderDrawn byBend canvas quarter round xOf yOf portOf twos
 straight-sheet = refl

@@ -17,7 +17,7 @@ use lib.IntN.{ℤ, pos, negsuc, natAbs}
 use lib.Ieee.{Float, binary32, round}
 use lib.Ieee.Scale.{round-same}
 use Rattle.numbers.specs.Floats.{round-back}
-use Rattle.text.specs.Text.{bytes, digits, decimal, Begins, value}
+use Rattle.text.specs.Text.{bytes, digits, decimal, joined, Begins, value}
 use Rattle.text.specs.Digits.{value-append, decimal-reads, decimal-digits, free, free-append, decimal-free, begins-append, decimal-first}
 use Rattle.paper.specs.declared.Point.{Point}
 use Rattle.paper.specs.declared.Two.{Two}
@@ -32,7 +32,7 @@ use Rattle.paper.specs.Layouts.{Board, boardOf, held, leader, byWeights}
 use Rattle.paper.specs.Refusals.{Passed, measureTrials, drawTrials, jobTrials, numberTrial}
 use Rattle.paper.specs.Promises.{drawnNumber, overwritten, DrawPromise, SvgAnswers}
 use Rattle.paper.specs.Canvas.{negative, Draws, coordinates}
-use Rattle.paper.specs.Svg.{fraction, quarters, numeral, Written, PointWritten, line, LineWritten, inOrder, SheetWritten}
+use Rattle.paper.specs.Svg.{fraction, quarters, numeral, Written, PointWritten, line, LineWritten, SheetWritten}
 use Rattle.paper.specs.Svg.{toFirst, cut, nearest, readNumber, readLine, lineAt}
 use Rattle.paper.specs.laws.Trials.{passed-append}
 use Rattle.paper.specs.laws.Decided.{sound-parts}
@@ -278,7 +278,7 @@ nth-first lines (suc n) i ss h = rw append-assoc (go (nth-first lines n i (lines
 
 -- Lines without a newline, a newline after each, are cut into the same lines.
 lines-cut : (lines : ℕ → List ℕ) (n : ℕ) (t : List ℕ) → ((i : ℕ) → i < n → free (eqb 10) (lines i) ≡ true)
-    → cut (eqb 10) (inOrder lines n ++ t) ≡ firsts lines n ++ cut (eqb 10) t
+    → cut (eqb 10) (joined (λ i. lines i ++ bytes "\n") n ++ t) ≡ firsts lines n ++ cut (eqb 10) t
 lines-cut lines zero t h = refl
 lines-cut lines (suc n) t h =
     simp append-assoc
@@ -287,7 +287,7 @@ lines-cut lines (suc n) t h =
 -- The text of a layout is its lines, and nothing after the last newline.
 sheet-cut : (b : Board) (f : ℕ → ℕ) (s : List ℕ) (w : SheetWritten b f s) → cut (eqb 10) s ≡ firsts (w .lines) (b .pads) ++ ([] ∷ [])
 sheet-cut b f s w =
-    ap (cut (eqb 10)) (w .text ∙ sym (append-nil (inOrder (w .lines) (b .pads))))
+    ap (cut (eqb 10)) (w .text ∙ sym (append-nil (joined (λ i. w .lines i ++ bytes "\n") (b .pads))))
     ∙ lines-cut (w .lines) (b .pads) [] (λ i h. line-free (w .drawn i) (w .lines i) (w .written i h))
 
 -- THEOREM. Line i of the text is the line of record i,

@@ -1,29 +1,27 @@
 -- What is written of a leader, and of a sheet: `lineText` and `sheetText` satisfy the paper's words, and nothing else does.
 --     line-is, line-only;  sheet-is, sheet-only;  sheet-short: its length;  line-parts: how it is put together
 use mathlib.Core.Path.{_≡_, refl, sym, ap, _∙_}
-use mathlib.Core.Bool.{Bool, cond, true≢false, false≢true}
+use mathlib.Core.Bool.{Bool, true≢false, false≢true}
 use mathlib.Core.List.{List, _++_}
 use Prim.Native.Nat.{ℕ, zero, suc, _*_, _/_, _%_, _≤_, _<_}
 use native.Mathlib.Nat.{le-trans, le-of-eq, suc-inj, eq-of-mul-eq-mul-right}
 use native.Mathlib.Omega.{arith}
-use lib.Dec.{eqb}
 use lib.ListN.{length, length-append}
 use lib.IntN.{ℤ, pos, negsuc, negℤ, natAbs, ℤ-discrete}
 use lib.Ieee.{Float, fin, down}
 use lib.Ieee.Exact.{HasValue}
 use lib.Ieee.Fits.{down-pos}
-use borrow.Author.Tests.{eq-eqb, ne-eqb}
-use Rattle.numbers.specs.Signs.{natAbs-neg, apart-zero, zero-apart}
-use Rattle.text.specs.Text.{bytes}
+use Rattle.numbers.specs.Signs.{natAbs-neg}
+use Rattle.text.specs.Text.{bytes, joined}
 use Rattle.text.specs.Digits.{decimal-few}
 use Rattle.paper.specs.declared.Point.{Point}
 use Rattle.paper.specs.declared.Drawn.{Drawn}
 use Rattle.paper.specs.declared.Drawn.the-variants.{Straight, Bent, Refused as NotDrawn}
-use Rattle.paper.specs.Leaders.{Leader, distance}
+use Rattle.paper.specs.Leaders.{Leader}
 use Rattle.paper.specs.Layouts.{Board, leader}
 use Rattle.paper.specs.Canvas.{negative, FourTimesIs, StandsFor, Draws}
-use Rattle.paper.specs.Svg.{fraction, quarters, numeral, PointWritten, line, LineWritten, inOrder, SheetWritten}
-use Rattle.paper.specs.laws.Drawn.{OnSheet, leaderDrawn, drawn-is}
+use Rattle.paper.specs.Svg.{fraction, quarters, numeral, PointWritten, line, LineWritten, SheetWritten}
+use Rattle.paper.specs.laws.Drawn.{OnSheet, byBend, by-level, by-bend, leaderDrawn, drawn-is}
 
 -- ---- a number
 
@@ -68,15 +66,15 @@ abbrev pub bentText : Leader → List ℕ
 bentText l = line (pointText (l .x) (l .y) ++ bytes " " ++ pointText (l .x) (l .port) ++ bytes " " ++ pointText 0 (l .port))
 
 unfoldable pub lineText : Leader → List ℕ
-lineText l = cond (eqb (distance (l .y) (l .port)) 0) (straightText l) (bentText l)
+lineText l = byBend l (straightText l) (bentText l)
 
 pub level-text : (l : Leader) → l .y ≡ l .port → lineText l ≡ straightText l
 unfolding lineText
-level-text l e = ap (λ (b : Bool). cond b (straightText l) (bentText l)) (eq-eqb (distance (l .y) (l .port)) 0 (zero-apart (l .y) (l .port) e))
+level-text l = by-level l (straightText l) (bentText l)
 
 pub bend-text : (l : Leader) → (l .y ≡ l .port → ⊥) → lineText l ≡ bentText l
 unfolding lineText
-bend-text l n = ap (λ (b : Bool). cond b (straightText l) (bentText l)) (ne-eqb (distance (l .y) (l .port)) 0 (λ e. n (apart-zero (l .y) (l .port) e)))
+bend-text l = by-bend l (straightText l) (bentText l)
 
 -- What draws a leader is written so, and in no other way.
 pub line-is : (l : Leader) (d : Drawn) → Draws l d → LineWritten d (lineText l)
@@ -110,7 +108,7 @@ line-only l (NotDrawn r) s w x = absurd w
 
 -- The text of the first n records.
 abbrev pub linesText : Board → (ℕ → ℕ) → ℕ → List ℕ
-linesText b f = inOrder (λ i. lineText (leader b i (f i)))
+linesText b f = joined (λ i. lineText (leader b i (f i)) ++ bytes "\n")
 
 abbrev pub sheetText : Board → (ℕ → ℕ) → List ℕ
 sheetText b f = linesText b f (b .pads)
@@ -128,12 +126,12 @@ sheet-is b f on = record {
   text = refl;
 }
 
-same-lines : (k m : ℕ → List ℕ) (n : ℕ) → ((i : ℕ) → i < n → k i ≡ m i) → inOrder k n ≡ inOrder m n
+same-lines : (k m : ℕ → List ℕ) (n : ℕ) → ((i : ℕ) → i < n → k i ≡ m i) → joined (λ i. k i ++ bytes "\n") n ≡ joined (λ i. m i ++ bytes "\n") n
 same-lines k m zero e = refl
 same-lines k m (suc n) e =
     let before = same-lines k m n (λ i h. e i (omega arith)) in
     let here = e n (omega arith) in
-    λ i. before i ++ here i ++ bytes "\n"
+    λ i. before i ++ (here i ++ bytes "\n")
 
 pub sheet-only : (b : Board) (f : ℕ → ℕ) (s : List ℕ) → SheetWritten b f s → s ≡ sheetText b f
 sheet-only b f s w =

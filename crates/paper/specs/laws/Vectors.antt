@@ -10,7 +10,7 @@ use Rattle.paper.specs.Layouts.{boardOf, leader}
 use Rattle.paper.specs.Canvas.{coordinates}
 use Rattle.paper.specs.Sheets.{sample, J5}
 use Rattle.paper.specs.laws.Quarter.{quarter}
-use Rattle.paper.specs.laws.Drawn.{canvas, leaderDrawn}
+use Rattle.paper.specs.laws.Drawn.{byBend, canvas, leaderDrawn}
 
 -- How many records, the fields of the second, the last four bytes as the last of eight ports, and the last number that is not negative.
 pub fields-read : (count sample ≡ 2) × (nameOf sample 1 ≡ 513) × (halfOf sample 1 ≡ 1027) × (xOf sample 1 ≡ 134678021)
@@ -23,5 +23,5 @@ fields-read = (refl, refl, refl, refl, refl, refl, refl, refl, refl, refl)
 pub coordinates-read : (coordinates (leaderDrawn (leader (boardOf (records J5)) 2 0))
     ≡ quarter (pos 30) ∷ quarter (negℤ (pos 30)) ∷ quarter (pos 30) ∷ quarter (pos 0) ∷ quarter (pos 0) ∷ quarter (pos 0) ∷ [])
     × (coordinates (leaderDrawn (leader (boardOf (records J5)) 0 1)) ≡ quarter (pos 10) ∷ quarter (negℤ (pos 10)) ∷ quarter (pos 0) ∷ quarter (negℤ (pos 10)) ∷ [])
-unfolding leaderDrawn canvas quarter round xOf yOf portOf twos
+unfolding leaderDrawn byBend canvas quarter round xOf yOf portOf twos
 coordinates-read = (refl, refl)

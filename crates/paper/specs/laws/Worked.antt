@@ -25,6 +25,7 @@ use Rattle.paper.specs.laws.Totals.{totalOf}
 use Rattle.paper.specs.Sheets.{copper, sheet, sheets, Each, Call, First, Next, Measure, Sheet, AllowedBy, Allowed, pages, PageSheet, PageAllowed}
 use Rattle.text.specs.Text.{digits, decimal}
 use Rattle.paper.specs.Svg.{quarters, numeral}
+use Rattle.paper.specs.laws.Drawn.{byBend}
 use Rattle.paper.specs.laws.Texts.{pointText, lineText, sheetText}
 use Rattle.paper.specs.laws.Exported.{svgTests, svg-tests, svg-measured, svg-made}
 use Rattle.paper.specs.Sheets.{SvgSheet, SvgAllowed, svgSheets}
@@ -372,7 +373,7 @@ all-hold : T (allHold holds sheets) × T (allHold pageSheetHolds pages) × T (ho
     × T (allHold countSheetHolds countSheets) × T (allHold placeSheetHolds placeSheets) × T (allHold svgSheetHolds svgSheets)
 unfolding heads words any someWord leastTest misled untouchingTest differRight decidedAt beforeTest cheaper bestTest firstTest laterTest nextTest lastTest
     somewhere outside between leadersTouch reaches notRight underTop overBottom meets meetsLarge jobTests layoutTests soundTests firstTests measureTests nextTests
-    twos nameOf halfOf xOf yOf lastOf portOf lengthOf bendsOf sum weighted digits decimal quarters numeral pointText lineText
+    twos nameOf halfOf xOf yOf lastOf portOf lengthOf bendsOf sum weighted digits decimal quarters numeral pointText lineText byBend
 all-hold = (tt, tt, tt, tt, tt, tt, tt, tt)
 
 pub copper-first : FirstAnswers (records (copper 4)) (byWeights 1 0) Unlent (9 ∷ 9 ∷ []) (Total 84) (1 ∷ 0 ∷ [])

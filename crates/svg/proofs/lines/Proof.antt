@@ -8,7 +8,7 @@ use mir.Syntax.{w64}
 use mir.Val.{toZ, ofZ}
 use borrow.Author.Needs.{needs, sfits-of}
 use Rattle.text.specs.Text.{Writes}
-use Rattle.text.specs.Writing.{writes-none, writes-length}
+use Rattle.text.specs.Writing.{writes-none, writes-length, writes-joined}
 use Rattle.paper.specs.declared.Work.the-variants.{Unlent}
 use Rattle.paper.specs.Job.{records, count}
 use Rattle.paper.specs.Leaders.{Leader}
@@ -16,7 +16,7 @@ use Rattle.paper.specs.Layouts.{byWeights, boardOf, held, leader}
 use Rattle.paper.specs.laws.Accepted.{measure-facts, measure-entries}
 use Rattle.paper.specs.laws.Texts.{linesText}
 use Rattle.paper.specs.laws.Exported.{all-on-sheet, text-bound}
-use Rattle.svg.proofs.Parts.{lines-more, lines-room}
+use Rattle.svg.proofs.Parts.{lines-room}
 use Rattle.svg.proofs.lines.Statement.{statement}
 use Rattle.svg.proofs.lines.Tie as tie
 
@@ -93,7 +93,7 @@ loop-again c =
     let at = p .before .before .before .before .before in
     let s = at .before .before .before .before .before in
     let written = rw (leader-is p) at (l .line .ensures) in
-    (omega arith, lines-more (boardOf (records (now (s .args .job)))) (held (now (s .args .list))) (at .loop .i) (at .loop .inv .1) written)
+    (omega arith, writes-joined _ (at .loop .i) (at .loop .inv .1) written)
 
 same-length : tie.Need-same-length Inv-loop μ-loop
 same-length c = writes-length (c .before .loop .inv .1)
