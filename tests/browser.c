@@ -60,7 +60,7 @@ static void put_board(size_t n, enum board kind) {
     put_sheet(job, n, layout);
 }
 
-/* Heights from one on, in steps, x down from a number: odd ones, up to the largest. */
+/* Ports from a height on, in steps, every third pad level with its port; x down from a number. */
 static void put_range(int64_t from, int64_t step, int64_t x) {
     uint8_t job[CHEREMYSL_MAX_JOB_BYTES];
     uint16_t layout[PADS];
@@ -80,7 +80,7 @@ int main(int argc, char **argv) {
     fputs("<svg xmlns=\"http://www.w3.org/2000/svg\">\n", svg);
     for (size_t k = 0; k < ROUNDS * PADS; k++) put_board(1 + k % PADS, (enum board)(k % BOARDS));
     put_range(-1000000, 8, 64);
-    put_range(1000000 - 8 * PADS, 8, 1000000);
+    put_range(1000000 - 8 * (PADS - 1), 8, 1000000);
     put_range(-32 * 31249, 31249, 999999);
     put_range(-8 * 32 - 1, 9, 100003);
     fputs("</svg>\n", svg);

@@ -648,12 +648,13 @@ svg-passed = by.Exported.svg-passed
 pub one-text : (b : Board) (f : ℕ → ℕ) (s t : List ℕ) → SheetWritten b f s → SheetWritten b f t → s ≡ t
 one-text = by.Texts.sheet-one
 
--- By 19 it refuses exactly if Measure's are passed and the text is too long. A text has at most 4,864 bytes, so with room for these it never does.
+-- By 19 it refuses exactly if Measure's are passed and the text is too long. A text has at most 76 bytes for each record, and so 4,864; with room for these
+-- it never does.
 pub svg-too-long : (job list before : List ℕ) (m : ℤ) (after : List ℕ) → SvgPromise job list before m after
     → (m ≡ refusalNumber (refusal 19 0 0)) ↔ (Passed (measureTrials (records job) (byWeights 0 0) Unlent list) × TooLong (boardOf (records job)) (held list) (length before))
 svg-too-long job list before m after = by.Named.svg-too-long job list before after m
 
-pub svg-bound : (job list before : List ℕ) (k : ℕ) (after : List ℕ) → SvgPromise job list before (pos k) after → k ≤ 4864
+pub svg-bound : (job list before : List ℕ) (k : ℕ) (after : List ℕ) → SvgPromise job list before (pos k) after → (k ≤ 76 * count job) × (k ≤ 4864)
 svg-bound job list before k after p = by.Bounds.svg-bound job list before k after (svg-answers job list before k after .0 p)
 
 pub svg-roomy : (job list before : List ℕ) (m : ℤ) (after : List ℕ) → SvgPromise job list before m after → 4864 ≤ length before → m ≢ refusalNumber (refusal 19 0 0)

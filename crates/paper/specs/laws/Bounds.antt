@@ -2,7 +2,7 @@
 --     first-bounded, next-bounded, measure-bounded, place-bounded, page-counted, count-bounded, svg-bounded
 use mathlib.Core.Path.{_≡_}
 use mathlib.Core.List.{List}
-use Prim.Native.Nat.{ℕ, _^_, _≤_, _<_}
+use Prim.Native.Nat.{ℕ, _*_, _^_, _≤_, _<_}
 use native.Mathlib.Nat.{mul-le-mul-left}
 use native.Mathlib.Omega.{arith}
 use lib.ListN.{length}
@@ -12,7 +12,7 @@ use Rattle.paper.specs.declared.Counted.{Counted}
 use Rattle.paper.specs.declared.Counted.the-variants.{Many, Refused as NotCounted}
 use Rattle.paper.specs.declared.Work.{Work}
 use Rattle.paper.specs.declared.Work.the-variants.{Unlent}
-use Rattle.paper.specs.Job.{Job}
+use Rattle.paper.specs.Job.{Job, count}
 use Rattle.paper.specs.Layouts.{boardOf, held, Badness, Layout}
 use Rattle.paper.specs.Problem.{labelingOf}
 use Rattle.paper.specs.Refusals.{Passed, soundTrials, firstTrials, callsOf}
@@ -21,7 +21,7 @@ use Rattle.paper.specs.laws.Trials.{append-passed}
 use Rattle.paper.specs.laws.Totals.{totalOf}
 use Rattle.paper.specs.laws.Accepted.{Narrow, sound-accepted, first-sound, measure-accepted, measure-facts, next-measured, total-most}
 use Rattle.paper.specs.laws.Places.{place-best, count-few}
-use Rattle.paper.specs.laws.Exported.{text-bound, svg-measured, svg-text}
+use Rattle.paper.specs.laws.Exported.{text-short, text-bound, svg-measured, svg-text}
 
 abbrev pub Bounded : Answer → Type 0
 Bounded (Total t) = t ≤ 274877906880
@@ -77,11 +77,13 @@ pub count-bounded : (job : Job) (bad : Badness) (numbers : ℕ) (a : Counted) �
 count-bounded job bad numbers (Many k) (p, is) = omega (arith, count-few (callsOf job bad Unlent) numbers k p is)
 count-bounded job bad numbers (NotCounted r) c = tt
 
--- A text has at most 4,864 bytes.
-pub svg-bound : (job list before : List ℕ) (k : ℕ) (after : List ℕ) → SvgAnswers job list before (Many k) after → k ≤ 4864
+-- A text has at most 76 bytes for each record, and 4,864.
+pub svg-bound : (job list before : List ℕ) (k : ℕ) (after : List ℕ) → SvgAnswers job list before (Many k) after → (k ≤ 76 * count job) × (k ≤ 4864)
 svg-bound job list before k after a =
-    omega (arith, svg-text job list before k after a .0, text-bound job list (svg-measured job list (length before) (a .0) .0))
+    let is = svg-text job list before k after a .0 in
+    let p = svg-measured job list (length before) (a .0) .0 in
+    (omega (arith, is, text-short job list p), omega (arith, is, text-bound job list p))
 
 pub svg-bounded : (job list before : List ℕ) (a : Counted) (after : List ℕ) → SvgAnswers job list before a after → BoundedCount a
-svg-bounded job list before (Many k) after a = omega (arith, svg-bound job list before k after a)
+svg-bounded job list before (Many k) after a = omega (arith, svg-bound job list before k after a .1)
 svg-bounded job list before (NotCounted r) after a = tt

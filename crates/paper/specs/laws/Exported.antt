@@ -4,7 +4,7 @@
 use mathlib.Core.Path.{_≡_, refl, ap, subst, _∙_}
 use mathlib.Core.Logic.{_↔_, Iff·trans}
 use mathlib.Core.List.{List, [], _∷_, _++_}
-use Prim.Native.Nat.{ℕ, _≤_, _<_}
+use Prim.Native.Nat.{ℕ, _*_, _≤_, _<_}
 use native.Mathlib.Omega.{arith}
 use lib.Dec.{ltb}
 use lib.ListN.{length}
@@ -12,7 +12,7 @@ use Rattle.numbers.specs.Tests.{ltb-iff}
 use Rattle.paper.specs.declared.Refusal.{Refusal}
 use Rattle.paper.specs.declared.Work.the-variants.{Unlent}
 use Rattle.paper.specs.declared.Counted.the-variants.{Many}
-use Rattle.paper.specs.Job.{records}
+use Rattle.paper.specs.Job.{records, count}
 use Rattle.paper.specs.Layouts.{Board, boardOf, held, byWeights}
 use Rattle.paper.specs.Refusals.{Passed, RefusedBy, refusal, ofWhole, measureTrials, TooLong, svgTrials}
 use Rattle.paper.specs.Svg.{SheetWritten}
@@ -40,11 +40,12 @@ module _ (job list : List ℕ) where
       let a = measure-facts (records job) (byWeights 0 0) Unlent list p .0 in
       record { right = a .width i h; pad = a .pad i h; port = a .port (held list i) (measure-entries (records job) (byWeights 0 0) Unlent list p i h) }
 
-  -- So a text has at most 4,864 bytes.
+  -- So a text has at most 76 bytes for each record, and 4,864.
+  pub text-short : given → length text ≤ 76 * count job
+  text-short p = lines-short (boardOf (records job)) (held list) (all-on-sheet p) (count job) (omega arith)
+
   pub text-bound : given → length text ≤ 4864
-  text-bound p =
-      let few = measure-facts (records job) (byWeights 0 0) Unlent list p .0 .few in
-      omega (arith, lines-short (boardOf (records job)) (held list) (all-on-sheet p) (boardOf (records job) .pads) (omega arith))
+  text-bound p = omega (arith, text-short p, measure-facts (records job) (byWeights 0 0) Unlent list p .0 .few)
 
   module _ (room : ℕ) where
     -- Svg's trials are passed exactly if Measure's are and the text fits.
