@@ -54,7 +54,7 @@ lines-none job list b = writes-none b 0
 pub lines-more : (job list : List ℕ) (i : ℕ) {b m a : List ℕ} {r q : ℕ} → Writes b 0 (lines job list i) r m → Writes m r (line job i (held list i)) q a
     → Writes b 0 (lines job list (i + 1)) q a
 unfolding lines
-lines-more job list = writes-joined (λ i. line job i (held list i))
+lines-more job list i f g = writes-joined (λ i. line job i (held list i)) i f g
 
 -- First's total with the weights 1, 0 is the sum of lengths, and Measure's with 0, 1 the sum of bends.
 lengths-are : (job list : List ℕ) (t : ℕ) → t ≡ totalOf (boardOf (records job)) (byWeights 1 0) list → t ≡ lengths job list
