@@ -84,7 +84,7 @@ abbrev pub readNumber : List ℕ → Float
 readNumber [] = nearest false []
 readNumber (c ∷ s) = cond (eqb c 45) (nearest true (cut (eqb 46) s)) (nearest false (cut (eqb 46) (c ∷ s)))
 
--- The numbers between the quotes of a line, and the line with that number.
+-- The numbers between the quotes of a line; and line i of a text.
 unfoldable pub readLine : List ℕ → List Float
 readLine s = map readNumber (cut (λ c. eqb 44 c || eqb 32 c) (getD (cut (eqb 34) s) 1 []))
 
