@@ -91,10 +91,10 @@ static bool on_slots(int call) { return call == SLOTS_FIRST || call == SLOTS_NEX
 /* Every second mark ends a stretch, whose instructions the emulator's plugin prints (insns.c); a dozen are the caller's. */
 static void mark(void) { (void)getppid(); }
 
-/* Asks with a page that holds other numbers than any layout, a text of zeros, and keeps a copy of what they then hold. */
+/* Asks with a page that holds other numbers than any layout, a text of other bytes than any line's, and keeps a copy of what they then hold. */
 static int64_t ask(call_of *call, uint16_t *layout, void *copy) {
     for (size_t k = 0; k < PAGE_ENTRIES; k++) lent.page[k] = (uint16_t)(1000 + k);
-    memset(lent.text, 0, sizeof lent.text);
+    memset(lent.text, '*', sizeof lent.text);
     mark();
     int64_t answer = call(layout);
     mark();

@@ -244,7 +244,8 @@ class Cheremysl:
         return [(points[2 * k], points[2 * k + 1]) for k in range(count)]
 
     def svg(self, job, layout, room=SVG_BYTES * MAX_RECORDS):
-        """The leaders of a sheet on which nothing touches, best or not: a line of SVG for each."""
+        """The leaders of a sheet on which nothing touches, best or not: a line of SVG for each.
+        The room, in bytes, is enough for any."""
         text = ctypes.create_string_buffer(room)
         written = self._ask_lists(self._svg, job, *layout_of(layout), text, room)
         return text.raw[:written].decode("ascii")

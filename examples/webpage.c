@@ -41,7 +41,7 @@ static struct led led_by(const struct given_sheet *s, size_t i) {
     return (struct led){at[0], at[1], pad_half(s, i) / 4.0, at[2 * points - 1]};
 }
 
-/* Letters as high as four fifths of the least distance of two ports, so that labels stay apart. */
+/* Letters of four fifths of the least distance of two ports, 8 at most: labels stay apart. */
 static double letter_for(const struct led *led, size_t n) {
     double least = 10;
     for (size_t k = 0; k < n * n; k++) {

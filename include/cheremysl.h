@@ -672,7 +672,7 @@ int64_t cheremysl_draw(const uint8_t *job, size_t job_bytes, uint32_t record, ui
  *      char text[CHEREMYSL_MAX_SVG_BYTES];
  *      int64_t bytes = cheremysl_svg(job, job_bytes, layout, n, text, sizeof text);
  *      if (bytes >= 0) {
- *          puts("<svg viewBox=\"0 -10 10 12\" fill=\"none\" stroke=\"black\">");
+ *          puts("<svg viewBox=\"-1 -10 10 12\" fill=\"none\" stroke=\"black\">");
  *          fwrite(text, 1, (size_t)bytes, stdout);
  *          puts("</svg>");
  *      }

@@ -210,7 +210,7 @@ static struct square square_of(const struct leader *l) {
     return (struct square){{larger(0, x - half), 0}, {y - half, 0}, {x + half, 0}, {y + half, 0}};
 }
 
-/* What stands between the quotes of the text, a line, and how many bytes it has. */
+/* Keeps what stands between the quotes of a line of so many bytes. */
 static void keep_points(struct leader *l, const char *text, size_t bytes) {
     const char *from = (const char *)memchr(text, '"', bytes) + 1;
     size_t left = bytes - (size_t)(from - text);

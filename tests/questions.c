@@ -45,7 +45,8 @@ size_t any_room(size_t n) {
 }
 
 size_t any_text_room(const struct question *q) {
-    size_t enough = text_length(q), rest = TEXT_ROOM - enough;
+    size_t length = text_length(q), enough = length < TEXT_ROOM ? length : TEXT_ROOM;
+    size_t rest = TEXT_ROOM - enough;
     return enough + (below(2) ? 0 : below(2) ? below(4) : below((uint32_t)rest + 1));
 }
 

@@ -1,10 +1,10 @@
 /*
- * svg [COUNT [SEED]]: Svg's text beside another writer, libc's, and beside Draw, by reading it back.
+ * svg [COUNT [SEED]]: Svg's text beside another writer, libc's, and beside Draw, read back.
  * Every number that a text can have, in every place that it can have, and numbers beyond these;
- * boards of 1 to 64 pads of every kind, best sheets and others, squares among them; rooms of every
- * size around the text's own, the largest text among them, and rooms of more than 32 bits; each byte
- * of a job and each entry of a layout changed, where Svg refuses what Measure refuses with weights
- * 0, 0.
+ * boards of 1 to 64 pads of every kind, best sheets and others, squares among them; rooms of no
+ * byte, of one too few, just enough and more, the largest text among them, and rooms of more than
+ * 32 bits; each byte of a job and each entry of a layout changed, where Svg refuses what Measure
+ * refuses with weights 0, 0. With a COUNT below 300 about a tenth of the numbers are tried.
  */
 #define _DEFAULT_SOURCE
 #include <stdio.h>
@@ -229,13 +229,13 @@ static void any_sheet(struct question *q, size_t n, enum board kind) {
     any_squares(q->job, &plan);
 }
 
-/* First's sheet, and some that follow; false if there is none. */
-static bool best_ones(struct question *q) {
+/* First's sheet, and some that follow. */
+static void best_ones(struct question *q) {
     static struct question step;
     step = *q;
     any_weights(&step.a, &step.b);
     step.call = FIRST;
-    if (FIRST >= CALLS || call_library(&step) < 0) return false;
+    if (FIRST >= CALLS || call_library(&step) < 0) return;
     for (int k = 0; k < 3; k++) {
         q->list = step.list;
         in_rooms(q);
@@ -243,7 +243,6 @@ static bool best_ones(struct question *q) {
         step.call = NEXT;
         if (call_library(&step) < 0) break;
     }
-    return true;
 }
 
 static void one_board(size_t n, enum board kind) {

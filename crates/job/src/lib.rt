@@ -37,7 +37,7 @@ fn signed(n: u32) -> i64
     ((((n as u64) + 2147483648) % 4294967296) as i64) - 2147483648
 }
 
-// A difference of heights without its sign.
+// A height, or a difference of two, without its sign.
 pub fn size(d: i64) -> u64
     requires { ⌜ natAbs d < 4294967296 ⌝ }
     ensures { λ r. ⌜ r ≡ natAbs d ⌝ }

@@ -42,11 +42,11 @@ Written a s = (v : ℤ) × FourTimesIs a v × (s ≡ numeral v)
 abbrev pub PointWritten : Point → List ℕ → Type 0
 PointWritten p s = (x y : List ℕ) × Written (p .x) x × Written (p .y) y × (s ≡ x ++ bytes "," ++ y)
 
--- The points of a leader, a blank between two, in a line.
+-- The line around the text of a leader's points.
 abbrev pub line : List ℕ → List ℕ
 line points = bytes "<polyline points=\"" ++ points ++ bytes "\"/>"
 
--- What Draw answers, written s: the pad's point first, the port's last.
+-- What Draw answers, written s: the pad's point first, the port's last, a blank between two.
 abbrev pub LineWritten : Drawn → List ℕ → Type 0
 LineWritten (Straight d) s = (pad port : List ℕ) × PointWritten (d .pad) pad × PointWritten (d .port) port × (s ≡ line (pad ++ bytes " " ++ port))
 LineWritten (Bent d) s =
@@ -64,11 +64,12 @@ pub record SheetWritten (b : Board) (f : ℕ → ℕ) (s : List ℕ) : Type 0 wh
 
 -- ---- reading such a text
 
--- A text cut at each byte of which `at` says so.
+-- A byte put before the first of some pieces.
 abbrev pub toFirst : ℕ → List (List ℕ) → List (List ℕ)
 toFirst c [] = []
 toFirst c (s ∷ ss) = (c ∷ s) ∷ ss
 
+-- A text in pieces, cut at each byte of which `at` says so; these bytes are left out.
 abbrev pub cut : (ℕ → Bool) → List ℕ → List (List ℕ)
 cut at [] = [] ∷ []
 cut at (c ∷ s) = cond (at c) ([] ∷ cut at s) (toFirst c (cut at s))

@@ -648,8 +648,8 @@ svg-passed = by.Exported.svg-passed
 pub one-text : (b : Board) (f : ℕ → ℕ) (s t : List ℕ) → SheetWritten b f s → SheetWritten b f t → s ≡ t
 one-text = by.Texts.sheet-one
 
--- By 19 it refuses exactly if Measure's are passed and the text is too long. A text has at most 76 bytes for each record, and so 4,864; with room for these
--- it never does.
+-- By 19 it refuses exactly if Measure's are passed and the text is too long. It answers at most 76 bytes for each record, and so 4,864; with room for 76 a record, or
+-- for 4,864, it never refuses by 19.
 pub svg-too-long : (job list before : List ℕ) (m : ℤ) (after : List ℕ) → SvgPromise job list before m after
     → (m ≡ refusalNumber (refusal 19 0 0)) ↔ (Passed (measureTrials (records job) (byWeights 0 0) Unlent list) × TooLong (boardOf (records job)) (held list) (length before))
 svg-too-long job list before m after = by.Named.svg-too-long job list before after m
@@ -657,11 +657,15 @@ svg-too-long job list before m after = by.Named.svg-too-long job list before aft
 pub svg-bound : (job list before : List ℕ) (k : ℕ) (after : List ℕ) → SvgPromise job list before (pos k) after → (k ≤ 76 * count job) × (k ≤ 4864)
 svg-bound job list before k after p = by.Bounds.svg-bound job list before k after (svg-answers job list before k after .0 p)
 
+pub svg-enough : (job list before : List ℕ) (m : ℤ) (after : List ℕ) → SvgPromise job list before m after → 76 * count job ≤ length before
+    → m ≢ refusalNumber (refusal 19 0 0)
+svg-enough job list before m after p h e = by.Exported.svg-enough job list (length before) h (svg-too-long job list before m after p .0 e)
+
 pub svg-roomy : (job list before : List ℕ) (m : ℤ) (after : List ℕ) → SvgPromise job list before m after → 4864 ≤ length before → m ≢ refusalNumber (refusal 19 0 0)
 svg-roomy job list before m after p h e = by.Exported.svg-roomy job list (length before) h (svg-too-long job list before m after p .0 e)
 
 -- The text determines the points. Line i, read back, is what Draw answers for record i and its port: how many points, and their coordinates. Any two drawn answers
--- that have one line are equal, and there is a line for each record.
+-- that have one line are equal; cut at its newlines a text has a piece for each record, and one more.
 pub svg-reads : (job list before : List ℕ) (k : ℕ) (after : List ℕ) → SvgPromise job list before (pos k) after → (i : ℕ) → i < count job
     → (room : List Float) (m : ℤ) (points : List Float) → 6 ≤ length room → DrawPromise job i (held list i) room m points
     → let read = readLine (lineAt (take k after) i) in (m ≡ pos (length read / 2)) × (points ≡ overwritten read room)

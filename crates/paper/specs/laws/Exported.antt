@@ -66,7 +66,10 @@ module _ (job list : List ℕ) where
       (λ (p, (s, w, h)). svg-fits p (subst (λ (t : List ℕ). length t ≤ room) (sheet-only (boardOf (records job)) (held list) s w) h)),
     )
 
-    -- With room for the longest text none is too long.
+    -- With 76 bytes for each record no text is too long, nor with 4,864.
+    pub svg-enough : 76 * count job ≤ room → ¬ (given × TooLong (boardOf (records job)) (held list) room)
+    svg-enough h (p, long) = let k = long-iff (boardOf (records job)) (held list) room (all-on-sheet p) .1 long in omega (arith, text-short p)
+
     pub svg-roomy : 4864 ≤ room → ¬ (given × TooLong (boardOf (records job)) (held list) room)
     svg-roomy h (p, long) = let k = long-iff (boardOf (records job)) (held list) room (all-on-sheet p) .1 long in omega (arith, text-bound p)
 

@@ -1,5 +1,5 @@
 -- What is written of a leader, and of a sheet: `lineText` and `sheetText` satisfy the paper's words, and nothing else does.
---     line-is, line-only;  sheet-is, sheet-only;  sheet-short: its length;  line-parts: how it is put together
+--     line-is, line-only;  sheet-is, sheet-only, sheet-one;  line-short, lines-short: how long they are
 use mathlib.Core.Path.{_≡_, refl, sym, ap, _∙_}
 use mathlib.Core.Bool.{Bool, true≢false, false≢true}
 use mathlib.Core.List.{List, _++_}
