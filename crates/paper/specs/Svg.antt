@@ -7,7 +7,7 @@ use lib.Dec.{eqb}
 use lib.ListN.{length, getD}
 use lib.IntN.{ℤ, pos, negsuc}
 use lib.Ieee.{Float, binary32, round}
-use Rattle.text.specs.Text.{bytes, decimal, joined, value}
+use Rattle.text.specs.Text.{bytes, decimal, joined, readDigits}
 use Rattle.paper.specs.declared.Point.{Point}
 use Rattle.paper.specs.declared.Drawn.{Drawn}
 use Rattle.paper.specs.declared.Drawn.the-variants.{Straight, Bent, Refused as NotDrawn}
@@ -77,8 +77,8 @@ cut at (c ∷ s) = cond (at c) ([] ∷ cut at s) (toFirst c (cut at s))
 -- A number with that sign, cut at its point: the nearest 32-bit float.
 abbrev pub nearest : Bool → List (List ℕ) → Float
 nearest minus [] = round binary32 minus 0 1
-nearest minus (whole ∷ []) = round binary32 minus (value 0 whole) 1
-nearest minus (whole ∷ part ∷ more) = round binary32 minus (value 0 (whole ++ part)) (10 ^ length part)
+nearest minus (whole ∷ []) = round binary32 minus (readDigits 0 whole) 1
+nearest minus (whole ∷ part ∷ more) = round binary32 minus (readDigits 0 (whole ++ part)) (10 ^ length part)
 
 -- 45 is the byte of a minus, 46 of a point, 44 of a comma, 32 of a blank, 34 of a quote, 10 of a newline.
 abbrev pub readNumber : List ℕ → Float

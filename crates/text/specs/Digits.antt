@@ -7,7 +7,7 @@ use native.Mathlib.Decide.{decLt}
 use native.Mathlib.Omega.{arith}
 use lib.ListN.{length, length-append}
 use borrow.Author.Tests.{lt-ltb, le-ltb}
-use Rattle.text.specs.Text.{digits, decimal, Begins, value}
+use Rattle.text.specs.Text.{digits, decimal, Begins, readDigits}
 
 -- A number below 10 is its digit; any other has its last digit after those of its tenth.
 digits-one : (k n : ℕ) → n < 10 → digits (suc k) n ≡ (48 + n) ∷ []
@@ -74,22 +74,22 @@ decimal-digits (suc k) n h = go (decimal-digits k (n / 10) (omega arith)) (decLt
         let l : 10 ≤ n = omega arith in
         rw (decimal-more n l, digits-more (suc k) n l, f)
 
-pub value-append : (v : ℕ) (s t : List ℕ) → value v (s ++ t) ≡ value (value v s) t
-value-append v [] t = refl
-value-append v (d ∷ s) t = value-append (10 * v + (d - 48)) s t
+pub read-append : (v : ℕ) (s t : List ℕ) → readDigits v (s ++ t) ≡ readDigits (readDigits v s) t
+read-append v [] t = refl
+read-append v (d ∷ s) t = read-append (10 * v + (d - 48)) s t
 
-reads : (k n : ℕ) → n < k → value 0 (digits k n) ≡ n
+reads : (k n : ℕ) → n < k → readDigits 0 (digits k n) ≡ n
 reads zero n h = absurd (omega arith)
 reads (suc k) n h = go (λ l. reads k (n / 10) (omega arith)) (decLt n 10)
   where
-    go : (10 ≤ n → value 0 (digits k (n / 10)) ≡ n / 10) → Dec (n < 10) → value 0 (digits (suc k) n) ≡ n
+    go : (10 ≤ n → readDigits 0 (digits k (n / 10)) ≡ n / 10) → Dec (n < 10) → readDigits 0 (digits (suc k) n) ≡ n
     go f (yes l) = rw (digits-one k n l) (omega arith)
     go f (no w) =
         let l : 10 ≤ n = omega arith in
-        rw (digits-more k n l, value-append 0 (digits k (n / 10)) ((48 + n % 10) ∷ []), f l) (omega arith)
+        rw (digits-more k n l, read-append 0 (digits k (n / 10)) ((48 + n % 10) ∷ []), f l) (omega arith)
 
 -- THEOREM: the text tells the number.
-pub decimal-reads : (n : ℕ) → value 0 (decimal n) ≡ n
+pub decimal-reads : (n : ℕ) → readDigits 0 (decimal n) ≡ n
 unfolding decimal
 decimal-reads n = reads (suc n) n (omega arith)
 

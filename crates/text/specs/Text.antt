@@ -33,9 +33,9 @@ joined texts zero = []
 joined texts (suc n) = joined texts n ++ texts n
 
 -- Digits read as a number, after those that came to v. (Those of `decimal n` come to n: `decimal-reads`.)
-abbrev pub value : ℕ → List ℕ → ℕ
-value v [] = v
-value v (d ∷ s) = value (10 * v + (d - 48)) s
+abbrev pub readDigits : ℕ → List ℕ → ℕ
+readDigits v [] = v
+readDigits v (d ∷ s) = readDigits (10 * v + (d - 48)) s
 
 -- `text` is written from place `at` on, r is the place after it, and every other byte is kept. (`sets` of the kit: one store for each byte.)
 pub record Writes (before : List ℕ) (at : ℕ) (text : List ℕ) (r : ℕ) (after : List ℕ) : Type 0 where

@@ -17,8 +17,8 @@ use lib.IntN.{ℤ, pos, negsuc, natAbs}
 use lib.Ieee.{Float, binary32, round}
 use lib.Ieee.Scale.{round-same}
 use Rattle.numbers.specs.Floats.{round-back}
-use Rattle.text.specs.Text.{bytes, digits, decimal, joined, Begins, value}
-use Rattle.text.specs.Digits.{value-append, decimal-reads, decimal-digits, free, free-append, decimal-free, begins-append, decimal-first}
+use Rattle.text.specs.Text.{bytes, digits, decimal, joined, Begins, readDigits}
+use Rattle.text.specs.Digits.{read-append, decimal-reads, decimal-digits, free, free-append, decimal-free, begins-append, decimal-first}
 use Rattle.paper.specs.declared.Point.{Point}
 use Rattle.paper.specs.declared.Two.{Two}
 use Rattle.paper.specs.declared.Three.{Three}
@@ -92,11 +92,11 @@ quarters-read minus n =
         rw (append-nil (decimal (n / 4)), cut-free (eqb 46) (decimal (n / 4)) (whole (n / 4)), decimal-reads (n / 4))
         (round-same binary32 minus (n / 4) 1 n 4 (zero-lt-suc 0) (zero-lt-suc 3) (omega arith))
 
-    some : (part : List ℕ) → free (eqb 46) part ≡ true → value (n / 4) part * 4 ≡ n * 10 ^ length part → 0 < 10 ^ length part
+    some : (part : List ℕ) → free (eqb 46) part ≡ true → readDigits (n / 4) part * 4 ≡ n * 10 ^ length part → 0 < 10 ^ length part
         → nearest minus (cut (eqb 46) (decimal (n / 4) ++ 46 ∷ part)) ≡ round binary32 minus n 4
     some part h e p =
-        rw (cut-at (eqb 46) (decimal (n / 4)) 46 part (whole (n / 4)) refl, cut-free (eqb 46) part h, value-append 0 (decimal (n / 4)) part, decimal-reads (n / 4))
-        (round-same binary32 minus (value (n / 4) part) (10 ^ length part) n 4 p (zero-lt-suc 3) e)
+        rw (cut-at (eqb 46) (decimal (n / 4)) 46 part (whole (n / 4)) refl, cut-free (eqb 46) part h, read-append 0 (decimal (n / 4)) part, decimal-reads (n / 4))
+        (round-same binary32 minus (readDigits (n / 4) part) (10 ^ length part) n 4 p (zero-lt-suc 3) e)
 
 -- `at` is false of each byte that a numeral can have: a minus, a point, the digits.
 pub record Apart (at : ℕ → Bool) : Type 0 where
@@ -398,7 +398,7 @@ not-nought : (n : ℕ) → quarters (suc n) ≢ bytes "0"
 not-nought n z = go (suc n % 4) refl
   where
     go : (k : ℕ) → suc n % 4 ≡ k → ⊥
-    go zero e = absurd (omega (arith, sym (decimal-reads (suc n / 4)) ∙ ap (value 0) (sym (quarters-whole (suc n) e) ∙ z)))
+    go zero e = absurd (omega (arith, sym (decimal-reads (suc n / 4)) ∙ ap (readDigits 0) (sym (quarters-whole (suc n) e) ∙ z)))
     go (suc k) e = absurd (omega (arith, sym (quarters-last 0 (suc n) k e) ∙ ap (last 0) z))
 
 pub no-minus-zero : (v : ℤ) → numeral v ≢ bytes "-0"
