@@ -1,11 +1,11 @@
 -- DEFINITIONS. 01, "The job: records of 16 bytes, no header": record i brings one pad and one port. 02 adds "a second job form: pad records as before with the last
 -- field 0, and a separate list of 4-byte port heights, no header". A job is given by its bytes, each 0 to 255.
 use mathlib.Core.Bool.{cond}
-use mathlib.Core.List.{List}
-use Prim.Native.Nat.{ℕ, _+_, _*_, _/_}
+use mathlib.Core.List.{List, [], _∷_, _++_}
+use Prim.Native.Nat.{ℕ, _+_, _*_, _-_, _/_, _%_}
 use lib.Dec.{ltb}
 use lib.ListN.{length, getD}
-use lib.IntN.{ℤ, pos, _-ℤ_}
+use lib.IntN.{ℤ, pos, negsuc, _-ℤ_}
 use Rattle.paper.specs.declared.Form.{Form}
 use Rattle.paper.specs.declared.Form.the-variants.{Records, Slots}
 
@@ -73,3 +73,17 @@ portCount form ports = length ports / strideOf form
 
 unfoldable pub portOf : Form → List ℕ → ℕ → ℤ
 portOf form ports q = twos (u32At ports (strideOf form * q + offsetOf form))
+
+-- ---- in writing
+
+-- 4 bytes, lowest first; and a record of a name and a half-side, a pad (x, y) and a port height.
+abbrev pub bytes4 : ℕ → List ℕ
+bytes4 n = n % 256 ∷ n / 256 % 256 ∷ n / 65536 % 256 ∷ n / 16777216 ∷ []
+
+abbrev pub squareAndPort : ℕ → ℕ → ℕ → ℕ → ℕ → List ℕ
+squareAndPort name half x y port = bytes4 (name + 65536 * half) ++ bytes4 x ++ bytes4 y ++ bytes4 port
+
+-- A height in 32 bits, two's complement.
+abbrev pub bits : ℤ → ℕ
+bits (pos n) = n
+bits (negsuc n) = 4294967295 - n

@@ -6,6 +6,7 @@ pub mod Layouts
 pub mod Problem
 pub mod Canvas
 pub mod Svg
+pub mod Csv
 pub mod Refusals
 pub mod Points
 pub mod Promises

@@ -21,9 +21,10 @@ use Rattle.paper.specs.declared.Work.the-variants.{Unlent}
 use Rattle.paper.specs.Job.{Job, records}
 use Rattle.paper.specs.Layouts.{boardOf, held, leader, Badness}
 use Rattle.paper.specs.Problem.{Problem, FirstBest, NextBest, LastBest, PlaceBest, CountBest}
-use Rattle.paper.specs.Refusals.{Trial, Passed, RefusedBy, refusal, drawTrials, Calls, entries, callsOf, countTrials, placeTrials, svgTrials}
+use Rattle.paper.specs.Refusals.{Trial, Passed, RefusedBy, refusal, drawTrials, Calls, entries, callsOf, countTrials, placeTrials, svgTrials, csvTrials}
 use Rattle.paper.specs.Canvas.{DrawnStraight, DrawnBent, coordinates}
 use Rattle.paper.specs.Svg.{SheetWritten}
+use Rattle.paper.specs.Csv.{ReadWith, recordsOf}
 
 -- ---- C's number for each answer
 
@@ -41,7 +42,7 @@ number (Total t) = pos t
 number End = negsuc 0
 number (Refused r) = refusalNumber r
 
--- Page's, Count's and Svg's: how many layouts, or bytes, as itself, or the refusal's
+-- Page's, Count's, Svg's and Csv's: how many layouts, bytes or pads, as itself, or the refusal's
 abbrev pub countedNumber : Counted → ℤ
 countedNumber (Many k) = pos k
 countedNumber (NotCounted r) = refusalNumber r
@@ -64,7 +65,7 @@ abbrev pub inTurn : ℕ → List ℕ → List ℕ → ℕ → ℕ → ℕ
 inTurn n given page zero i = held given i
 inTurn n given page (suc k) i = held page (k * n + i)
 
--- Draw's coordinates and the bytes of a text fill the first places, and the places after those keep their content.
+-- Draw's coordinates, the bytes of a text and those of records fill the first places, and the places after those keep their content.
 abbrev pub overwritten : {A : Type 0} → List A → List A → List A
 overwritten cs before = cs ++ drop (length cs) before
 
@@ -203,15 +204,33 @@ DrawAnswers job i q before (NotDrawn r) after = RefusedBy (drawTrials job i q (l
 abbrev pub DrawPromise : List ℕ → ℕ → ℕ → List Float → ℤ → List Float → Type 0
 DrawPromise job i q before c after = (d : Drawn) × DrawAnswers job i q before d after × (c ≡ drawnNumber d)
 
--- SVG: the text of an untouching layout, best or not, fills the first bytes, and the answer is how many.
+-- Svg and Csv fill the first bytes of what they are lent, by such trials: `Is s k` says that s is what fills them, and k the answer.
+abbrev pub FillOver : List Trial → (List ℕ → ℕ → Type 0) → List ℕ → Counted → List ℕ → Type 0
+FillOver ts Is before (Many k) after = Passed ts × ((s : List ℕ) × Is s k × (after ≡ overwritten s before))
+FillOver ts Is before (NotCounted r) after = RefusedBy ts r × (after ≡ before)
+
+abbrev pub FillReplies : List Trial → (List ℕ → ℕ → Type 0) → List ℕ → ℤ → List ℕ → Type 0
+FillReplies ts Is before m after = (a : Counted) × FillOver ts Is before a after × (m ≡ countedNumber a)
+
+-- SVG: the text of an untouching layout, best or not, and the answer is how many bytes it has.
+abbrev pub SvgFills : List ℕ → List ℕ → List ℕ → ℕ → Type 0
+SvgFills job list s k = SheetWritten (boardOf (records job)) (held list) s × (k ≡ length s)
+
 abbrev pub SvgAnswers : List ℕ → List ℕ → List ℕ → Counted → List ℕ → Type 0
-SvgAnswers job list before (Many k) after =
-    Passed (svgTrials job list (length before))
-    × ((s : List ℕ) × SheetWritten (boardOf (records job)) (held list) s × (k ≡ length s) × (after ≡ overwritten s before))
-SvgAnswers job list before (NotCounted r) after = RefusedBy (svgTrials job list (length before)) r × (after ≡ before)
+SvgAnswers job list before = FillOver (svgTrials job list (length before)) (SvgFills job list) before
 
 abbrev pub SvgPromise : List ℕ → List ℕ → List ℕ → ℤ → List ℕ → Type 0
-SvgPromise job list before m after = (a : Counted) × SvgAnswers job list before a after × (m ≡ countedNumber a)
+SvgPromise job list before = FillReplies (svgTrials job list (length before)) (SvgFills job list) before
+
+-- CSV: the records of the pads that the text reads as, and the answer is how many pads.
+abbrev pub CsvFills : List ℕ → List ℕ → ℕ → Type 0
+CsvFills text s k = ReadWith text (λ pads. (s ≡ recordsOf pads) × (k ≡ length pads))
+
+abbrev pub CsvAnswers : List ℕ → List ℕ → Counted → List ℕ → Type 0
+CsvAnswers text before = FillOver (csvTrials text (length before)) (CsvFills text) before
+
+abbrev pub CsvPromise : List ℕ → List ℕ → ℤ → List ℕ → Type 0
+CsvPromise text before = FillReplies (csvTrials text (length before)) (CsvFills text) before
 
 -- ---- what is asked of a promise
 

@@ -1,4 +1,4 @@
--- DEFINITIONS. 01, "Refusal numbers", and of 02, 12 to 19, 24 and both records of 9: what is at fault for each number, and each call's trials, in their order.
+-- DEFINITIONS. 01, "Refusal numbers", and of 02, 12 to 22, 24 and both records of 9: what is at fault for each number, and each call's trials, in their order.
 use mathlib.Core.Path.{_≡_}
 use mathlib.Core.Logic.{_≢_, _⊎_}
 use mathlib.Core.List.{List, [], _∷_, _++_}
@@ -15,6 +15,7 @@ use Rattle.paper.specs.Job.{Job, records, slots, padsOf, twos, count, na
 use Rattle.paper.specs.Layouts.{Board, boardOf, held, Touching, Badness, byWeights, byTable}
 use Rattle.paper.specs.Problem.{Problem, Best, CountBest, labelingOf}
 use Rattle.paper.specs.Svg.{SheetWritten}
+use Rattle.paper.specs.Csv.{Pad, ReadWith, BadLine, padAt}
 
 -- ---- trials
 
@@ -66,9 +67,13 @@ BadSize one most bytes = (length bytes ≡ 0) ⊎ (length bytes % one ≢ 0) ⊎
 abbrev pub BadWeight : ℕ → ℕ → Type 0
 BadWeight lw bw = (1000 < lw) ⊎ (1000 < bw)
 
--- 4: a field is outside its range: a name is if it is 0 (02: "0 isn't a name"), a half-side if it is above 2,000 (02), a height if it is below -1,000,000 or above 1,000,000
+-- 4: a field is outside its range: a name is if it is 0 (02: "0 isn't a name"), a half-side if it is above 2,000 (02), an x if it is 0 or above 1,000,000, a height if it is
+-- below -1,000,000 or above 1,000,000
 abbrev pub Outside : ℤ → Type 0
 Outside h = 1000000 < natAbs h
+
+abbrev pub BadPad : ℕ → ℕ → ℕ → ℤ → Type 0
+BadPad name half x y = (name ≡ 0) ⊎ (2000 < half) ⊎ (x < 1) ⊎ (1000000 < x) ⊎ Outside y
 
 -- The last field is the height of record i's port, or where ports stand apart, 0.
 abbrev pub BadLast : Form → ℕ → Type 0
@@ -76,8 +81,7 @@ BadLast Records n = Outside (twos n)
 BadLast Slots n = n ≢ 0
 
 abbrev pub BadField : Form → List ℕ → ℕ → Type 0
-BadField form pads i =
-    (nameOf pads i ≡ 0) ⊎ (2000 < halfOf pads i) ⊎ (xOf pads i < 1) ⊎ (1000000 < xOf pads i) ⊎ Outside (yOf pads i) ⊎ BadLast form (lastOf pads i)
+BadField form pads i = BadPad (nameOf pads i) (halfOf pads i) (xOf pads i) (yOf pads i) ⊎ BadLast form (lastOf pads i)
 
 -- 5: a port height is not above the one before
 abbrev pub NotAbove : (ℕ → ℤ) → ℕ → Type 0
@@ -262,6 +266,56 @@ TooLong b f room = (s : List ℕ) × SheetWritten b f s × (room < length s)
 abbrev pub svgTrials : List ℕ → List ℕ → ℕ → List Trial
 svgTrials bytes list room =
     measureTrials (records bytes) (byWeights 0 0) Unlent list ++ (ofWhole 19 (TooLong (boardOf (records bytes)) (held list) room) ∷ [])
+
+-- ---- import (02)
+
+-- 4 of pads that are read: in a record a name has 2 bytes, here it may be above 65,535; the half-side is 0
+abbrev pub BadRead : Pad → Type 0
+BadRead p = (65535 < p .name) ⊎ BadPad (p .name) 0 (p .x) (p .y)
+
+-- 20: the text has more than 16,384 bytes; 21: a line is bad (there are at most as many lines as bytes, and one)
+abbrev pub textTrials : List ℕ → List Trial
+textTrials text = ofWhole 20 (16384 < length text) ∷ ofEach 21 (length text + 2) (BadLine text) ∷ []
+
+-- Of what the text reads as, with room for so many bytes. 1: no pads or more than 64; 22: room under 16 bytes a pad; then 4, 6 and 7 as for a job
+abbrev pub readTrials : List ℕ → ℕ → List Trial
+readTrials text room =
+    ofWhole 1 (ReadWith text (λ pads. (length pads ≡ 0) ⊎ (64 < length pads))) ∷
+    ofWhole 22 (ReadWith text (λ pads. room < 16 * length pads)) ∷
+    ofEach 4 64 (λ i. ReadWith text (λ pads. (i < length pads) × BadRead (padAt pads i))) ∷
+    ofEach 6 64 (λ i. ReadWith text (λ pads. (i < length pads) × Earlier (λ i j. padAt pads i .name ≡ padAt pads j .name) i)) ∷
+    ofEach 7 64 (λ i. ReadWith text (λ pads. (i < length pads) × Earlier (λ i j. padAt pads i .x ≡ padAt pads j .x) i)) ∷
+    []
+
+abbrev pub csvTrials : List ℕ → ℕ → List Trial
+csvTrials text room = textTrials text ++ readTrials text room
+
+-- Pads that are accepted with room for so many bytes: from 1 to 64, in range, names and x different.
+pub record ValidPads (pads : List Pad) (room : ℕ) : Type 0 where
+  pub some : 1 ≤ length pads
+  pub few : length pads ≤ 64
+  pub roomy : 16 * length pads ≤ room
+  pub ranges : (i : ℕ) → i < length pads → ¬ BadRead (padAt pads i)
+  pub names : (i j : ℕ) → j < i → i < length pads → padAt pads i .name ≢ padAt pads j .name
+  pub places : (i j : ℕ) → j < i → i < length pads → padAt pads i .x ≢ padAt pads j .x
+
+-- Of the trials 1 to 7 of a slots call, those of its pads alone; and the others.
+abbrev pub padTrials : List ℕ → List Trial
+padTrials pads =
+    ofWhole 1 (BadSize 16 1024 pads) ∷
+    ofEach 4 (count pads) (BadField Slots pads) ∷
+    ofEach 6 (count pads) (Earlier (SameName pads)) ∷
+    ofEach 7 (count pads) (Earlier (SameX pads)) ∷
+    []
+
+abbrev pub stripTrials : List ℕ → List ℕ → Badness → Work → ℕ → List Trial
+stripTrials pads ports bad work room =
+    ofWhole 1 (BadSize 4 512 ports) ∷ badnessTrial (boardOf (slots pads ports)) bad ∷ roomTrials (slots pads ports) work room ++ (
+      ofEach 4 (portCount Slots ports) (λ q. Outside (portOf Slots ports q)) ∷
+      ofEach 5 (portCount Slots ports) (NotAbove (portOf Slots ports)) ∷
+      ofEach 12 (portCount Slots ports) (TooClose (portOf Slots ports)) ∷
+      []
+    )
 
 -- ---- which records a refusal names
 

@@ -1,29 +1,24 @@
 -- DEFINITIONS. 01, "Sheets worked by hand": the jobs as bytes, and the sheets P1 to P12, each with its call, its input and its whole reply.
 -- After P10 stands Measure's sheet for "its total is 85"; after P12, four for refusal 12, two for names of 0, four for both records of 9, those of tables, those of slots, and
--- those of squares. Page has its own list, and so have Count, Place and Svg.
+-- those of squares. Page has its own list, and so have Count, Place, Svg and ReadCsv.
 use mathlib.Core.Path.{_≡_}
 use mathlib.Core.List.{List, [], _∷_, _++_}
 use Prim.Native.Nat.{ℕ, _+_, _*_, _/_, _%_}
 use lib.ListN.{replicate}
 use Rattle.paper.specs.declared.Work.{Work}
 use Rattle.paper.specs.declared.Work.the-variants.{Unlent, Lent}
-use Rattle.paper.specs.Job.{Job, records, slots}
+use Rattle.paper.specs.Job.{Job, records, slots, bytes4, squareAndPort}
 use Rattle.paper.specs.Layouts.{Badness, byWeights, byTable}
 use Rattle.paper.specs.Refusals.{refusal}
 use Rattle.paper.specs.declared.Answer.{Answer}
 use Rattle.paper.specs.declared.Answer.the-variants.{Total, End, Refused}
 use Rattle.paper.specs.declared.Counted.{Counted}
 use Rattle.paper.specs.declared.Counted.the-variants.{Many, Refused as NotCounted}
-use Rattle.paper.specs.Promises.{number, countedNumber, FirstPromise, NextPromise, PagePromise, MeasurePromise, CountPromise, PlacePromise, SvgPromise}
+use Rattle.paper.specs.Promises.{number, countedNumber, FirstPromise, NextPromise, PagePromise, MeasurePromise, CountPromise, PlacePromise, SvgPromise, CsvPromise}
 use Rattle.text.specs.Text.{bytes}
+use Rattle.paper.specs.Csv.{crlf}
 
--- 4 bytes, lowest first; a record of a name and a half-side, a pad (x, y) and a port height; and one whose pad is a point
-abbrev pub bytes4 : ℕ → List ℕ
-bytes4 n = n % 256 ∷ n / 256 % 256 ∷ n / 65536 % 256 ∷ n / 16777216 ∷ []
-
-abbrev pub squareAndPort : ℕ → ℕ → ℕ → ℕ → ℕ → List ℕ
-squareAndPort name half x y port = bytes4 (name + 65536 * half) ++ bytes4 x ++ bytes4 y ++ bytes4 port
-
+-- A record whose pad is a point.
 abbrev pub padAndPort : ℕ → ℕ → ℕ → ℕ → List ℕ
 padAndPort name x y port = squareAndPort name 0 x y port
 
@@ -323,4 +318,59 @@ svgSheets =
     svgSheet J1 (0 ∷ []) [] (NotCounted (refusal 19 0 0)) [] ∷
     svgSheet J5 (1 ∷ 0 ∷ 2 ∷ []) [] (NotCounted (refusal 9 2 1)) [] ∷
     svgSheet J5 (1 ∷ 2 ∷ []) (replicate 108 9) (NotCounted (refusal 3 0 0)) (replicate 108 9) ∷
+    []
+
+-- ---- ReadCsv
+
+-- Its sheet: the text, the bytes at entry, the answer, the bytes at exit.
+pub record CsvSheet : Type 0 where
+  pub text : List ℕ
+  pub before : List ℕ
+  pub answer : Counted
+  pub after : List ℕ
+
+abbrev pub CsvAllowed : CsvSheet → Type 0
+CsvAllowed s = CsvPromise (s .text) (s .before) (countedNumber (s .answer)) (s .after)
+
+abbrev pub csvSheet : List ℕ → List ℕ → Counted → List ℕ → CsvSheet
+csvSheet text before answer after = record { text = text; before = before; answer = answer; after = after }
+
+-- Lines with their ends; and a list that is refused, with room for two pads.
+abbrev pub ended : List (List ℕ) → List ℕ
+ended [] = []
+ended (l ∷ ls) = l ++ crlf ++ ended ls
+
+abbrev pub refusedList : List ℕ → ℕ → ℕ → CsvSheet
+refusedList text r i = csvSheet text (replicate 32 9) (NotCounted (refusal r i 0)) (replicate 32 9)
+
+abbrev pub first : List ℕ
+first = bytes "name,x,y"
+
+-- In this order. Accepted: two pads, and the bytes after them kept; quotes and a height below 0, the last line without its end; the largest numbers.
+-- 21: an empty text; LF alone; a line within quotes that goes on; an empty line; a leading zero; -0; a minus in x; a plus; a blank; a quote in a number; a field more;
+-- the first of two bad lines. 1: a first line alone. 22 before 4. 4: a name of 0; a number of 20 digits; a name above 65,535. 6; 7.
+abbrev pub csvSheets : List CsvSheet
+csvSheets =
+    csvSheet (ended (first ∷ bytes "101,10,0" ∷ bytes "102,20,30" ∷ [])) (replicate 40 9) (Many 2) (pad 101 10 0 ++ pad 102 20 30 ++ replicate 8 9) ∷
+    csvSheet (ended (bytes "\"name\",x,\"y\"" ∷ []) ++ bytes "\"101\",10,\"-3\"") (replicate 16 9) (Many 1) (pad 101 10 4294967293) ∷
+    csvSheet (ended (first ∷ bytes "65535,1000000,-1000000" ∷ [])) (replicate 16 9) (Many 1) (pad 65535 1000000 4293967296) ∷
+    refusedList [] 21 1 ∷
+    refusedList (first ++ (10 ∷ []) ++ bytes "101,10,0") 21 1 ∷
+    refusedList (ended (first ∷ bytes "\"101" ∷ bytes "\",10,0" ∷ [])) 21 2 ∷
+    refusedList (ended (first ∷ bytes "101,10,0" ∷ [] ∷ [])) 21 3 ∷
+    refusedList (ended (first ∷ bytes "101,010,0" ∷ [])) 21 2 ∷
+    refusedList (ended (first ∷ bytes "101,10,-0" ∷ [])) 21 2 ∷
+    refusedList (ended (first ∷ bytes "101,-10,0" ∷ [])) 21 2 ∷
+    refusedList (ended (first ∷ bytes "101,10,+5" ∷ [])) 21 2 ∷
+    refusedList (ended (first ∷ bytes "101, 10,0" ∷ [])) 21 2 ∷
+    refusedList (ended (first ∷ bytes "\"1\"\"1\",10,0" ∷ [])) 21 2 ∷
+    refusedList (ended (first ∷ bytes "101,10,0,5" ∷ [])) 21 2 ∷
+    refusedList (ended (first ∷ bytes "101,10,0" ∷ bytes "102,20" ∷ bytes "103" ∷ [])) 21 3 ∷
+    refusedList (ended (first ∷ [])) 1 0 ∷
+    csvSheet (ended (first ∷ bytes "0,10,0" ∷ [])) (replicate 15 9) (NotCounted (refusal 22 0 0)) (replicate 15 9) ∷
+    refusedList (ended (first ∷ bytes "101,10,0" ∷ bytes "0,20,0" ∷ [])) 4 1 ∷
+    refusedList (ended (first ∷ bytes "101,10,-99999999999999999999" ∷ [])) 4 0 ∷
+    refusedList (ended (first ∷ bytes "65536,10,0" ∷ [])) 4 0 ∷
+    refusedList (ended (first ∷ bytes "101,10,0" ∷ bytes "101,10,5" ∷ [])) 6 1 ∷
+    refusedList (ended (first ∷ bytes "101,10,0" ∷ bytes "102,10,5" ∷ [])) 7 1 ∷
     []

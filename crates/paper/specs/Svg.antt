@@ -5,9 +5,9 @@ use mathlib.Core.List.{List, [], _∷_, _++_, map}
 use Prim.Native.Nat.{ℕ, zero, suc, _^_, _/_, _%_, _<_}
 use lib.Dec.{eqb}
 use lib.ListN.{length, getD}
-use lib.IntN.{ℤ, pos, negsuc}
+use lib.IntN.{ℤ}
 use lib.Ieee.{Float, binary32, round}
-use Rattle.text.specs.Text.{bytes, decimal, joined, readDigits}
+use Rattle.text.specs.Text.{bytes, decimal, withMinus, joined, readDigits}
 use Rattle.paper.specs.declared.Point.{Point}
 use Rattle.paper.specs.declared.Drawn.{Drawn}
 use Rattle.paper.specs.declared.Drawn.the-variants.{Straight, Bent, Refused as NotDrawn}
@@ -27,10 +27,9 @@ fraction (suc (suc (suc k))) = bytes ".75"
 unfoldable pub quarters : ℕ → List ℕ
 quarters n = decimal (n / 4) ++ fraction (n % 4)
 
--- v quarters: a minus where v is below 0, so never before 0.
+-- v quarters.
 unfoldable pub numeral : ℤ → List ℕ
-numeral (pos n) = quarters n
-numeral (negsuc n) = bytes "-" ++ quarters (suc n)
+numeral = withMinus quarters
 
 -- The float a is written s: it is some number of quarters, and s is their numeral.
 abbrev pub Written : Float → List ℕ → Type 0

@@ -3,10 +3,11 @@
 --     m is the number that C gets, before and after are what the lent list holds at entry and at exit, bad the weights or the table, work the length of the
 --     work list, if one is lent, numbers the length of the buffer that Count and Place are lent; a job is of either form
 use mathlib.Core.Path.{_≡_, refl}
-use mathlib.Core.Logic.{_≢_, _⊎_, _↔_}
+use mathlib.Core.Logic.{_≢_, _⊎_, _↔_, Iff·trans}
 use mathlib.Core.Bool.{false}
-use mathlib.Core.List.{List, [], _++_}
+use mathlib.Core.List.{List, [], _∷_, _++_}
 use Prim.Native.Nat.{ℕ, suc, _+_, _*_, _/_, _%_, _≤_, _<_}
+use native.Mathlib.Omega.{arith}
 use lib.Dec.{T, eqb}
 use lib.ListN.{length, getD, take}
 use lib.IntN.{ℤ, pos, negsuc, negℤ, natAbs, _+ℤ_}
@@ -22,21 +23,22 @@ use Rattle.paper.specs.declared.Drawn.the-variants.{Straight, Bent}
 use Rattle.paper.specs.declared.Form.the-variants.{Records, Slots}
 use Rattle.paper.specs.declared.Work.{Work}
 use Rattle.paper.specs.declared.Work.the-variants.{Unlent}
-use Rattle.paper.specs.Job.{Job, records, padsOf, count, twos, nameOf, halfOf, xOf, yOf, portOf, lastOf, portCount}
+use Rattle.paper.specs.Job.{Job, records, slots, padsOf, count, twos, nameOf, halfOf, xOf, yOf, portOf, lastOf, portCount}
 use Rattle.paper.specs.Leaders.{Leader, Square, Between, Touch, Meets, distance, lengthOf, bendsOf}
 use Rattle.paper.specs.Plane.{Line, TouchIn, MeetsIn}
 use Rattle.paper.specs.Layouts.{Board, boardOf, held, leader, LeadersTouch, Touching, Layout, EachOnce, Untouching, sum, weighted, figure, Badness, byWeights, byTable, costOf, TableOf, total}
 use Rattle.paper.specs.Layouts.{Same, Differ, Proper}
 use Rattle.paper.specs.Problem.{Best, Before, FirstBest, NextBest, LastBest, PlaceBest, CountBest, labeling, labelingOf}
-use Rattle.paper.specs.Refusals.{FirstFault, Passed, refusal, ofPairs, soundTrials, firstTrials, measureTrials, nextTrials, drawTrials, callsOf, Alone, FirstPair, Named}
-use Rattle.paper.specs.Refusals.{bufferNeeded, TooMany, PastCount, countTrials, placeTrials, TooLong, svgTrials}
+use Rattle.paper.specs.Refusals.{Smallest, FirstFault, Passed, refusal, ofPairs, soundTrials, firstTrials, measureTrials, nextTrials, drawTrials, callsOf, Alone, FirstPair, Named}
+use Rattle.paper.specs.Refusals.{bufferNeeded, TooMany, PastCount, countTrials, placeTrials, TooLong, svgTrials, BadRead, csvTrials, ValidPads, padTrials, stripTrials}
 use Rattle.paper.specs.Canvas.{FourTimesIs, DrawnStraight, DrawnBent, coordinates}
 use Rattle.text.specs.Text.{bytes, Begins}
 use Rattle.paper.specs.Svg.{numeral, Written, LineWritten, SheetWritten, cut, readNumber, readLine, lineAt}
+use Rattle.paper.specs.Csv.{Pad, crlf, Lines, Fields, ReadsAs, ReadWith, BadLine, padAt, recordsOf, padsIn, plainText}
 use Rattle.paper.specs.Promises.{refusalNumber, refusalIn, Kept, overwritten, FirstPromise, NextPromise, PagePromise, MeasurePromise, DrawPromise, SvgPromise, WorkPromise}
-use Rattle.paper.specs.Promises.{CountPromise, PlacePromise, BufferPromise, FirstReplies, NextReplies, PageReplies, MeasureReplies, CountReplies, PlaceReplies, OneReply, RefusesBy}
+use Rattle.paper.specs.Promises.{SvgFills, CsvFills, CsvPromise, CountPromise, PlacePromise, BufferPromise, FirstReplies, NextReplies, PageReplies, MeasureReplies, CountReplies, PlaceReplies, OneReply, RefusesBy}
 use Rattle.paper.specs.Runs.{NextRun, Run, AskedTo, Demand3, PageByNext, PagedOn}
-use Rattle.paper.specs.Sheets.{sample, Each, Allowed, sheets, PageAllowed, pages, CountAllowed, countSheets, PlaceAllowed, placeSheets, SvgAllowed, svgSheets}
+use Rattle.paper.specs.Sheets.{sample, Each, Allowed, sheets, PageAllowed, pages, CountAllowed, countSheets, PlaceAllowed, placeSheets, SvgAllowed, svgSheets, CsvAllowed, csvSheets}
 use Rattle.paper.specs.Straightening.{LeastOfAll, CostsNothing, BendsCanCost, TablesCanCost, SquaresCanCost}
 use Rattle.paper.specs.Points.{Points, pointCallsOf}
 use Rattle.paper.specs.laws.Tests.{meets}
@@ -46,7 +48,7 @@ use Rattle.paper.specs.laws as by
 
 -- ---- DEMAND 1: every input gets an answer, and bad ones, but no others, are refused by number with the record at fault; then nothing is written
 
--- Every input to First has exactly one reply; so has every input to Next, to Page, to Measure, to Count, to Place, to Draw and to Svg.
+-- Every input to First has exactly one reply; so has every input to Next, to Page, to Measure, to Count, to Place, to Draw, to Svg and to ReadCsv.
 pub first-one-reply : (job : Job) (bad : Badness) (work : Work) (before : List ℕ) → OneReply (FirstPromise job bad work before)
 first-one-reply job bad work before = (by.Met.first-met (callsOf job bad work) (regular job bad work) before, by.Determined.first-determined (callsOf job bad work) before)
 
@@ -73,10 +75,13 @@ pub draw-one-reply : (job : List ℕ) (i q : ℕ) (before : List Float) → OneR
 draw-one-reply job i q before = (by.Met.draw-met job i q before, by.Determined.draw-determined job i q before)
 
 pub svg-one-reply : (job list before : List ℕ) → OneReply (SvgPromise job list before)
-svg-one-reply job list before = (by.Met.svg-met job list before, by.Determined.svg-determined job list before)
+svg-one-reply job list before = (by.Met.svg-met job list before, by.Determined.fill-determined (svgTrials job list (length before)) (SvgFills job list) (by.Exported.svg-fills-one job list) before)
+
+pub csv-one-reply : (text before : List ℕ) → OneReply (CsvPromise text before)
+csv-one-reply text before = (by.Met.csv-met text before, by.Determined.fill-determined (csvTrials text (length before)) (CsvFills text) (by.Imported.csv-fills-one text) before)
 
 -- First's number is a refusal exactly if one of its trials fails, and then it is that of the first that does, with its records, and the list holds what it held;
--- so are Next's, Page's, Measure's, Count's, Place's, Draw's and Svg's.
+-- so are Next's, Page's, Measure's, Count's, Place's, Draw's, Svg's and ReadCsv's.
 pub first-refuses : (job : Job) (bad : Badness) (work : Work) (before : List ℕ) (m : ℤ) (after : List ℕ) → FirstPromise job bad work before m after
     → RefusesBy (firstTrials job bad work (length before)) m (after ≡ before)
 first-refuses job bad work before m after = by.Numbers.first-refuses (callsOf job bad work) (numbered job bad work) before after m
@@ -107,7 +112,11 @@ draw-refuses job i q before m after = by.Numbers.draw-refuses job i q before aft
 
 pub svg-refuses : (job list before : List ℕ) (m : ℤ) (after : List ℕ) → SvgPromise job list before m after
     → RefusesBy (svgTrials job list (length before)) m (after ≡ before)
-svg-refuses job list before m after = by.Numbers.svg-refuses job list before after m
+svg-refuses job list before m after =
+    by.Numbers.fill-refuses (svgTrials job list (length before)) (by.Numbers.svg-small job list (length before)) (SvgFills job list) before after m
+
+pub csv-refuses : (text before : List ℕ) (m : ℤ) (after : List ℕ) → CsvPromise text before m after → RefusesBy (csvTrials text (length before)) m (after ≡ before)
+csv-refuses text before m after = by.Numbers.fill-refuses (csvTrials text (length before)) (by.Numbers.csv-small text (length before)) (CsvFills text) before after m
 
 -- The work list that First is lent holds what it held after every refusal but 15 (02), which comes where 1 to 7 are passed; Next's after every refusal but 10, which
 -- comes where Measure's trials are passed.
@@ -638,8 +647,9 @@ weighted-fits job lw bw work room p =
 -- the text fits; a layout has one text.
 pub svg-answers : (job list before : List ℕ) (k : ℕ) (after : List ℕ) → SvgPromise job list before (pos k) after
     ↔ (Passed (svgTrials job list (length before))
-    × ((s : List ℕ) × SheetWritten (boardOf (records job)) (held list) s × (k ≡ length s) × (after ≡ overwritten s before)))
-svg-answers job list before k after = (by.Numbers.svg-told job list before after k, λ a. (Many k, a, refl))
+    × ((s : List ℕ) × (SheetWritten (boardOf (records job)) (held list) s × (k ≡ length s)) × (after ≡ overwritten s before)))
+svg-answers job list before k after =
+    (by.Numbers.fill-told (svgTrials job list (length before)) (by.Numbers.svg-small job list (length before)) (SvgFills job list) before after k, λ a. (Many k, a, refl))
 
 pub svg-passed : (job list : List ℕ) (room : ℕ) → Passed (svgTrials job list room)
     ↔ (Passed (measureTrials (records job) (byWeights 0 0) Unlent list) × ((s : List ℕ) × SheetWritten (boardOf (records job)) (held list) s × (length s ≤ room)))
@@ -701,6 +711,85 @@ pub numerals : (numeral (pos 0) ≡ bytes "0") × (numeral (pos 1) ≡ bytes "0.
     × (numeral (negsuc 999998) ≡ bytes "-249999.75") × (numeral (pos 1000000) ≡ bytes "250000")
 numerals = by.Reading.numerals
 
+-- ---- import of lists (02)
+
+-- The reading is unique. A text has one division into lines, and a line of three fields says one thing, also where its fields are quoted and hold commas and quotes;
+pub one-division : (text : List ℕ) → ((l : List ℕ) × (ls : List (List ℕ)) × Lines text (l ∷ ls)) × ((ls ms : List (List ℕ)) → Lines text ls → Lines text ms → ls ≡ ms)
+one-division text = (by.Lines.lines-exist text, by.Lines.lines-one text)
+
+pub one-saying : (line a b c a′ b′ c′ : List ℕ) → Fields line a b c → Fields line a′ b′ c′ → (a ≡ a′) × (b ≡ b′) × (c ≡ c′)
+one-saying = by.Lines.fields-one
+
+-- so two lists of pads read from one text are equal. A text reads as pads or has a first bad line, and not both.
+pub one-reading : (text : List ℕ) (ps qs : List Pad) → ReadsAs text ps → ReadsAs text qs → ps ≡ qs
+one-reading = by.Lines.reads-one
+
+pub readable-or-bad : (text : List ℕ) → ((pads : List Pad) × ReadsAs text pads) ⊎ ((i : ℕ) × Smallest (BadLine text) i)
+readable-or-bad = by.Readable.readable-or-bad
+
+pub not-readable-and-bad : (text : List ℕ) (pads : List Pad) (i : ℕ) → ReadsAs text pads → ¬ BadLine text i
+not-readable-and-bad text pads i reads = by.Lines.reads-good text pads reads i
+
+pub one-first-bad : (text : List ℕ) (i j : ℕ) → Smallest (BadLine text) i → Smallest (BadLine text) j → i ≡ j
+one-first-bad text = by.Trials.smallest-one (BadLine text)
+
+-- ReadCsv answers k exactly if its trials are passed, and the first bytes then hold the records of the k pads, the bytes after them kept. They are passed exactly if
+-- the text is short enough and reads as valid pads; k is from 1 to 64.
+pub csv-answers : (text before : List ℕ) (k : ℕ) (after : List ℕ) → CsvPromise text before (pos k) after
+    ↔ (Passed (csvTrials text (length before)) × ((s : List ℕ) × CsvFills text s k × (after ≡ overwritten s before)))
+csv-answers text before k after =
+    (by.Numbers.fill-told (csvTrials text (length before)) (by.Numbers.csv-small text (length before)) (CsvFills text) before after k, λ a. (Many k, a, refl))
+
+pub csv-passed : (text : List ℕ) (room : ℕ) → Passed (csvTrials text room) ↔ ((length text ≤ 16384) × ReadWith text (λ pads. ValidPads pads room))
+csv-passed = by.Readable.csv-passed
+
+pub csv-bound : (text before : List ℕ) (k : ℕ) (after : List ℕ) → CsvPromise text before (pos k) after → (1 ≤ k) × (k ≤ 64)
+csv-bound text before k after p = by.Bounds.csv-bound text before k after (csv-answers text before k after .0 p)
+
+-- It refuses by 20 exactly if the text is too long, and by 21 with line i exactly if it is not and i is its first bad line. Of a text that reads as pads it refuses by 4
+-- with pad i exactly if the text is not too long, there are 1 to 64 pads and room for them, and i is the first with a number out of range, however long that is.
+pub csv-too-long : (text before : List ℕ) (m : ℤ) (after : List ℕ) → CsvPromise text before m after → (m ≡ refusalNumber (refusal 20 0 0)) ↔ (16384 < length text)
+csv-too-long text before m after p =
+    Iff·trans (by.Numbers.refuses-iff (csvTrials text (length before)) (after ≡ before) m (refusal 20 0 0) (omega arith) (csv-refuses text before m after p))
+    (by.Readable.csv-20 text (length before))
+
+pub csv-bad-line : (text before : List ℕ) (m : ℤ) (after : List ℕ) → CsvPromise text before m after → (i : ℕ) → i < 65536
+    → (m ≡ refusalNumber (refusal 21 i 0)) ↔ ((length text ≤ 16384) × Smallest (BadLine text) i)
+csv-bad-line text before m after p i h =
+    Iff·trans (by.Numbers.refuses-iff (csvTrials text (length before)) (after ≡ before) m (refusal 21 i 0) (omega arith) (csv-refuses text before m after p))
+    (by.Readable.csv-21 text (length before) i)
+
+pub csv-out-of-range : (text before : List ℕ) (m : ℤ) (after : List ℕ) → CsvPromise text before m after → (pads : List Pad) → ReadsAs text pads → (i : ℕ) → i < 65536
+    → (m ≡ refusalNumber (refusal 4 i 0))
+    ↔ ((length text ≤ 16384) × (1 ≤ length pads) × (length pads ≤ 64) × (16 * length pads ≤ length before) × Smallest (λ i. (i < length pads) × BadRead (padAt pads i)) i)
+csv-out-of-range text before m after p pads reads i h =
+    Iff·trans (by.Numbers.refuses-iff (csvTrials text (length before)) (after ≡ before) m (refusal 4 i 0) (omega arith) (csv-refuses text before m after p))
+    (by.Readable.csv-4 text (length before) pads reads i)
+
+-- A list written by the plain rule reads as its pads, whatever their numbers, with the last line's end or without. Written from valid pads it is answered with their
+-- records; and so it is written from records: 1 to 64 of them, that pass 1, 4, 6 and 7 of the slots calls, with half-sides 0.
+pub plain-reads : (pads : List Pad) → ReadsAs (plainText pads) pads × ((text : List ℕ) → text ++ crlf ≡ plainText pads → ReadsAs text pads)
+plain-reads pads = (by.Written.plain-reads pads, by.Written.plain-reads-on pads)
+
+pub round-trip : (pads : List Pad) (before : List ℕ) → ValidPads pads (length before)
+    → CsvPromise (plainText pads) before (pos (length pads)) (overwritten (recordsOf pads) before)
+round-trip pads before v = (Many (length pads), by.Readable.round-trip pads before v, refl)
+
+pub records-round-trip : (l before : List ℕ) → ((k : ℕ) → k < length l → getD l k 0 < 256) → Passed (padTrials l) → ((i : ℕ) → i < count l → halfOf l i ≡ 0)
+    → length l ≤ length before → CsvPromise (plainText (padsIn l)) before (pos (count l)) (overwritten l before)
+records-round-trip l before bytes passed points fits = (Many (count l), by.Readable.records-trip l before bytes passed points fits, refl)
+
+-- What was read is a pad list for the slots calls: it passes 1, 4, 6 and 7, half-sides are 0, and SlotsFirst accepts it exactly if its other trials, those of the ports, the
+-- weights and the room, are passed.
+pub read-pads-pass : (text before : List ℕ) (k : ℕ) (after : List ℕ) → CsvPromise text before (pos k) after
+    → let pads = take (16 * k) after in (count pads ≡ k) × Passed (padTrials pads) × ((i : ℕ) → i < k → halfOf pads i ≡ 0)
+read-pads-pass text before k after p = by.Readable.read-pads-pass text before k after (csv-answers text before k after .0 p)
+
+pub slots-take-them : (text before : List ℕ) (k : ℕ) (after : List ℕ) → CsvPromise text before (pos k) after
+    → (ports : List ℕ) (bad : Badness) (work : Work) (room : ℕ)
+    → let pads = take (16 * k) after in Passed (firstTrials (slots pads ports) bad work room) ↔ Passed (stripTrials pads ports bad work room)
+slots-take-them text before k after p = by.Readable.slots-take-them text before k after (csv-answers text before k after .0 p)
+
 -- ---- the worked sheets
 
 -- The fields of a record, byte by byte: offsets, little-endian, two's complement.
@@ -710,7 +799,7 @@ pub fields-read : (count sample ≡ 2) × (nameOf sample 1 ≡ 513) × (halfOf s
 fields-read = by.Vectors.fields-read
 
 -- P1 to P12, and those of 02 for 12, for both records of 9, by tables, on slots and with squares, are replies that the promises allow; so are Page's nine, Count's two,
--- Place's six and Svg's seven.
+-- Place's six, Svg's seven and ReadCsv's twenty-two.
 pub worked : Each Allowed sheets
 worked = by.Worked.worked
 
@@ -725,3 +814,6 @@ worked-places = by.Worked.worked-places
 
 pub worked-svg : Each SvgAllowed svgSheets
 worked-svg = by.Worked.worked-svg
+
+pub worked-csv : Each CsvAllowed csvSheets
+worked-csv = by.Worked.worked-csv

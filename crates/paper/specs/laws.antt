@@ -22,6 +22,14 @@ pub mod Vectors
 pub mod Texts
 pub mod Reading
 pub mod Exported
+-- Lists of pads as text:
+pub mod Lines
+pub mod Parsing
+pub mod Parsed
+pub mod Listing
+pub mod Written
+pub mod Imported
+pub mod Readable
 -- Existence, by straightening and by trying every assignment:
 pub mod Straighten
 pub mod Existence

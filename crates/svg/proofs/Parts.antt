@@ -127,5 +127,4 @@ module _ (job list : List ℕ) (p : Passed (measureTrials (records job) (byWeigh
       let v : Writes before 0 text q after = rw made-is at w in
       let fits : length text ≤ length before = omega (arith, made-long .0) in
       let stop : q ≡ length text = omega (arith, v .stop) in
-      let stored : after ≡ overwritten text before = v .stored ∙ sets-eq text before 0 (omega arith) ∙ ap (λ (k : ℕ). text ++ drop k before) (zero-add (length text)) in
-      rw (stop, stored) (svg-made job list before p fits)
+      rw (stop, writes-over v fits) (svg-made job list before p fits)

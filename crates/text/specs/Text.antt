@@ -7,6 +7,7 @@ use Prim.Native.Char.{code}
 use Prim.Native.String.{String, [] as none, _∷_ as _then_}
 use lib.Dec.{ltb}
 use lib.ListN.{length}
+use lib.IntN.{ℤ, pos, negsuc}
 use lib.Seq.{sets}
 
 -- A word of plain characters, a byte each.
@@ -22,6 +23,11 @@ digits (suc k) n = cond (ltb n 10) ((48 + n) ∷ []) (digits k (n / 10) ++ ((48 
 -- n in decimal: it has no more than n + 1 digits.
 unfoldable pub decimal : ℕ → List ℕ
 decimal n = digits (suc n) n
+
+-- v in writing, where n is written so: a minus where v is below 0, so never before 0.
+abbrev pub withMinus : (ℕ → List ℕ) → ℤ → List ℕ
+withMinus write (pos n) = write n
+withMinus write (negsuc n) = bytes "-" ++ write (suc n)
 
 -- A text that begins with a digit.
 abbrev pub Begins : List ℕ → Type 0

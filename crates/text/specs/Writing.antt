@@ -3,7 +3,7 @@ use mathlib.Core.Path.{_≡_, refl, ap, sym, _∙_}
 use mathlib.Core.List.{List, [], _∷_, _++_}
 use Prim.Native.Nat.{ℕ, suc, _+_, _/_, _%_, _≤_, _<_}
 use native.Mathlib.Numerals.{add-one}
-use native.Mathlib.Nat.{add-zero, add-suc, suc-add}
+use native.Mathlib.Nat.{zero-add, add-zero, add-suc, suc-add}
 use native.Mathlib.Omega.{arith}
 use lib.ListN.{length, take, drop, set, getD, length-append}
 use lib.Seq.{sets, sets-eq, length-sets, take-at, take-suc, take-all, length-take-le}
@@ -34,6 +34,10 @@ writes-length {b} {a} {s} {at} w = ap length (w .stored) ∙ length-sets b at s
 -- and what is written from place 0 on is what stands before r.
 pub writes-whole : {b a s : List ℕ} {r : ℕ} → Writes b 0 s r a → length s ≤ length b → take r a ≡ s
 writes-whole {b} {a} {s} {r} w h = rw (w .stored, sets-eq s b 0 (omega arith)) (take-at s (drop (0 + length s) b) r (omega arith))
+
+-- The bytes after them are kept.
+pub writes-over : {b a s : List ℕ} {r : ℕ} → Writes b 0 s r a → length s ≤ length b → a ≡ s ++ drop (length s) b
+writes-over {b} {a} {s} w h = w .stored ∙ sets-eq s b 0 (omega arith) ∙ ap (λ (k : ℕ). s ++ drop k b) (zero-add (length s))
 
 -- A loop that writes s byte by byte: the next byte, and after the last one all of s.
 pub writes-next : (b m s : List ℕ) (at k : ℕ) → k < length s → Writes b at (take k s) (at + k) m

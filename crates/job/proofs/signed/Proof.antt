@@ -3,9 +3,9 @@ use borrow.Author.Needs.{needs}
 use borrow.Author.Tests.{lt-ltb, le-ltb}
 use native.Mathlib.Omega.{arith}
 use native.Mathlib.Decide.{decLt}
-use Prim.Native.Nat.{ℕ, _+_, _-_, _%_, _<_, _^_}
-use mathlib.Core.Path.{_≡_, refl, ap}
-use lib.IntN.{pos, negsuc, _-ℤ_}
+use Prim.Native.Nat.{ℕ, _+_, _%_, _<_, _^_}
+use mathlib.Core.Path.{_≡_, refl}
+use lib.IntN.{pos, _-ℤ_}
 use lib.Signed.{mag}
 use mir.Syntax.{w64}
 use mir.Val.{toZ}
@@ -13,6 +13,7 @@ use mir.ValLaws.{toZ-pos}
 use Rattle.numbers.specs.Bits.{read-back}
 use Rattle.numbers.specs.Whole.{whole, minus-num}
 use Rattle.paper.specs.Job.{twos}
+use Rattle.paper.specs.laws.Written.{wrapped}
 use Rattle.job.proofs.signed.Statement.{statement}
 use Rattle.job.proofs.signed.Tie as tie
 
@@ -23,9 +24,6 @@ turned n = (n + 2147483648) % 4294967296
 as-64 : (n : ℕ) → toZ w64 (turned n) ≡ pos (turned n)
 as-64 n = toZ-pos w64 (turned n) (omega arith)
 
-less : (n : ℕ) → n < 2 ^ 32 → pos n -ℤ pos 4294967296 ≡ negsuc (4294967295 - n)
-less n h = rw (lt-ltb n 4294967296 (omega arith)) (ap negsuc (omega arith))
-
 -- less 2 ^ 31 again, it is n as two's complement
 turned-back : (n : ℕ) → n < 2 ^ 32 → (pos (turned n) -ℤ pos 2147483648 ≡ twos n) × (mag (twos n) < 2147483648)
 unfolding twos
@@ -34,7 +32,7 @@ turned-back n h = go (decLt n 2147483648)
     go : Dec (n < 2147483648) → (pos (turned n) -ℤ pos 2147483648 ≡ twos n) × (mag (twos n) < 2147483648)
     go (yes l) = rw (lt-ltb n 2147483648 l) (omega (whole, minus-num (pos (turned n)) 2147483648), l)
     go (no l) =
-        rw (le-ltb n 2147483648 (omega arith), less n h) (omega (whole, minus-num (pos (turned n)) 2147483648), omega arith)
+        rw (le-ltb n 2147483648 (omega arith), wrapped n (omega arith)) (omega (whole, minus-num (pos (turned n)) 2147483648), omega arith)
 
 add-result : tie.Need-add-result
 add-result c = search needs

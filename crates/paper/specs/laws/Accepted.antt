@@ -85,7 +85,7 @@ field-in (slots pads ports) p = p .0
 
 height-in : (job : Job) → Passed (fieldTrials job) → (q : ℕ) → q < boardOf job .ports → natAbs (boardOf job .port q) ≤ 1000000
 unfolding portOf lastOf
-height-in (records bytes) p q l = not-lt (λ h. p .0 q l (inr (inr (inr (inr (inr h))))))
+height-in (records bytes) p q l = not-lt (λ h. p .0 q l (inr h))
 height-in (slots pads ports) p q l = not-lt (p .1 .0 q l)
 
 -- 12 is passed: a port is at least 8 above every one before.
@@ -119,12 +119,12 @@ job-accepted job sizes enough passed =
       few = size .few;
       slots-few = ports-sized job sizes .1;
       whole = size .whole;
-      named = λ i l e. in-range i l (inl e);
+      named = λ i l e. in-range i l (inl (inl e));
       names-differ = λ i j k l e. places .1 .1 .0 i l (j, k, e);
-      half = λ i l. not-lt (λ h. in-range i l (inr (inl h)));
-      right = λ i l. not-lt (λ h. in-range i l (inr (inr (inl h))));
-      width = λ i l. not-lt (λ h. in-range i l (inr (inr (inr (inl h)))));
-      pad = λ i l. not-lt (λ h. in-range i l (inr (inr (inr (inr (inl h))))));
+      half = λ i l. not-lt (λ h. in-range i l (inl (inr (inl h))));
+      right = λ i l. not-lt (λ h. in-range i l (inl (inr (inr (inl h)))));
+      width = λ i l. not-lt (λ h. in-range i l (inl (inr (inr (inr (inl h))))));
+      pad = λ i l. not-lt (λ h. in-range i l (inl (inr (inr (inr (inr h))))));
       port = height-in job fields;
       spaced = passed-spaced job places;
       proper = record { enough = enough-ports job enough; differ = passed-differ job passed; rising = passed-rising job places };

@@ -1,5 +1,5 @@
 -- A total is at most 64 times the largest figure of 32 bits. So every total that a call answers fits C's number; and so does how many layouts a page has, and a count.
---     first-bounded, next-bounded, measure-bounded, place-bounded, page-counted, count-bounded, svg-bounded
+--     first-bounded, next-bounded, measure-bounded, place-bounded, page-counted, count-bounded, svg-bounded, csv-bounded
 use mathlib.Core.Path.{_≡_}
 use mathlib.Core.List.{List}
 use Prim.Native.Nat.{ℕ, _*_, _^_, _≤_, _<_}
@@ -16,7 +16,8 @@ use Rattle.paper.specs.Job.{Job, count}
 use Rattle.paper.specs.Layouts.{boardOf, held, Badness, Layout}
 use Rattle.paper.specs.Problem.{labelingOf}
 use Rattle.paper.specs.Refusals.{Passed, soundTrials, firstTrials, callsOf}
-use Rattle.paper.specs.Promises.{FirstAnswers, NextAnswers, PageAnswers, MeasureAnswers, CountAnswers, PlaceAnswers, SvgAnswers}
+use Rattle.paper.specs.Promises.{FirstAnswers, NextAnswers, PageAnswers, MeasureAnswers, CountAnswers, PlaceAnswers, SvgAnswers, CsvAnswers}
+use Rattle.paper.specs.laws.Readable.{csv-answered}
 use Rattle.paper.specs.laws.Trials.{append-passed}
 use Rattle.paper.specs.laws.Totals.{totalOf}
 use Rattle.paper.specs.laws.Accepted.{Narrow, sound-accepted, first-sound, measure-accepted, measure-facts, next-measured, total-most}
@@ -87,3 +88,11 @@ svg-bound job list before k after a =
 pub svg-bounded : (job list before : List ℕ) (a : Counted) (after : List ℕ) → SvgAnswers job list before a after → BoundedCount a
 svg-bounded job list before (Many k) after a = omega (arith, svg-bound job list before k after a .1)
 svg-bounded job list before (NotCounted r) after a = tt
+
+-- A list has at most 64 pads.
+pub csv-bound : (text before : List ℕ) (k : ℕ) (after : List ℕ) → CsvAnswers text before (Many k) after → (1 ≤ k) × (k ≤ 64)
+csv-bound text before k after a = let (pads, _, valid, is, _) = csv-answered text before k after a in (omega (arith, valid .some), omega (arith, valid .few))
+
+pub csv-bounded : (text before : List ℕ) (a : Counted) (after : List ℕ) → CsvAnswers text before a after → BoundedCount a
+csv-bounded text before (Many k) after a = omega (arith, csv-bound text before k after a .1)
+csv-bounded text before (NotCounted r) after a = tt

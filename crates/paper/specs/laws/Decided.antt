@@ -64,7 +64,7 @@ pub record TestOf (s : Test) (t : Trial) : Type 0 where
   pub beside-iff : (i j : ℕ) → i < t .among → T (besideOf s i j) ↔ t .beside i j
   pub some-beside : (i : ℕ) → i < t .among → t .fault i → (j : ℕ) × t .beside i j
 
-each-test : (r n : ℕ) (fault : ℕ → Type 0) (p : ℕ → Bool) → ((i : ℕ) → i < n → T (p i) ↔ fault i) → TestOf (atEach r n p) (ofEach r n fault)
+pub each-test : (r n : ℕ) (fault : ℕ → Type 0) (p : ℕ → Bool) → ((i : ℕ) → i < n → T (p i) ↔ fault i) → TestOf (atEach r n p) (ofEach r n fault)
 each-test r n fault p says =
     record { reason-same = refl; among-same = refl; fault-iff = says; beside-iff = λ i j l. eqb-iff j 0; some-beside = λ i l x. (0, refl) }
 

@@ -1,5 +1,5 @@
 -- DETERMINACY. Any two replies of a call are equal: the number, and the final content of the lent list. Assumes nothing, of any calls.
---     first-determined, next-determined, page-determined, measure-determined, count-determined, place-determined, svg-determined, draw-determined: as C sees them; *-answer: in the language
+--     first-determined, next-determined, page-determined, measure-determined, count-determined, place-determined, fill-determined, draw-determined: as C sees them; *-answer: in the language
 use mathlib.Core.Path.{_≡_, refl, sym, ap, _∙_}
 use mathlib.Core.List.{List}
 use Prim.Native.Nat.{ℕ}
@@ -15,17 +15,16 @@ use Rattle.paper.specs.declared.Drawn.the-variants.{Straight, Bent, Refu
 use Rattle.paper.specs.Job.{records}
 use Rattle.paper.specs.Layouts.{boardOf, held, leader, Same}
 use Rattle.paper.specs.Problem.{FirstBest, PlaceBest}
-use Rattle.paper.specs.Refusals.{Trial, Calls, entries, drawTrials, countTrials, placeTrials, svgTrials}
+use Rattle.paper.specs.Refusals.{Trial, Calls, entries, drawTrials, countTrials, placeTrials}
 use Rattle.paper.specs.Canvas.{coordinates}
 use Rattle.paper.specs.Promises.{number, countedNumber, drawnNumber, overwritten, CountOver, PlaceOver, CountReplies, PlaceReplies}
-use Rattle.paper.specs.Promises.{FirstOver, NextOver, PageOver, MeasureOver, FirstReplies, NextReplies, PageReplies, MeasureReplies, DrawAnswers, DrawPromise, SvgAnswers, SvgPromise}
+use Rattle.paper.specs.Promises.{FirstOver, NextOver, PageOver, MeasureOver, FirstReplies, NextReplies, PageReplies, MeasureReplies, DrawAnswers, DrawPromise, FillOver, FillReplies}
 use Rattle.paper.specs.laws.Trials.{refused-one, not-both}
 use Rattle.paper.specs.laws.Numbers.{LayoutOver, first-is, place-is}
 use Rattle.paper.specs.laws.Order.{first-best-one, next-best-one, next-not-last}
 use Rattle.paper.specs.laws.Places.{place-one, count-one}
 use Rattle.paper.specs.laws.Kept.{kept-one}
 use Rattle.paper.specs.laws.Pages.{following-one}
-use Rattle.paper.specs.laws.Exported.{svg-text}
 use Rattle.paper.specs.laws.Drawn.{straight-one, bent-one}
 
 -- ---- any calls
@@ -108,20 +107,19 @@ module _ (c : Calls) (numbers : ℕ) where
     pub place-determined : (n m : ℤ) (l k : List ℕ) → PlaceReplies c numbers place before n l → PlaceReplies c numbers place before m k → (n ≡ m) × (l ≡ k)
     place-determined n m l k p q = let e = place-answer (p .0) (q .0) l k (p .1) (q .1) in (p .2 ∙ ap number (e .0) ∙ sym (q .2), e .1)
 
--- ---- Svg
+-- ---- Svg and Csv: what fills the first bytes is one
 
-module _ (job list before : List ℕ) where
-  svg-answer : (a d : Counted) (l m : List ℕ) → SvgAnswers job list before a l → SvgAnswers job list before d m → (a ≡ d) × (l ≡ m)
-  svg-answer (Many j) (Many k) l m p q =
-      let (u, v) = svg-text job list before j l p in
-      let (x, y) = svg-text job list before k m q in
-      (ap Many (u ∙ sym x), v ∙ sym y)
-  svg-answer (Many j) (NotCounted r) l m p q = absurd (not-both (svgTrials job list (length before)) r (p .0) (q .0))
-  svg-answer (NotCounted r) (Many k) l m p q = absurd (not-both (svgTrials job list (length before)) r (q .0) (p .0))
-  svg-answer (NotCounted r) (NotCounted s) l m p q = (ap NotCounted (refused-one (svgTrials job list (length before)) r s (p .0) (q .0)), p .1 ∙ sym (q .1))
+module _ (ts : List Trial) (Is : List ℕ → ℕ → Type 0) (one : (s t : List ℕ) (j k : ℕ) → Is s j → Is t k → (s ≡ t) × (j ≡ k)) (before : List ℕ) where
+  fill-answer : (a d : Counted) (l m : List ℕ) → FillOver ts Is before a l → FillOver ts Is before d m → (a ≡ d) × (l ≡ m)
+  fill-answer (Many j) (Many k) l m (p, (s, f, e)) (q, (t, g, h)) =
+      let (u, v) = one s t j k f g in
+      (ap Many v, e ∙ ap (λ (c : List ℕ). overwritten c before) u ∙ sym h)
+  fill-answer (Many j) (NotCounted r) l m p q = absurd (not-both ts r (p .0) (q .0))
+  fill-answer (NotCounted r) (Many k) l m p q = absurd (not-both ts r (q .0) (p .0))
+  fill-answer (NotCounted r) (NotCounted s) l m p q = (ap NotCounted (refused-one ts r s (p .0) (q .0)), p .1 ∙ sym (q .1))
 
-  pub svg-determined : (n m : ℤ) (l k : List ℕ) → SvgPromise job list before n l → SvgPromise job list before m k → (n ≡ m) × (l ≡ k)
-  svg-determined n m l k p q = let e = svg-answer (p .0) (q .0) l k (p .1) (q .1) in (p .2 ∙ ap countedNumber (e .0) ∙ sym (q .2), e .1)
+  pub fill-determined : (n m : ℤ) (l k : List ℕ) → FillReplies ts Is before n l → FillReplies ts Is before m k → (n ≡ m) × (l ≡ k)
+  fill-determined n m l k p q = let e = fill-answer (p .0) (q .0) l k (p .1) (q .1) in (p .2 ∙ ap countedNumber (e .0) ∙ sym (q .2), e .1)
 
 -- ---- Draw
 

@@ -1,7 +1,7 @@
 -- The call Svg: where Measure's trials are passed there is one text, and it is written exactly if it fits.
 --     all-on-sheet, long-iff;  svg-measured, svg-fits: what is passed;  svg-made, svg-refused, svg-long: what is answered
---     svg-tests, svg-decided;  svg-text: what an answer tells
-use mathlib.Core.Path.{_≡_, refl, ap, subst, _∙_}
+--     svg-tests, svg-decided;  svg-fills-one, svg-text: what an answer tells
+use mathlib.Core.Path.{_≡_, refl, ap, sym, subst, _∙_}
 use mathlib.Core.Logic.{_↔_, Iff·trans}
 use mathlib.Core.List.{List, [], _∷_, _++_}
 use Prim.Native.Nat.{ℕ, _*_, _≤_, _<_}
@@ -16,12 +16,12 @@ use Rattle.paper.specs.Job.{records, count}
 use Rattle.paper.specs.Layouts.{Board, boardOf, held, byWeights}
 use Rattle.paper.specs.Refusals.{Passed, RefusedBy, refusal, ofWhole, measureTrials, TooLong, svgTrials}
 use Rattle.paper.specs.Svg.{SheetWritten}
-use Rattle.paper.specs.Promises.{overwritten, SvgAnswers}
+use Rattle.paper.specs.Promises.{overwritten, SvgFills, SvgAnswers}
 use Rattle.paper.specs.laws.Trials.{passed-append, append-passed, refused-left, refused-right, whole-refused}
 use Rattle.paper.specs.laws.Tests.{Test, atWhole}
 use Rattle.paper.specs.laws.Decided.{Decided, TestsOf, tests-append, tests-decide, whole-test, measureTestsOf, measure-tests}
 use Rattle.paper.specs.laws.Accepted.{measure-facts, measure-entries}
-use Rattle.paper.specs.laws.Texts.{sheetText, AllOnSheet, sheet-is, sheet-only, lines-short}
+use Rattle.paper.specs.laws.Texts.{sheetText, AllOnSheet, sheet-is, sheet-only, sheet-one, lines-short}
 
 -- The text is too long exactly if the one that there is, is.
 pub long-iff : (b : Board) (f : ℕ → ℕ) (room : ℕ) → AllOnSheet b f → (room < length (sheetText b f)) ↔ TooLong b f room
@@ -102,10 +102,16 @@ module _ (job list : List ℕ) where
   -- What Svg then answers.
   pub svg-made : (before : List ℕ) → given → length text ≤ length before → SvgAnswers job list before (Many (length text)) (overwritten text before)
   svg-made before p h =
-      (svg-fits (length before) p h, (text, sheet-is (boardOf (records job)) (held list) (all-on-sheet p), refl, refl))
+      (svg-fits (length before) p h, (text, (sheet-is (boardOf (records job)) (held list) (all-on-sheet p), refl), refl))
+
+  -- One text, and one number.
+  pub svg-fills-one : (s t : List ℕ) (j k : ℕ) → SvgFills job list s j → SvgFills job list t k → (s ≡ t) × (j ≡ k)
+  svg-fills-one s t j k (w, n) (v, m) =
+      let e : s ≡ t = sheet-one (boardOf (records job)) (held list) s t w v in
+      (e, n ∙ ap length e ∙ sym m)
 
   -- What it answers is that.
   pub svg-text : (before : List ℕ) (k : ℕ) (after : List ℕ) → SvgAnswers job list before (Many k) after → (k ≡ length text) × (after ≡ overwritten text before)
-  svg-text before k after (p, (s, w, n, e)) =
+  svg-text before k after (p, (s, (w, n), e)) =
       let only = sheet-only (boardOf (records job)) (held list) s w in
       (n ∙ ap (λ (t : List ℕ). length t) only, e ∙ ap (λ (t : List ℕ). overwritten t before) only)

@@ -1,5 +1,5 @@
--- EACH PROMISE CAN BE MET. For every input there is a reply that the promise allows: of all calls that are regular, of Svg and of Draw.
---     first-met, next-met, page-met, measure-met, count-met, place-met, svg-met, draw-met: for every input
+-- EACH PROMISE CAN BE MET. For every input there is a reply that the promise allows: of all calls that are regular, of Svg, of ReadCsv and of Draw.
+--     first-met, next-met, page-met, measure-met, count-met, place-met, svg-met, csv-met, draw-met: for every input
 --     first-made, next-made, place-made: a total, or the end, where it is accepted
 use mathlib.Core.Path.{refl, sym}
 use mathlib.Core.Logic.{_⊎_, inl, inr}
@@ -16,10 +16,10 @@ use Rattle.paper.specs.declared.Drawn.the-variants.{Refused as NotDrawn}
 use Rattle.paper.specs.Job.{records}
 use Rattle.paper.specs.Layouts.{boardOf, held, leader, Same}
 use Rattle.paper.specs.Problem.{Best, FirstBest, NextBest, LastBest, PlaceBest}
-use Rattle.paper.specs.Refusals.{Trial, Passed, drawTrials, Calls, entries, numberTrials, countTrials, placeTrials, svgTrials}
+use Rattle.paper.specs.Refusals.{Trial, Passed, drawTrials, Calls, entries, numberTrials, countTrials, placeTrials, svgTrials, csvTrials}
 use Rattle.paper.specs.Canvas.{coordinates}
 use Rattle.paper.specs.Promises.{number, countedNumber, drawnNumber, overwritten, FirstOver, NextOver, PlaceOver}
-use Rattle.paper.specs.Promises.{FirstReplies, NextReplies, PageReplies, MeasureReplies, CountReplies, PlaceReplies, DrawPromise, SvgPromise}
+use Rattle.paper.specs.Promises.{FirstReplies, NextReplies, PageReplies, MeasureReplies, CountReplies, PlaceReplies, DrawPromise, FillReplies, SvgFills, SvgPromise, CsvFills, CsvPromise}
 use Rattle.paper.specs.laws.Trials.{append-passed}
 use Rattle.paper.specs.laws.Order.{first-best-same, next-best-same}
 use Rattle.paper.specs.laws.Earliest.{first-exists, next-or-last}
@@ -29,8 +29,9 @@ use Rattle.paper.specs.laws.Numbers.{LayoutOver}
 use Rattle.paper.specs.laws.Regular.{Regular}
 use Rattle.paper.specs.laws.Places.{place-same, place-taken, count-exists, pastTrials, laterTrials, count-decided, place-decided}
 use Rattle.paper.specs.laws.Pages.{page-filled}
-use Rattle.paper.specs.laws.Texts.{sheetText}
-use Rattle.paper.specs.laws.Exported.{svg-decided, svg-measured, svg-made}
+use Rattle.paper.specs.laws.Texts.{sheetText, sheet-is}
+use Rattle.paper.specs.laws.Exported.{all-on-sheet, svg-decided, svg-measured}
+use Rattle.paper.specs.laws.Imported.{csv-decided, csv-filled}
 use Rattle.paper.specs.laws.Drawn.{leaderDrawn, drawn-is, passed-on-sheet, draw-answers}
 
 -- Where trials are passed that leave room, and At says of some layout that it is the one, a total is answered with it.
@@ -131,16 +132,22 @@ module _ (c : Calls) (R : Regular c) (numbers : ℕ) where
         go (inl p) = let m = place-made p in (number (Total (m .0)), m .1, (Total (m .0), m .2, refl))
         go (inr (r, a)) = (number (Refused r), before, (Refused r, (a, refl), refl))
 
-module _ (job list before : List ℕ) where
-  pub svg-met : (m : ℤ) × (after : List ℕ) × SvgPromise job list before m after
-  svg-met = go (svg-decided job list (length before))
-    where
-      go : Decided (svgTrials job list (length before)) → (m : ℤ) × (after : List ℕ) × SvgPromise job list before m after
-      go (inl p) =
-          let (measured, fits) = svg-measured job list (length before) p in
-          let s = sheetText (boardOf (records job)) (held list) in
-          (countedNumber (Many (length s)), overwritten s before, (Many (length s), svg-made job list before measured fits, refl))
-      go (inr (r, a)) = (countedNumber (NotCounted r), before, (NotCounted r, (a, refl), refl))
+-- Where trials are decided, and something fills the first bytes if they are passed.
+pub fill-met : (ts : List Trial) (Is : List ℕ → ℕ → Type 0) (before : List ℕ) → Decided ts → (Passed ts → (s : List ℕ) × (k : ℕ) × Is s k)
+    → (m : ℤ) × (after : List ℕ) × FillReplies ts Is before m after
+fill-met ts Is before (inl p) made =
+    let (s, k, is) = made p in
+    (countedNumber (Many k), overwritten s before, (Many k, (p, (s, is, refl)), refl))
+fill-met ts Is before (inr (r, a)) made = (countedNumber (NotCounted r), before, (NotCounted r, (a, refl), refl))
+
+pub svg-met : (job list before : List ℕ) → (m : ℤ) × (after : List ℕ) × SvgPromise job list before m after
+svg-met job list before =
+    fill-met (svgTrials job list (length before)) (SvgFills job list) before (svg-decided job list (length before)) (λ p.
+    let s = sheetText (boardOf (records job)) (held list) in
+    (s, length s, (sheet-is (boardOf (records job)) (held list) (all-on-sheet job list (svg-measured job list (length before) p .0)), refl)))
+
+pub csv-met : (text before : List ℕ) → (m : ℤ) × (after : List ℕ) × CsvPromise text before m after
+csv-met text before = fill-met (csvTrials text (length before)) (CsvFills text) before (csv-decided text (length before)) (csv-filled text (length before))
 
 module _ (job : List ℕ) (i q : ℕ) (before : List Float) where
   pub draw-met : (m : ℤ) × (after : List Float) × DrawPromise job i q before m after

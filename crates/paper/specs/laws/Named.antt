@@ -21,10 +21,10 @@ use Rattle.paper.specs.Problem.{Problem, labelingOf}
 use Rattle.paper.specs.Refusals.{Trial, FirstFault, Passed, RefusedBy, refusal, ofEach, ofWhole, ofPairs, sizeTrials, enoughTrials, workTrials, roomTrials, fieldTrials, boardTrials, jobTrials, layoutTrials, bestTrial, numberTrial}
 use Rattle.paper.specs.Refusals.{badnessTrial, NoLayout, noneTrial, soundTrials, firstTrials, measureTrials, nextTrials, drawTrials, Calls, callsOf, Alone, FirstPair, Named}
 use Rattle.paper.specs.Refusals.{bufferNeeded, TooMany, PastCount, numberTrials, countTrials, placeTrials, TooLong, svgTrials}
-use Rattle.paper.specs.Promises.{refusalNumber, FirstReplies, CountReplies, PlaceReplies, SvgPromise}
+use Rattle.paper.specs.Promises.{refusalNumber, FirstReplies, CountReplies, PlaceReplies, SvgFills, SvgPromise}
 use Rattle.paper.specs.laws.Trials.{not-both, refused-append, before-other, after-other, after-whole, not-whole, by-whole}
 use Rattle.paper.specs.laws.Accepted.{measure-accepted}
-use Rattle.paper.specs.laws.Numbers.{SmallRefusal, refuses-iff, first-refuses, count-refuses, place-refuses, svg-refuses, numbered}
+use Rattle.paper.specs.laws.Numbers.{SmallRefusal, refuses-iff, first-refuses, count-refuses, place-refuses, svg-small, fill-refuses, numbered}
 
 -- ---- a refusal by some trial
 
@@ -477,7 +477,8 @@ module _ (job list : List ℕ) (room : ℕ) where
 pub svg-too-long : (job list before after : List ℕ) (m : ℤ) → SvgPromise job list before m after
     → (m ≡ refusalNumber (refusal 19 0 0)) ↔ (Passed (measureTrials (records job) (byWeights 0 0) Unlent list) × TooLong (boardOf (records job)) (held list) (length before))
 svg-too-long job list before after m p =
-    Iff·trans (refuses-iff (svgTrials job list (length before)) (after ≡ before) m (refusal 19 0 0) (omega arith) (svg-refuses job list before after m p))
+    Iff·trans (refuses-iff (svgTrials job list (length before)) (after ≡ before) m (refusal 19 0 0) (omega arith)
+    (fill-refuses (svgTrials job list (length before)) (svg-small job list (length before)) (SvgFills job list) before after m p))
     (svg-19 job list (length before))
 
 -- ---- C's number

@@ -426,7 +426,7 @@ points-of l (Bent d) w = refl
 pub svg-reads : (job list before : List ℕ) (k : ℕ) (after : List ℕ) → SvgAnswers job list before (Many k) after → (i : ℕ) → i < count job
     → (room : List Float) (m : ℤ) (points : List Float) → 6 ≤ length room → DrawPromise job i (held list i) room m points
     → let read = readLine (lineAt (take k after) i) in (m ≡ pos (length read / 2)) × (points ≡ overwritten read room)
-svg-reads job list before k after (p, (s, w, long, e)) i h room m points six (d, drawn, number) =
+svg-reads job list before k after (p, (s, (w, long), e)) i h room m points six (d, drawn, number) =
     let l = leader (boardOf (records job)) i (held list i) in
     let measured = svg-measured job list (length before) p .0 in
     let made = draw-answers job i (held list i) room (w .drawn i) (draw-passed job list measured i (length room) h six) (w .draws i h) in

@@ -20,7 +20,7 @@ use Rattle.paper.specs.declared.Work.the-variants.{Unlent, Lent}
 use Rattle.paper.specs.Job.{twos, count, nameOf, halfOf, xOf, yOf, lastOf, portCount, portOf}
 use Rattle.paper.specs.Leaders.{Leader, Square}
 use Rattle.paper.specs.Layouts.{Board, boardFrom, held, leader, square, Badness, byWeights, byTable}
-use Rattle.paper.specs.Refusals.{workNeeded, Earlier, BadSize, BadWeight, Outside, BadLast, BadField, NotAbove, TooClose, SameName, SameX, BadEntry}
+use Rattle.paper.specs.Refusals.{workNeeded, Earlier, BadSize, BadWeight, Outside, BadLast, BadPad, BadField, NotAbove, TooClose, SameName, SameX, BadEntry}
 
 -- p holds at some number below n; q holds of i and a number below i
 unfoldable pub somewhere : (ℕ → Bool) → ℕ → Bool
@@ -48,9 +48,11 @@ abbrev pub badLast : Form → ℕ → Bool
 badLast Records n = outside (twos n)
 badLast Slots n = not (eqb n 0)
 
+abbrev pub badPad : ℕ → ℕ → ℕ → ℤ → Bool
+badPad name half x y = eqb name 0 || ltb 2000 half || ltb x 1 || ltb 1000000 x || outside y
+
 abbrev pub badField : Form → List ℕ → ℕ → Bool
-badField form pads i =
-    eqb (nameOf pads i) 0 || ltb 2000 (halfOf pads i) || ltb (xOf pads i) 1 || ltb 1000000 (xOf pads i) || outside (yOf pads i) || badLast form (lastOf pads i)
+badField form pads i = badPad (nameOf pads i) (halfOf pads i) (xOf pads i) (yOf pads i) || badLast form (lastOf pads i)
 
 abbrev pub badHeight : Form → List ℕ → ℕ → Bool
 badHeight form ports q = outside (portOf form ports q)
@@ -166,15 +168,18 @@ bad-last-iff : (form : Form) (n : ℕ) → T (badLast form n) ↔ BadLast form n
 bad-last-iff Records n = outside-iff (twos n)
 bad-last-iff Slots n = not-iff (eqb n 0) (eqb-iff n 0)
 
+pub bad-pad-iff : (name half x : ℕ) (y : ℤ) → T (badPad name half x y) ↔ BadPad name half x y
+bad-pad-iff name half x y =
+    simp or-assoc
+    (or-iff (eqb name 0) (ltb 2000 half || (ltb x 1 || (ltb 1000000 x || outside y))) (eqb-iff name 0)
+    (or-iff (ltb 2000 half) (ltb x 1 || (ltb 1000000 x || outside y)) (ltb-iff 2000 half)
+    (or-iff (ltb x 1) (ltb 1000000 x || outside y) (ltb-iff x 1)
+    (or-iff (ltb 1000000 x) (outside y) (ltb-iff 1000000 x) (outside-iff y)))))
+
 pub bad-field-iff : (form : Form) (pads : List ℕ) (i : ℕ) → T (badField form pads i) ↔ BadField form pads i
 bad-field-iff form pads i =
-    let last = badLast form (lastOf pads i) in
-    simp or-assoc
-    (or-iff (eqb (nameOf pads i) 0) (ltb 2000 (halfOf pads i) || (ltb (xOf pads i) 1 || (ltb 1000000 (xOf pads i) || (outside (yOf pads i) || last)))) (eqb-iff (nameOf pads i) 0)
-    (or-iff (ltb 2000 (halfOf pads i)) (ltb (xOf pads i) 1 || (ltb 1000000 (xOf pads i) || (outside (yOf pads i) || last))) (ltb-iff 2000 (halfOf pads i))
-    (or-iff (ltb (xOf pads i) 1) (ltb 1000000 (xOf pads i) || (outside (yOf pads i) || last)) (ltb-iff (xOf pads i) 1)
-    (or-iff (ltb 1000000 (xOf pads i)) (outside (yOf pads i) || last) (ltb-iff 1000000 (xOf pads i))
-    (or-iff (outside (yOf pads i)) last (outside-iff (yOf pads i)) (bad-last-iff form (lastOf pads i)))))))
+    or-iff (badPad (nameOf pads i) (halfOf pads i) (xOf pads i) (yOf pads i)) (badLast form (lastOf pads i))
+    (bad-pad-iff (nameOf pads i) (halfOf pads i) (xOf pads i) (yOf pads i)) (bad-last-iff form (lastOf pads i))
 
 -- 5 and 12
 pub not-above-iff : (form : Form) (ports : List ℕ) (q : ℕ) → T (notAbove form ports q) ↔ NotAbove (portOf form ports) q

@@ -12,7 +12,7 @@ use Rattle.paper.specs.Refusals.{Trial, Smallest, Passed, RefusedBy, ref
 
 -- ---- one verdict
 
-smallest-one : (P : ℕ → Type 0) (i j : ℕ) → Smallest P i → Smallest P j → i ≡ j
+pub smallest-one : (P : ℕ → Type 0) (i j : ℕ) → Smallest P i → Smallest P j → i ≡ j
 smallest-one P i j a b = go (decLt i j) (decLt j i)
   where
     go : Dec (i < j) → Dec (j < i) → i ≡ j

@@ -1,7 +1,7 @@
--- THE WORKED SHEETS, P1 to P12 and those of 02, by one theorem over one list, and Page's, Count's, Place's and Svg's by others: a test that the checker computes for each
+-- THE WORKED SHEETS, P1 to P12 and those of 02, by one theorem over one list, and Page's, Count's, Place's, Svg's and ReadCsv's by others: a test that the checker computes for each
 -- sheet, and a lemma that turns the test into the call's promise.
---     worked, worked-pages, worked-counts, worked-places, worked-svg
-use mathlib.Core.Path.{_≡_, refl, sym, ap, _∙_}
+--     worked, worked-pages, worked-counts, worked-places, worked-svg, worked-csv
+use mathlib.Core.Path.{_≡_, refl, sym, ap, subst, _∙_}
 use mathlib.Core.Bool.{Bool, true, false, _&&_, _||_}
 use mathlib.Core.List.{List, [], _∷_, _++_}
 use Prim.Native.Nat.{ℕ, zero, suc, _+_, _*_, _-_, _≤_, _<_}
@@ -19,16 +19,19 @@ use Rattle.paper.specs.declared.Work.the-variants.{Unlent}
 use Rattle.paper.specs.Job.{Job, records, twos, nameOf, halfOf, xOf, yOf, lastOf, portOf}
 use Rattle.paper.specs.Layouts.{Board, boardOf, held, Badness, byWeights, weighted, costOf, sum, Same, Differ}
 use Rattle.paper.specs.Problem.{Problem, FirstBest, LastBest, PlaceBest, CountBest, labelingOf}
-use Rattle.paper.specs.Refusals.{Trial, firstTrials, measureTrials, nextTrials, Calls, callsOf, numberTrials, countTrials, placeTrials, svgTrials}
-use Rattle.paper.specs.Promises.{Kept, inTurn, Following, FirstAnswers, NextAnswers, PageAnswers, MeasureAnswers, CountAnswers, PlaceAnswers, SvgAnswers, overwritten}
+use Rattle.paper.specs.Refusals.{Trial, firstTrials, measureTrials, nextTrials, Calls, callsOf, numberTrials, countTrials, placeTrials, svgTrials, textTrials, readTrials, csvTrials, RefusedBy, refusal}
+use Rattle.paper.specs.Promises.{Kept, inTurn, Following, FirstAnswers, NextAnswers, PageAnswers, MeasureAnswers, CountAnswers, PlaceAnswers, SvgAnswers, CsvAnswers, overwritten}
 use Rattle.paper.specs.laws.Totals.{totalOf}
+use Rattle.paper.specs.laws.Trials.{passed-append, refused-right}
 use Rattle.paper.specs.Sheets.{copper, sheet, sheets, Each, Call, First, Next, Measure, Sheet, AllowedBy, Allowed, pages, PageSheet, PageAllowed}
 use Rattle.text.specs.Text.{digits, decimal}
 use Rattle.paper.specs.Svg.{quarters, numeral}
 use Rattle.paper.specs.laws.Drawn.{byBend}
 use Rattle.paper.specs.laws.Texts.{pointText, lineText, sheetText}
 use Rattle.paper.specs.laws.Exported.{svgTests, svg-tests, svg-measured, svg-made}
-use Rattle.paper.specs.Sheets.{SvgSheet, SvgAllowed, svgSheets}
+use Rattle.paper.specs.Sheets.{SvgSheet, SvgAllowed, svgSheets, CsvSheet, CsvAllowed, csvSheets}
+use Rattle.paper.specs.laws.Parsing.{Listed, good, bad as badAt, listed, listFrom, lineFront, fieldFront, wordFront, digitsFront, naturalFront, signedFront, cap, short, rowsBytes}
+use Rattle.paper.specs.laws.Imported.{wideTests, row-tests, text-passed, csv-made, csv-bad}
 use Rattle.paper.specs.Sheets.{J3plus, CountSheet, PlaceSheet, CountAllowed, PlaceAllowed, countSheets, placeSheets}
 use Rattle.paper.specs.laws.Tests.{Test, somewhere, outside, between, leadersTouch, reaches, notRight, underTop, overBottom, meets, meetsLarge, jobTests, layoutTests, soundTests, measureTests}
 use Rattle.paper.specs.Leaders.{lengthOf, bendsOf}
@@ -112,6 +115,13 @@ abbrev svgHolds : List ℕ → List ℕ → List ℕ → Counted → List ℕ �
 svgHolds job list l (Many k) m =
     let s = sheetText (boardOf (records job)) (held list) in passes (svgTests job list (length l)) && (eqb k (length s) && sameList m (overwritten s l))
 svgHolds job list l (NotCounted r) m = refuses (svgTests job list (length l)) r && sameList m l
+
+abbrev csvHolds : List ℕ → Listed → List ℕ → Counted → List ℕ → Bool
+csvHolds text (good rows) l (Many k) m =
+    leb (length text) 16384 && (passes (wideTests (length rows) (rowsBytes rows) (length l)) && (eqb k (length rows) && sameList m (overwritten (rowsBytes rows) l)))
+csvHolds text (good rows) l (NotCounted r) m = leb (length text) 16384 && (refuses (wideTests (length rows) (rowsBytes rows) (length l)) r && sameList m l)
+csvHolds text (badAt j) l (Many k) m = false
+csvHolds text (badAt j) l (NotCounted r) m = leb (length text) 16384 && ((eqb (r .reason) 21 && (eqb (r .at) (suc j) && eqb (r .earlier) 0)) && sameList m l)
 
 abbrev placeHolds : Job → Badness → List (List ℕ) → ℕ → ℕ → List ℕ → Answer → List ℕ → Bool
 placeHolds job bad ls numbers place l (Total t) m =
@@ -341,6 +351,43 @@ svg-holds job list l (NotCounted r) m h =
     let u = both (refuses (svgTests job list (length l)) r) (sameList m l) .0 h in
     (tests-refuse (svgTests job list (length l)) (svgTrials job list (length l)) r (svg-tests job list (length l)) (u .0), same-list m l (u .1))
 
+csv-holds : (text l : List ℕ) (a : Counted) (m : List ℕ) → T (csvHolds text (listed text) l a m) → CsvAnswers text l a m
+csv-holds text l a m = go (listed text) refl a
+  where
+    go : (o : Listed) → listed text ≡ o → (a : Counted) → T (csvHolds text o l a m) → CsvAnswers text l a m
+    go (good rows) e (Many k) h =
+        let tests = wideTests (length rows) (rowsBytes rows) (length l) in
+        let u = both (leb (length text) 16384) (passes tests && (eqb k (length rows) && sameList m (overwritten (rowsBytes rows) l))) .0 h in
+        let v = both (passes tests) (eqb k (length rows) && sameList m (overwritten (rowsBytes rows) l)) .0 (u .1) in
+        let w = both (eqb k (length rows)) (sameList m (overwritten (rowsBytes rows) l)) .0 (v .1) in
+        let (pads, reads, says) = row-tests text rows (length l) e in
+        let passed = passed-append (textTrials text) (readTrials text (length l)) (text-passed text pads (leb→le (length text) 16384 (u .0)) reads)
+            (tests-pass tests (readTrials text (length l)) says (v .0)) in
+        rw (eqb→eq k (length rows) (w .0), same-list m (overwritten (rowsBytes rows) l) (w .1)) (passed, (rowsBytes rows, csv-made text rows (length l) e passed, refl))
+    go (good rows) e (NotCounted r) h =
+        let tests = wideTests (length rows) (rowsBytes rows) (length l) in
+        let u = both (leb (length text) 16384) (refuses tests r && sameList m l) .0 h in
+        let v = both (refuses tests r) (sameList m l) .0 (u .1) in
+        let (pads, reads, says) = row-tests text rows (length l) e in
+        (
+          refused-right (textTrials text) (readTrials text (length l)) r (text-passed text pads (leb→le (length text) 16384 (u .0)) reads)
+              (tests-refuse tests (readTrials text (length l)) r says (v .0)),
+          same-list m l (v .1),
+        )
+    go (badAt j) e (Many k) h = absurd h
+    go (badAt j) e (NotCounted r) h =
+        let named = eqb (r .at) (suc j) && eqb (r .earlier) 0 in
+        let u = both (leb (length text) 16384) ((eqb (r .reason) 21 && named) && sameList m l) .0 h in
+        let v = both (eqb (r .reason) 21 && named) (sameList m l) .0 (u .1) in
+        let w = both (eqb (r .reason) 21) named .0 (v .0) in
+        let x = both (eqb (r .at) (suc j)) (eqb (r .earlier) 0) .0 (w .1) in
+        let is : refusal 21 (suc j) 0 ≡ r = λ i. record {
+          reason = sym (eqb→eq (r .reason) 21 (w .0)) i;
+          at = sym (eqb→eq (r .at) (suc j) (x .0)) i;
+          earlier = sym (eqb→eq (r .earlier) 0 (x .1)) i;
+        } in
+        (subst (RefusedBy (csvTrials text (length l))) is (csv-bad text (length l) j (leb→le (length text) 16384 (u .0)) e), same-list m l (v .1))
+
 all-allowed : {S : Type 0} (test : S → Bool) (P : S → Type 0) → ((s : S) → T (test s) → P s) → (ss : List S) → T (allHold test ss) → Each P ss
 all-allowed test P says [] h = tt
 all-allowed test P says (s ∷ ss) h = let u = both (test s) (allHold test ss) .0 h in (says s (u .0), all-allowed test P says ss (u .1))
@@ -364,6 +411,9 @@ countSheetHolds s = countHolds three even 3 (s .numbers) (s .answer)
 abbrev svgSheetHolds : SvgSheet → Bool
 svgSheetHolds s = svgHolds (s .job) (s .list) (s .before) (s .answer) (s .after)
 
+abbrev csvSheetHolds : CsvSheet → Bool
+csvSheetHolds s = csvHolds (s .text) (listed (s .text)) (s .before) (s .answer) (s .after)
+
 abbrev placeSheetHolds : PlaceSheet → Bool
 placeSheetHolds s = placeHolds three even (earliest ∷ others) (s .numbers) (s .place) (s .before) (s .answer) (s .after)
 
@@ -371,10 +421,12 @@ placeSheetHolds s = placeHolds three even (earliest ∷ others) (s .numbers) (s 
 all-hold : T (allHold holds sheets) × T (allHold pageSheetHolds pages) × T (holds (sheet First (copper 4) 1 0 (9 ∷ 9 ∷ []) (Total 84) (1 ∷ 0 ∷ [])))
     × T (passes (firstTests three even Unlent 3)) × T (runTest (labelingOf three even) (untouchingTest (boardOf three)) earliest others)
     × T (allHold countSheetHolds countSheets) × T (allHold placeSheetHolds placeSheets) × T (allHold svgSheetHolds svgSheets)
+    × T (allHold csvSheetHolds csvSheets)
 unfolding heads words any someWord leastTest misled untouchingTest differRight decidedAt beforeTest cheaper bestTest firstTest laterTest nextTest lastTest
     somewhere outside between leadersTouch reaches notRight underTop overBottom meets meetsLarge jobTests layoutTests soundTests firstTests measureTests nextTests
     twos nameOf halfOf xOf yOf lastOf portOf lengthOf bendsOf sum weighted digits decimal quarters numeral pointText lineText byBend
-all-hold = (tt, tt, tt, tt, tt, tt, tt, tt)
+    listed listFrom lineFront fieldFront wordFront digitsFront naturalFront signedFront cap short
+all-hold = (tt, tt, tt, tt, tt, tt, tt, tt, tt)
 
 pub copper-first : FirstAnswers (records (copper 4)) (byWeights 1 0) Unlent (9 ∷ 9 ∷ []) (Total 84) (1 ∷ 0 ∷ [])
 copper-first = first-holds (records (copper 4)) (byWeights 1 0) Unlent (9 ∷ 9 ∷ []) (Total 84) (1 ∷ 0 ∷ []) (all-hold .2)
@@ -413,3 +465,7 @@ worked-places =
 -- THEOREM. So is every sheet of Svg's.
 pub worked-svg : Each SvgAllowed svgSheets
 worked-svg = all-allowed svgSheetHolds SvgAllowed (λ s h. (s .answer, svg-holds (s .job) (s .list) (s .before) (s .answer) (s .after) h, refl)) svgSheets (all-hold .7)
+
+-- THEOREM. So is every sheet of ReadCsv's.
+pub worked-csv : Each CsvAllowed csvSheets
+worked-csv = all-allowed csvSheetHolds CsvAllowed (λ s h. (s .answer, csv-holds (s .text) (s .before) (s .answer) (s .after) h, refl)) csvSheets (all-hold .8)
