@@ -19,7 +19,7 @@ ghost use Rattle.paper.specs.Job.{records};
 ghost use Rattle.paper.specs.Layouts.{boardOf, leader, byWeights};
 ghost use Rattle.paper.specs.Refusals.{Passed, drawTrials};
 ghost use Rattle.paper.specs.Promises.{number, countedNumber, FirstAnswers, NextAnswers, PageAnswers, MeasureAnswers, DrawAnswers};
-ghost use Rattle.paper.specs.Promises.{CountAnswers, PlaceAnswers, SvgAnswers, BufferPromise};
+ghost use Rattle.paper.specs.Promises.{CountAnswers, PlaceAnswers, SvgAnswers, CsvAnswers, BufferPromise};
 ghost use Rattle.paper.specs.laws.Drawn.{leaderDrawn};
 
 // First: the earliest best layout, in the first n entries of `list`.
@@ -192,4 +192,11 @@ pub fn svg(job: &[u8], list: &[u16], text: &mut [u8]) -> Counted
         Verdict::Sound => svg::sheet(job, list, text),
         Verdict::Refused(r) => Counted::Refused(r),
     }
+}
+
+// ReadCsv: the pads of a list in text, as records in the first bytes of `pads`.
+pub fn read_csv(text: &[u8], pads: &mut [u8]) -> Counted
+    ensures { λ r. ⌜ CsvAnswers (now (text .entry)) (now (pads .entry)) r (now (pads .exit)) ⌝ }
+{
+    importing::read(text, pads)
 }

@@ -1,26 +1,34 @@
 -- THE VERDICT IS RIGHT: for every input, a call's tests come to the refusal that its trials say, or to none.
-use mathlib.Core.Path.{_≡_, refl, subst}
+use mathlib.Core.Path.{_≡_, refl, sym, ap, subst, _∙_}
 use mathlib.Core.Logic.{inl, _↔_}
-use mathlib.Core.Bool.{Bool}
+use mathlib.Core.Bool.{Bool, true, false, _&&_, _||_, or-true}
 use mathlib.Core.List.{List, [], _∷_, _++_}
-use Prim.Native.Nat.{ℕ, _<_}
+use Prim.Native.Nat.{ℕ, zero, suc, _*_, _≤_, _<_}
+use native.Mathlib.Numerals.{add-one}
+use native.Mathlib.Decide.{decLt}
 use native.Mathlib.Omega.{arith}
-use lib.Dec.{T, ltb, ltb→lt, lt→ltb}
+use borrow.Author.Tests.{lt-ltb, le-ltb}
+use lib.Dec.{T, eqb, ltb, ltb→lt, lt→ltb}
+use lib.ListN.{length}
 use Rattle.numbers.specs.Tests.{both, true-iff}
+use Rattle.paper.specs.declared.Form.the-variants.{Slots}
 use Rattle.paper.specs.declared.Refusal.{Refusal}
 use Rattle.paper.specs.declared.Work.{Work}
-use Rattle.paper.specs.Job.{Job}
+use Rattle.paper.specs.Job.{Job, count}
 use Rattle.paper.specs.Layouts.{Badness}
-use Rattle.paper.specs.Refusals.{Trial, Smallest, Passed, RefusedBy, soundTrials, measureTrials, drawTrials}
-use Rattle.paper.specs.laws.Tests.{Test, atEach, atPairs, withEarlier, drawTests}
+use Rattle.paper.specs.Refusals.{Trial, Smallest, Passed, RefusedBy, refusal, soundTrials, measureTrials, drawTrials, readTrials}
+use Rattle.paper.specs.laws.Tests.{Test, atEach, atPairs, atWhole, withEarlier, badField, sameName, sameX, drawTests}
+use Rattle.paper.specs.laws.Parsing.{Row, listed, good, rowsBytes}
+use Rattle.paper.specs.laws.Written.{rows-count}
+use Rattle.paper.specs.laws.Imported.{padTests, rowTests, wide, wideTests, row-tests}
 use Rattle.paper.specs.laws.Trials.{passed-append, refused-left, refused-right}
 use Rattle.paper.specs.laws.Decided.{reasonOf, TestOf, TestsOf, soundTestsOf, measureTestsOf, sound-tests, measure-tests, draw-tests}
 use Rattle.find.specs.declared.Found.{Found}
 use Rattle.find.specs.declared.Found.the-variants.{At, Nowhere}
-use Rattle.find.specs.Search.{firstWhere, firstPairWhere, andAt, pairAt, at-is, none-at}
+use Rattle.find.specs.Search.{firstWhere, firstPairWhere, andAt, pairAt, none-below, none-more, found-here, at-is, none-at}
 use Rattle.checks.specs.declared.Verdict.{Verdict}
 use Rattle.checks.specs.declared.Verdict.the-variants.{Sound, Refused}
-use Rattle.checks.specs.Verdicts.{foundBy, outcome, verdictAfter, after-refused}
+use Rattle.checks.specs.Verdicts.{foundBy, outcome, andThen, verdictAfter, after-refused}
 
 -- The verdict v is right for these trials.
 abbrev pub Judged : Verdict → List Trial → Type 0
@@ -119,3 +127,76 @@ measure-judged job bad work list = tests-judge (measureTestsOf job bad work list
 
 pub draw-judged : (bytes : List ℕ) (i q room : ℕ) → Judged (verdictAfter Sound (drawTests bytes i q room)) (drawTrials bytes i q room)
 draw-judged bytes i q room = tests-judge (drawTests bytes i q room) (drawTrials bytes i q room) (draw-tests bytes i q room)
+
+-- ---- ReadCsv
+
+-- Where a test holds nowhere, nothing is found.
+none-found : (p : ℕ → Bool) (k : ℕ) → ((i : ℕ) → i < k → p i ≡ false) → firstWhere p k ≡ Nowhere
+none-found p zero f = none-below p
+none-found p (suc k) f = rw (← add-one k) (none-more p k (none-found p k (λ i l. f i (omega arith))) (f k (omega arith)))
+
+and-false : (a b : Bool) → b ≡ false → (a && b) ≡ false
+and-false true b e = e
+and-false false b e = refl
+
+-- What is found among the first n of m is what is found among n.
+wide-found : (p : ℕ → Bool) (n m : ℕ) → n ≤ m → firstWhere (wide n p) m ≡ firstWhere p n
+wide-found p n m h = go (firstWhere p n) refl
+  where
+    here : (i : ℕ) → i < n → wide n p i ≡ p i
+    here i l = rw (lt-ltb i n l)
+
+    past : firstWhere p n ≡ Nowhere → (i : ℕ) → Dec (i < n) → wide n p i ≡ false
+    past e i (yes l) = here i l ∙ none-at p n e i l
+    past e i (no l) = rw (le-ltb i n (omega arith))
+
+    go : (f : Found) → firstWhere p n ≡ f → firstWhere (wide n p) m ≡ firstWhere p n
+    go (At i z) e =
+        let (l, zero-is, holds, before) = at-is p n i z e in
+        found-here (wide n p) i (none-found (wide n p) i (λ j k. and-false (ltb j n) (p j) (none-at p i before j k))) (here i l ∙ holds) m (omega arith)
+        ∙ sym (e ∙ ap (At i) zero-is)
+    go Nowhere e = none-found (wide n p) m (λ i l. past e i (decLt i n)) ∙ sym e
+
+then-each : (v : Verdict) (r n : ℕ) (p : ℕ → Bool) → n ≤ 64 → andThen v (atEach r n p) ≡ andThen v (atEach r 64 (wide n p))
+then-each Sound r n p l = ap (outcome r) (sym (wide-found p n 64 l))
+then-each (Refused q) r n p l = refl
+
+-- So it does not matter that the trials are at 64 pads and the tests at as many as there are: with more than 64, 1 comes first.
+module _ (n room : ℕ) (bytes : List ℕ) (is : count bytes ≡ n) where
+  abbrev sizes : Verdict
+  sizes = andThen Sound (atWhole 1 (eqb n 0 || ltb 64 n))
+
+  abbrev wides : List Test
+  wides =
+      atEach 4 64 (wide n (badField Slots bytes)) ∷
+      atEach 6 64 (wide n (withEarlier (sameName bytes))) ∷
+      atEach 7 64 (wide n (withEarlier (sameX bytes))) ∷ []
+
+  many : 64 < n → sizes ≡ Refused (refusal 1 0 0)
+  many l = ap (outcome 1) (found-here (λ i. eqb n 0 || ltb 64 n) 0 (none-below (λ i. eqb n 0 || ltb 64 n)) (rw (lt-ltb 64 n l) (or-true (eqb n 0))) 1 (omega arith))
+
+  few : (v : Verdict) → n ≤ 64 → verdictAfter v (padTests bytes) ≡ verdictAfter v wides
+  few v l =
+      let four = andThen v (atEach 4 64 (wide n (badField Slots bytes))) in
+      let six = andThen four (atEach 6 64 (wide n (withEarlier (sameName bytes)))) in
+      rw is
+      (ap (λ (w : Verdict). andThen (andThen w (atEach 6 n (withEarlier (sameName bytes)))) (atEach 7 n (withEarlier (sameX bytes)))) (then-each v 4 n (badField Slots bytes) l)
+      ∙ ap (λ (w : Verdict). andThen w (atEach 7 n (withEarlier (sameX bytes)))) (then-each four 6 n (withEarlier (sameName bytes)) l)
+      ∙ then-each six 7 n (withEarlier (sameX bytes)) l)
+
+  rows-wide : (made : List ℕ) → (n ≤ 64 → made ≡ bytes) → verdictAfter Sound (rowTests n made room) ≡ verdictAfter Sound (wideTests n bytes room)
+  rows-wide made same = go (decLt 64 n)
+    where
+      go : Dec (64 < n) → verdictAfter Sound (rowTests n made room) ≡ verdictAfter Sound (wideTests n bytes room)
+      go (yes l) =
+          ap (λ (v : Verdict). verdictAfter v (atWhole 22 (ltb room (16 * n)) ∷ padTests made)) (many l)
+          ∙ sym (ap (λ (v : Verdict). verdictAfter v (atWhole 22 (ltb room (16 * n)) ∷ wides)) (many l))
+      go (no l) =
+          ap (λ (m : List ℕ). verdictAfter Sound (rowTests n m room)) (same (omega arith)) ∙ few (andThen sizes (atWhole 22 (ltb room (16 * n)))) (omega arith)
+
+-- THEOREM. What the code finds of a list that it has read is what the trials say.
+pub list-judged : (text : List ℕ) (rows : List Row) (made : List ℕ) (room : ℕ) → listed text ≡ good rows → (length rows ≤ 64 → made ≡ rowsBytes rows)
+    → Judged (verdictAfter Sound (rowTests (length rows) made room)) (readTrials text room)
+list-judged text rows made room e same =
+    rw (rows-wide (length rows) room (rowsBytes rows) (rows-count rows) made same)
+    (tests-judge (wideTests (length rows) (rowsBytes rows) room) (readTrials text room) (row-tests text rows room e .2))

@@ -1,5 +1,5 @@
 -- What a sound verdict tells of the checks so far.
-use Prim.Native.Nat.{ℕ, _<_, _≤_, _%_}
+use Prim.Native.Nat.{ℕ, _*_, _<_, _≤_, _%_}
 use mathlib.Core.List.{List, [], _∷_, _++_}
 use mathlib.Core.Bool.{Bool, false, not, _||_}
 use mathlib.Core.Path.{_≡_, refl, sym, _∙_}
@@ -79,3 +79,10 @@ first-sized form pads ports given work room formed e =
     let enough = enoughTests form pads ports ++ workTests (count pads) (portCount form ports) work in
     let room-is = then-sound (andThen sized given) three (after-sound (andThen (andThen sized given) three) enough roomy) in
     (sizes-sound form pads ports formed (then-sound sized given (room-is .0) .0), ltb-false room (count pads) (whole-false 3 (ltb room (count pads)) (room-is .1)))
+
+-- 1 and 22 of a list that was read not given: so few pads, and room for their records.
+pub list-few : (n room : ℕ) → andThen (andThen Sound (atWhole 1 (eqb n 0 || ltb 64 n))) (atWhole 22 (ltb room (16 * n))) ≡ Sound → (n ≤ 64) × (16 * n ≤ room)
+list-few n room e =
+    let two = then-sound (andThen Sound (atWhole 1 (eqb n 0 || ltb 64 n))) (atWhole 22 (ltb room (16 * n))) e in
+    let one = then-sound Sound (atWhole 1 (eqb n 0 || ltb 64 n)) (two .0) in
+    (ltb-false 64 n (or-false-right (eqb n 0) (ltb 64 n) (whole-false 1 (eqb n 0 || ltb 64 n) (one .1))), ltb-false room (16 * n) (whole-false 22 (ltb room (16 * n)) (two .1)))

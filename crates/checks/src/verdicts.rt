@@ -8,14 +8,15 @@ use paper::Form;
 use paper::Refusal;
 use paper::Work;
 ghost use mathlib.Core.Path.{_≡_};
-ghost use Prim.Native.Nat.{_≤_};
+ghost use Prim.Native.Nat.{_*_, _≤_};
 ghost use lib.Dec.{ltb};
-ghost use lib.ListN.{length};
+ghost use lib.ListN.{length, take};
 ghost use Rattle.paper.specs.Job.{count, portCount};
 ghost use Rattle.paper.specs.Layouts.{boardFrom, held};
 ghost use Rattle.paper.specs.Refusals.{workNeeded};
 ghost use Rattle.paper.specs.laws.Tests.{badWeight, badTable, badEntry, recordsTouch, atEach, atPairs, atWhole};
 ghost use Rattle.paper.specs.laws.Tests.{sizeTests, enoughTests, workTests, roomTests, fieldTests, boardTests, jobTests, layoutTests, soundTests, measureTests, drawTests};
+ghost use Rattle.paper.specs.laws.Imported.{padTests, rowTests};
 ghost use Rattle.find.specs.Dispatch.{testOf, numberOf, Led};
 ghost use Rattle.checks.specs.Verdicts.{outcome, andThen, verdictAfter, givenTest, Formed, Short, Few};
 
@@ -247,4 +248,28 @@ pub fn of_draw(job: &[u8], i: u32, q: u32, room: usize) -> Verdict
     let v3 = try_whole(v1, 3, room < 6);
     let v7 = of_job(v3, Form::Records, job, job);
     try_whole(v7, 11, faults::bad_number(job, i, q))
+}
+
+// 4, 6 and 7 of pad records alone.
+fn of_pads(pads: &[u8]) -> Verdict
+    requires { ⌜ length (now pads) ≤ 1024 ⌝ }
+    ensures { λ r. ⌜ r ≡ verdictAfter Verdict.Sound (padTests (now (pads .entry))) ⌝ }
+{
+    let v4 = try_records(Verdict::Sound, 4, Check::Field, Form::Slots, pads, pads);
+    let v6 = try_records(v4, 6, Check::Name, Form::Slots, pads, pads);
+    try_records(v6, 7, Check::Place, Form::Slots, pads, pads)
+}
+
+// ReadCsv, of a list that was read: n pads, the first 64 or fewer of them made into records, and room for so many bytes: 1, 22 and the pads'.
+pub fn of_list(made: &[u8], n: u16, room: usize) -> Verdict
+    requires { ⌜ 1024 ≤ length (now made) ⌝ }
+    ensures { λ r. ⌜ r ≡ verdictAfter Verdict.Sound (rowTests n (take (16 * n) (now (made .entry))) room) ⌝ }
+{
+    let bytes = 16 * n as usize;
+    let v1 = try_whole(Verdict::Sound, 1, (n == 0) | (64 < n));
+    let v22 = try_whole(v1, 22, room < bytes);
+    match v22 {
+        Verdict::Sound => of_pads(&made[..bytes]),
+        Verdict::Refused(r) => Verdict::Refused(r),
+    }
 }

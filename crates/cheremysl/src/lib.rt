@@ -11,10 +11,10 @@ ghost use Rattle.paper.specs.Job.{records, slots};
 ghost use Rattle.paper.specs.Layouts.{byWeights, byTable};
 ghost use Rattle.paper.specs.Promises.{refusalNumber, number, countedNumber, drawnNumber};
 ghost use Rattle.paper.specs.Promises.{FirstPromise, NextPromise, PagePromise, MeasurePromise, DrawPromise, WorkPromise};
-ghost use Rattle.paper.specs.Promises.{CountPromise, PlacePromise, SvgPromise, BufferPromise};
+ghost use Rattle.paper.specs.Promises.{CountPromise, PlacePromise, SvgPromise, CsvPromise, BufferPromise};
 ghost use Rattle.paper.specs.laws.Bounds.{Bounded, BoundedCount};
 
-// C's number of a refusal, of an answer, of a page, a count or a text, and of a drawn leader.
+// C's number of a refusal, of an answer, of a page, a count, a text or a list, and of a drawn leader.
 fn of_refusal(f: Refusal) -> i64
     ensures { λ r. ⌜ r ≡ refusalNumber f ⌝ }
 {
@@ -209,4 +209,11 @@ pub extern "C" fn cheremysl_svg(job: &[u8], layout: &[u16], text: &mut [u8]) -> 
     ensures { λ r. ⌜ SvgPromise (now (job .entry)) (now (layout .entry)) (now (text .entry)) r (now (text .exit)) ⌝ }
 {
     of_counted(calls::svg(job, layout, text))
+}
+
+#[no_mangle]
+pub extern "C" fn cheremysl_read_csv(text: &[u8], pads: &mut [u8]) -> i64
+    ensures { λ r. ⌜ CsvPromise (now (text .entry)) (now (pads .entry)) r (now (pads .exit)) ⌝ }
+{
+    of_counted(calls::read_csv(text, pads))
 }

@@ -1,0 +1,2 @@
+-- What is kept of the records that were made.
+pub mod Made
