@@ -17,7 +17,8 @@
  *        |                 |             cheremysl_measure   the total of any sheet that is sound
  *      0 *-----------------+             cheremysl_draw      one leader's points for the canvas
  *        +-----+-----+-----+--> x        cheremysl_svg       all leaders as text for a web page
- *        0    10    20    30
+ *        0    10    20    30             cheremysl_read_csv  pads from the list of a board tool
+ *
  *                                        cheremysl_table_first     First, Next and Measure by the
  *                                        cheremysl_table_next      caller's own figure for each
  *                                        cheremysl_table_measure   pad with each port
@@ -86,6 +87,7 @@
  *
  * Here n is the number of pads, pad_bytes / 16, and p the number of ports, port_bytes / 4, at least
  * n. A port that no pad is led to stays free. One list of ports serves all boards that use a strip.
+ * ReadCsv makes pads, as points, of the list that a board tool saves.
  *
  * SlotsFirst and SlotsNext are lent a work list as well, of 2(n + 1)(p + 2)(p + 2) 64-bit numbers
  * or more: CHEREMYSL_SLOTS_WORK(n, p), which for the largest job is 2,197,000, some 17.6 million
@@ -184,7 +186,8 @@
  *                          CHEREMYSL_MAX_TOTAL, and in the table calls at most
  *                          CHEREMYSL_MAX_TABLE_TOTAL), the number of layouts written (Page), of
  *                          best layouts, 1 to CHEREMYSL_MAX_COUNT (Count), of points, 2 or 3
- *                          (Draw), or of bytes written, at most CHEREMYSL_MAX_SVG_BYTES (Svg)
+ *                          (Draw), of bytes written, at most CHEREMYSL_MAX_SVG_BYTES (Svg), or
+ *                          of pads, 1 to 64 (ReadCsv)
  *      -1                  the end (Next, TableNext and SlotsNext only): no best layout comes
  *                          after the given one
  *      -(4294967296 * j + 65536 * r + i)
@@ -199,7 +202,8 @@
  *
  *      no.  given when                                                       record number
  *       1   job_bytes or pad_bytes is 0, not a multiple of 16, or above      0
- *           1,024; port_bytes is 0, not a multiple of 4, or above 512
+ *           1,024; port_bytes is 0, not a multiple of 4, or above 512;
+ *           ReadCsv's text has no pads, or more than 64
  *       2   a weight is above 1,000                                          0
  *       3   the layout list has fewer than n entries, or Draw's list         0
  *           fewer than six floats (for a straight leader too); Page's
@@ -222,6 +226,10 @@
  *      17   Place's place is the number of best layouts or more              0
  *      18   the buffer has fewer than 2(n + 2)(n + 2) numbers                0
  *      19   Svg's text is longer than the bytes lent for it                  0
+ *      20   ReadCsv's text_bytes is above 16,384                             0
+ *      21   a line of ReadCsv's text is not of its form                      first such line,
+ *                                                                            counted from 1
+ *      22   ReadCsv's pad_bytes is less than 16 for each pad                 0
  *      24   the work list has fewer than 2(n + 1)(p + 2)(p + 2) numbers      0
  *
  * Each call checks for these, in this order, each over the whole job before the next:
@@ -234,6 +242,7 @@
  *      Measure        1, 2, 3, 4, 5, 12, 6, 7, 8, 9
  *      Draw           1, 3, 4, 5, 12, 6, 7, 11
  *      Svg            1, 3, 4, 5, 12, 6, 7, 8, 9, 19
+ *      ReadCsv        20, 21, 1, 22, 4, 6, 7
  *      TableFirst     1, 13, 3, 4, 5, 12, 6, 7, 15
  *      TableNext      1, 13, 3, 4, 5, 12, 6, 7, 8, 9, 10
  *      TableMeasure   1, 13, 3, 4, 5, 12, 6, 7, 8, 9
@@ -244,6 +253,9 @@
  * An input that deserves several refusals gets the one that stands first, with the first record
  * at fault for it: a port that is not above the one before gets 5, not 12. No refusal is given in
  * any other case.
+ *
+ * In ReadCsv 21 names a line, counted from 1, and 4, 6 and 7 name a pad, counted from 0: the pad of
+ * record i stands on line i + 2.
  *
  * In the slots calls 1 and 4 are checked over the pads and then over the ports. 5 and 12 name the
  * port's number there, and so does 4 for a port: it speaks of a port exactly if SlotsMeasure, given
@@ -265,8 +277,9 @@
  * A list that a call writes must not overlap another that it is lent: to go on from the last layout
  * of a page, copy it out first.
  *
- *      the job, pads and ports,      never written
- *      the table
+ *      the job, pads and ports of    never written
+ *      the slots calls, the table,
+ *      ReadCsv's text
  *      the layout of Page, Svg,      never written
  *      Measure, TableMeasure,
  *      SlotsMeasure
@@ -286,6 +299,8 @@
  *      Draw with 2 or 3 points       the first 4 or 6 floats are replaced, those after unchanged
  *      Svg with k bytes              the text's bytes 0 to k - 1 are replaced, those from k on
  *                                    unchanged
+ *      ReadCsv with n pads           the room's bytes 0 to 16 * n - 1 are replaced, those from
+ *                                    16 * n on unchanged
  *
  * Reply and lists depend on the arguments and on what the lists hold, and on nothing else; what a
  * work list or a buffer holds on entry makes no difference. What a work list holds after a total,
@@ -314,7 +329,7 @@
  * call as its namesake. What grows with n cubed is the finding of least totals, for every run of
  * ports. Page does as Next does, and finds them once for the whole page. Count and Place take time
  * that grows as First's, whatever the place. SlotsFirst and SlotsNext take time that grows with n
- * times p cubed, SlotsMeasure as Measure and with p.
+ * times p cubed, SlotsMeasure as Measure and with p, ReadCsv with the text and with n squared.
  *
  * COMPILERS AND PLATFORMS
  *
@@ -355,14 +370,14 @@
 /* ---- version ----------------------------------------------------------------------------- */
 
 #define CHEREMYSL_VERSION_MAJOR 2
-#define CHEREMYSL_VERSION_MINOR 3
+#define CHEREMYSL_VERSION_MINOR 4
 #define CHEREMYSL_VERSION_PATCH 0
 
-/* A number to compare, in #if too: 2003000 for 2.3.0. */
+/* A number to compare, in #if too: 2004000 for 2.4.0. */
 #define CHEREMYSL_VERSION_NUMBER \
     (1000000 * CHEREMYSL_VERSION_MAJOR + 1000 * CHEREMYSL_VERSION_MINOR + CHEREMYSL_VERSION_PATCH)
 
-/* A string: "2.3.0". */
+/* A string: "2.4.0". */
 #define CHEREMYSL_VERSION_TEXT \
     CHEREMYSL_JOIN(CHEREMYSL_VERSION_MAJOR, CHEREMYSL_VERSION_MINOR, CHEREMYSL_VERSION_PATCH)
 #define CHEREMYSL_JOIN(major, minor, patch) CHEREMYSL_JOIN_WORDS(major, minor, patch)
@@ -423,7 +438,7 @@ extern "C" {
 
 #define CHEREMYSL_RECORD_BYTES 16               /* bytes of a record */
 #define CHEREMYSL_MAX_RECORDS 64                /* records of a job, so also entries of a layout */
-#define CHEREMYSL_MAX_JOB_BYTES 1024            /* bytes of a job */
+#define CHEREMYSL_MAX_JOB_BYTES 1024            /* bytes of a job, or of pads */
 #define CHEREMYSL_MAX_FIGURES 4096              /* figures of a table, for the largest job */
 #define CHEREMYSL_PORT_BYTES 4                  /* bytes of a height in a list of ports */
 #define CHEREMYSL_MAX_SLOTS 128                 /* heights of a list of ports */
@@ -440,6 +455,7 @@ extern "C" {
 #define CHEREMYSL_MAX_COUNT 1000000000000000000 /* of more best layouts none has a place */
 #define CHEREMYSL_DRAW_FLOATS 6                 /* floats that Draw must be lent */
 #define CHEREMYSL_MAX_SVG_BYTES 4864            /* bytes of Svg's text, for the largest job */
+#define CHEREMYSL_MAX_CSV_BYTES 16384           /* bytes of ReadCsv's text */
 #define CHEREMYSL_STACK_BYTES 65536             /* no call needs more stack */
 
 /*
@@ -465,7 +481,7 @@ extern "C" {
 #define CHEREMYSL_END (-1)
 
 enum cheremysl_refusal {
-    CHEREMYSL_BAD_SIZE = 1,        /* a number of bytes that job, pads or ports cannot have */
+    CHEREMYSL_BAD_SIZE = 1,        /* a size that job, pads or ports cannot have */
     CHEREMYSL_BAD_WEIGHT = 2,      /* a weight is above 1,000 */
     CHEREMYSL_NO_ROOM = 3,         /* a layout of fewer than n entries, fewer than six floats */
     CHEREMYSL_BAD_FIELD = 4,       /* a field is outside its range */
@@ -484,6 +500,9 @@ enum cheremysl_refusal {
     CHEREMYSL_PAST_COUNT = 17,     /* Place's place is the number of best layouts or more */
     CHEREMYSL_NO_BUFFER_ROOM = 18, /* a buffer of fewer than 2(n + 2)(n + 2) numbers */
     CHEREMYSL_TEXT_TOO_LONG = 19,  /* Svg's text is longer than the bytes lent for it */
+    CHEREMYSL_CSV_TOO_LONG = 20,   /* a text of more than 16,384 bytes */
+    CHEREMYSL_BAD_LINE = 21,       /* a line of the text is not of its form */
+    CHEREMYSL_NO_PAD_ROOM = 22,    /* room of fewer than 16 bytes for each pad of the text */
     CHEREMYSL_NO_WORK_ROOM = 24    /* a work list of fewer than 2(n + 1)(p + 2)(p + 2) numbers */
 };
 
@@ -682,6 +701,48 @@ int64_t cheremysl_svg(const uint8_t *job, size_t job_bytes, const uint16_t *layo
     CHEREMYSL_CALL CHEREMYSL_READS(1, 2) CHEREMYSL_READS(3, 4) CHEREMYSL_WRITES(5, 6);
 
 /*
+ * ReadCsv: the pads of a list that a board tool saves as comma-separated values, by RFC 4180, as
+ * records for the slots calls.
+ *
+ *      text, text_bytes  the list, at most CHEREMYSL_MAX_CSV_BYTES, 16,384 bytes; only read
+ *      pads, pad_bytes   lent bytes, to be filled; what they hold on entry makes no difference. 16
+ *                        for each pad will do, CHEREMYSL_MAX_JOB_BYTES, 1,024, for every list
+ *
+ * The first line of the list is name,x,y and each line after it is a pad:
+ *
+ *      name,x,y
+ *      801,120,330
+ *      "802","190","-336"
+ *
+ * A line ends with CR LF, the bytes 13 and 10, and the last may do without. Every CR LF ends a
+ * line, one inside quotes too; a CR or an LF alone is a byte like any other. A line is three fields
+ * with a comma between two. A field, in the first line too, may be quoted: then it begins and ends
+ * with a quote, every quote between these is doubled, and a comma between them is part of it. A
+ * field that is not quoted has no quote. Nothing is skipped: a blank belongs to its field, an empty
+ * line is a line, and a byte order mark is part of line 1.
+ *
+ * A number is digits, without a leading zero but for 0 itself; in y a minus may stand before it,
+ * but not before 0. There is no plus sign. So a pad is written in one way, but for quotes. A number
+ * so written may have any length: outside its field's range, as THE JOB has it, it is refused with
+ * 4 and not with 21.
+ *
+ * Answers the number of pads, n: the first 16 * n bytes hold their records, in the order of the
+ * lines, with half-side 0 and last field 0; those after them are unchanged. Or refuses with 20, 21,
+ * 1, 22, 4, 6 or 7, checked in this order, and writes nothing. 21 has the number of the first bad
+ * line, counted from 1, where the other calls have a record: an empty text has the bad line 1, and
+ * with the first line alone there are no pads, which is 1. The record i of 4, 6 and 7 is the pad on
+ * line i + 2. NULL with 0 is allowed. Text and pads must not overlap.
+ *
+ *      uint8_t pads[CHEREMYSL_MAX_JOB_BYTES];
+ *      int64_t n = cheremysl_read_csv(text, text_bytes, pads, sizeof pads);
+ *      if (n > 0)
+ *          answer = cheremysl_slots_first(pads, 16 * (size_t)n, ports, port_bytes, 1, 0, layout,
+ *                                         (size_t)n, work, CHEREMYSL_MAX_SLOTS_WORK);
+ */
+int64_t cheremysl_read_csv(const uint8_t *text, size_t text_bytes, uint8_t *pads, size_t pad_bytes)
+    CHEREMYSL_CALL CHEREMYSL_READS(1, 2) CHEREMYSL_WRITES(3, 4);
+
+/*
  * TableFirst: the earliest best layout by a table. As First, with a table in place of the weights.
  *
  *      job, job_bytes   the job; only read
@@ -800,12 +861,12 @@ static inline int cheremysl_is_refusal(int64_t answer) { return answer < CHEREMY
 /* 1 if the answer is the end, else 0. */
 static inline int cheremysl_is_end(int64_t answer) { return answer == CHEREMYSL_END; }
 
-/* The refusal's number, 1 to 19 or 24; 0 if the answer is not a refusal. */
+/* The refusal's number, 1 to 22 or 24; 0 if the answer is not a refusal. */
 static inline int cheremysl_refusal_number(int64_t answer) {
     return cheremysl_is_refusal(answer) ? CHEREMYSL_CAST(int, answer / -65536 % 65536) : 0;
 }
 
-/* The refusal's record number, or the port's; 0 if the answer is not a refusal. */
+/* The refusal's record number, or the port's or the line's; 0 if the answer is not a refusal. */
 static inline int cheremysl_refusal_record(int64_t answer) {
     return cheremysl_is_refusal(answer) ? CHEREMYSL_CAST(int, -(answer % 65536)) : 0;
 }
@@ -817,9 +878,9 @@ static inline int cheremysl_refusal_earlier(int64_t answer) {
 
 /*
  * The refusal in one English sentence, for whoever drew the board: "this record" in it, or "this
- * port", is the one whose number cheremysl_refusal_record gives. "" if the answer is not a refusal.
- * A refusal whose number is not in this header, from a later library, gets a sentence that says so.
- * The text is constant: it is there as long as the program runs.
+ * port" or "this line", is the one whose number cheremysl_refusal_record gives. "" if the answer is
+ * not a refusal. A refusal whose number is not in this header, from a later library, gets a
+ * sentence that says so. The text is constant: it is there as long as the program runs.
  */
 static inline const char *cheremysl_refusal_text(int64_t answer) {
     int number = cheremysl_refusal_number(answer);
@@ -827,7 +888,7 @@ static inline const char *cheremysl_refusal_text(int64_t answer) {
     switch (CHEREMYSL_CAST(enum cheremysl_refusal, known)) {
     case CHEREMYSL_BAD_SIZE:
         return "The job is not 1 to 64 records of 16 bytes, or its list of ports, if it has one, "
-               "not 1 to 128 heights of 4 bytes.";
+               "not 1 to 128 heights of 4 bytes, or a text does not have 1 to 64 pads.";
     case CHEREMYSL_BAD_WEIGHT:
         return "A weight is above 1,000.";
     case CHEREMYSL_NO_ROOM:
@@ -866,6 +927,13 @@ static inline const char *cheremysl_refusal_text(int64_t answer) {
         return "The buffer is too short for so many pads.";
     case CHEREMYSL_TEXT_TOO_LONG:
         return "The text of this sheet is longer than the room lent for it.";
+    case CHEREMYSL_CSV_TOO_LONG:
+        return "The text with the pads is longer than 16,384 bytes.";
+    case CHEREMYSL_BAD_LINE:
+        return "This line is not name,x,y, if it is the first, or else a name, an x and a y with "
+               "commas between them; lines end with CR LF.";
+    case CHEREMYSL_NO_PAD_ROOM:
+        return "The room for the pads is less than 16 bytes for each.";
     case CHEREMYSL_NO_WORK_ROOM:
         return "The work list is too short for so many pads and ports.";
     }

@@ -7,8 +7,8 @@
 #include <stdio.h>
 #include <string.h>
 
-#if CHEREMYSL_VERSION_NUMBER < 2003000 || CHEREMYSL_VERSION_NUMBER >= 3000000
-#error "the version is not 2.3 or a later 2"
+#if CHEREMYSL_VERSION_NUMBER < 2004000 || CHEREMYSL_VERSION_NUMBER >= 3000000
+#error "the version is not 2.4 or a later 2"
 #endif
 
 /* These are refused by the compiler if a prototype is another. */
@@ -18,6 +18,7 @@ typedef int64_t fill_page(const uint8_t *, size_t, uint32_t, uint32_t, const uin
                           uint16_t *, size_t);
 typedef int64_t draw(const uint8_t *, size_t, uint32_t, uint32_t, float *, size_t);
 typedef int64_t write_text(const uint8_t *, size_t, const uint16_t *, size_t, char *, size_t);
+typedef int64_t read_text(const uint8_t *, size_t, uint8_t *, size_t);
 typedef int64_t fill_by_table(const uint8_t *, size_t, const uint32_t *, size_t, uint16_t *,
                               size_t);
 typedef int64_t read_by_table(const uint8_t *, size_t, const uint32_t *, size_t, const uint16_t *,
@@ -34,6 +35,7 @@ typedef int64_t fill_at_place(const uint8_t *, size_t, uint32_t, uint32_t, uint6
 static read_only *const measure_call = cheremysl_measure;
 static draw *const draw_call = cheremysl_draw;
 static write_text *const svg_call = cheremysl_svg;
+static read_text *const read_csv_call = cheremysl_read_csv;
 static read_by_table *const table_measure_call = cheremysl_table_measure;
 static read_on_slots *const slots_measure_call = cheremysl_slots_measure;
 #ifndef NO_SEARCH
@@ -70,6 +72,7 @@ static void answers(void) {
     is_no_refusal(0, 0);
     is_no_refusal(2, 0);
     is_no_refusal(5, 0);
+    is_no_refusal(CHEREMYSL_MAX_RECORDS, 0);
     is_no_refusal(CHEREMYSL_MAX_TOTAL, 0);
     is_no_refusal(CHEREMYSL_MAX_TABLE_TOTAL, 0);
     is_no_refusal(CHEREMYSL_MAX_COUNT, 0);
@@ -78,6 +81,9 @@ static void answers(void) {
     for (int number = CHEREMYSL_BAD_SIZE; number <= CHEREMYSL_NO_WORK_ROOM; number++)
         for (int record = 0; record < CHEREMYSL_MAX_SLOTS; record++)
             is_refusal(-(65536 * (int64_t)number + record), number, record, 0);
+    /* A line's number may be larger than a record's, and is less than the bytes of the text. */
+    is_refusal(-(65536 * CHEREMYSL_BAD_LINE + CHEREMYSL_MAX_CSV_BYTES), CHEREMYSL_BAD_LINE,
+               CHEREMYSL_MAX_CSV_BYTES, 0);
 }
 
 /* Refusal 9 with any two records: all that went into the number comes out of it. */
@@ -93,7 +99,7 @@ static void pairs(void) {
 static const char *text(int number) { return cheremysl_refusal_text(-65536 * (int64_t)number); }
 
 static int is_known(int number) {
-    return number <= CHEREMYSL_TEXT_TOO_LONG || number == CHEREMYSL_NO_WORK_ROOM;
+    return number <= CHEREMYSL_NO_PAD_ROOM || number == CHEREMYSL_NO_WORK_ROOM;
 }
 
 /* A sentence, and not one that a smaller number has, if that or this is known. */
@@ -107,10 +113,10 @@ static void is_sentence(int number) {
 
 /* All that are unknown share one. */
 static void texts(void) {
-    int unknown = CHEREMYSL_TEXT_TOO_LONG + 1;
+    int unknown = CHEREMYSL_NO_PAD_ROOM + 1;
     for (int number = CHEREMYSL_BAD_SIZE; number <= CHEREMYSL_NO_WORK_ROOM + 1; number++)
         is_sentence(number);
-    check(strcmp(text(23), text(unknown)) == 0 && strcmp(text(65535), text(unknown)) == 0);
+    check(strcmp(text(25), text(unknown)) == 0 && strcmp(text(65535), text(unknown)) == 0);
     check(strcmp(cheremysl_refusal_text(-2), text(unknown)) == 0);
     check(strcmp(cheremysl_refusal_text(-4295557122), text(CHEREMYSL_TOUCHING)) == 0);
 }
@@ -119,6 +125,7 @@ static void calls(void) {
     is_refusal(measure_call(NULL, 0, 0, 0, NULL, 0), CHEREMYSL_BAD_SIZE, 0, 0);
     is_refusal(draw_call(NULL, 0, 0, 0, NULL, 0), CHEREMYSL_BAD_SIZE, 0, 0);
     is_refusal(svg_call(NULL, 0, NULL, 0, NULL, 0), CHEREMYSL_BAD_SIZE, 0, 0);
+    is_refusal(read_csv_call(NULL, 0, NULL, 0), CHEREMYSL_BAD_LINE, 1, 0);
     is_refusal(table_measure_call(NULL, 0, NULL, 0, NULL, 0), CHEREMYSL_BAD_SIZE, 0, 0);
     is_refusal(slots_measure_call(NULL, 0, NULL, 0, 0, 0, NULL, 0), CHEREMYSL_BAD_SIZE, 0, 0);
 #ifndef NO_SEARCH
@@ -157,6 +164,8 @@ static void limits(void) {
     check(CHEREMYSL_TEXT_TOO_LONG == 19);
     check(CHEREMYSL_MAX_SVG_BYTES == CHEREMYSL_SVG_BYTES(CHEREMYSL_MAX_RECORDS));
     check(CHEREMYSL_SVG_BYTES(3) == 228 && CHEREMYSL_SVG_BYTES(1 + 2) == 228);
+    check(CHEREMYSL_CSV_TOO_LONG == 20 && CHEREMYSL_BAD_LINE == 21 && CHEREMYSL_NO_PAD_ROOM == 22);
+    check(CHEREMYSL_MAX_CSV_BYTES == 16384);
 }
 
 static void version(void) {
@@ -275,6 +284,30 @@ static void svg_keeps(size_t bytes, int64_t wanted) {
     check(cheremysl_svg(one_pad, PAD, layout, LENT, text, bytes) == wanted);
     check(memcmp(text, one_line, written) == 0);
     for (size_t i = written; i < TEXT; i++) check(text[i] == 'x');
+}
+
+/* The pad of one_pad. */
+static const uint8_t one_list[] = "name,x,y\r\n1,5,0\r\n";
+enum { LIST = sizeof one_list - 1, HEADING = sizeof "name,x,y" - 1, ROOM = PAD + 8 };
+
+/* So many bytes of the list, and so many lent: a record, or nothing; what stood after it stays. */
+static void read_csv_keeps(size_t text_bytes, size_t pad_bytes, int64_t wanted) {
+    uint8_t pads[ROOM];
+    size_t written = wanted > 0 ? PAD : 0;
+    memset(pads, 'x', sizeof pads);
+    check(cheremysl_read_csv(one_list, text_bytes, pads, pad_bytes) == wanted);
+    check(memcmp(pads, one_pad, written) == 0);
+    for (size_t i = written; i < ROOM; i++) check(pads[i] == 'x');
+}
+
+/* No text, then no pads in it, then no room for one, with a pointer and without. */
+static void no_pads(void) {
+    uint8_t pads[1] = {'x'};
+    is_refusal(read_csv_call(NULL, 0, pads, 1), CHEREMYSL_BAD_LINE, 1, 0);
+    is_refusal(read_csv_call(one_list, HEADING, NULL, 0), CHEREMYSL_BAD_SIZE, 0, 0);
+    is_refusal(read_csv_call(one_list, LIST, NULL, 0), CHEREMYSL_NO_PAD_ROOM, 0, 0);
+    is_refusal(read_csv_call(one_list, LIST, pads, 0), CHEREMYSL_NO_PAD_ROOM, 0, 0);
+    check(pads[0] == 'x');
 }
 
 /* A layout that was filled in part: entries from n on are not looked at. */
@@ -421,6 +454,13 @@ static void lists(void) {
     svg_keeps(LINE, LINE);
     svg_keeps(LINE - 1, -65536 * CHEREMYSL_TEXT_TOO_LONG);
     svg_keeps(0, -65536 * CHEREMYSL_TEXT_TOO_LONG);
+    read_csv_keeps(LIST, ROOM, 1);
+    read_csv_keeps(LIST, PAD, 1);
+    read_csv_keeps(LIST - 2, PAD, 1);
+    read_csv_keeps(LIST - 3, ROOM, -(65536 * CHEREMYSL_BAD_LINE + 2));
+    read_csv_keeps(LIST, PAD - 1, -65536 * CHEREMYSL_NO_PAD_ROOM);
+    read_csv_keeps(HEADING, ROOM, bad_size);
+    read_csv_keeps(HEADING - 1, ROOM, -(65536 * CHEREMYSL_BAD_LINE + 1));
 #ifndef NO_SEARCH
     int64_t bad_entry = -65536 * CHEREMYSL_BAD_ENTRY;
     first_keeps(sizeof one_pad, 5, 1);
@@ -456,6 +496,7 @@ int main(void) {
     no_room();
     no_list();
     no_text();
+    no_pads();
 #ifndef NO_SEARCH
     no_buffer();
 #endif

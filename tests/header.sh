@@ -41,7 +41,7 @@ refuses() {
 cat >"$room/user.c" <<'C'
 #include <cheremysl.h>
 
-#if CHEREMYSL_VERSION_NUMBER < 2003000
+#if CHEREMYSL_VERSION_NUMBER < 2004000
 #error "too old"
 #endif
 #if CHEREMYSL_SLOTS_WORK(CHEREMYSL_MAX_RECORDS, CHEREMYSL_MAX_SLOTS) != CHEREMYSL_MAX_SLOTS_WORK
@@ -74,6 +74,7 @@ int main(void) {
     uint32_t table[CHEREMYSL_MAX_FIGURES] = {0};
     float points[CHEREMYSL_DRAW_FLOATS];
     char lines[CHEREMYSL_SVG_BYTES(CHEREMYSL_MAX_RECORDS)];
+    uint8_t list[CHEREMYSL_MAX_CSV_BYTES] = {0}, pads[CHEREMYSL_MAX_JOB_BYTES];
     const char *text = CHEREMYSL_VERSION_TEXT;
     int64_t answer = cheremysl_first(job, CHEREMYSL_RECORD_BYTES, 1, 0, layout, CHEREMYSL_MAX_RECORDS);
     if (cheremysl_is_refusal(answer)) text = cheremysl_refusal_text(answer);
@@ -107,6 +108,10 @@ int main(void) {
     if (answer > CHEREMYSL_MAX_TOTAL) return cheremysl_refusal_record(answer);
     answer = cheremysl_svg(job, sizeof job, layout, CHEREMYSL_MAX_RECORDS, lines, CHEREMYSL_MAX_SVG_BYTES);
     if (cheremysl_refusal_number(answer) == CHEREMYSL_TEXT_TOO_LONG) return *text;
+    answer = cheremysl_read_csv(list, sizeof list, pads, sizeof pads);
+    if (cheremysl_refusal_number(answer) == CHEREMYSL_BAD_LINE) return cheremysl_refusal_record(answer);
+    if (cheremysl_refusal_number(answer) == CHEREMYSL_CSV_TOO_LONG) return *text;
+    if (cheremysl_refusal_number(answer) == CHEREMYSL_NO_PAD_ROOM) return pads[0];
     answer = cheremysl_draw(job, sizeof job, 0, 0, points, CHEREMYSL_DRAW_FLOATS);
     return answer == 2 && points[0] > points[1];
 }
@@ -167,6 +172,7 @@ warned stringop-overread 'uint16_t list[4] = {0}; return cheremysl_measure(job, 
 warned stringop-overflow 'float points[5]; return cheremysl_draw(job, bytes, 0, 0, points, 6);'
 warned stringop-overflow 'char text[75]; return cheremysl_svg(job, bytes, given, 1, text, CHEREMYSL_SVG_BYTES(1));'
 warned stringop-overread 'uint16_t list[4] = {0}; char text[76]; return cheremysl_svg(job, bytes, list, 64, text, 76);'
+warned stringop-overflow 'uint8_t pads[15]; return cheremysl_read_csv(job, bytes, pads, CHEREMYSL_RECORD_BYTES);'
 warned stringop-overflow 'uint16_t list[4]; return cheremysl_table_first(job, bytes, table, 16, list, 64);'
 warned stringop-overflow 'uint16_t list[4] = {0}; return cheremysl_table_next(job, bytes, table, 16, list, 64);'
 warned stringop-overread 'uint16_t list[4] = {0}; return cheremysl_table_measure(job, bytes, table, 16, list, 64);'
@@ -185,6 +191,7 @@ warned stringop-overread 'uint8_t a[15] = {0}; return cheremysl_page(a, 16, 1, 0
 warned stringop-overread 'uint8_t a[15] = {0}; return cheremysl_measure(a, 16, 1, 0, given, 1);'
 warned stringop-overread 'uint8_t a[15] = {0}; float points[6]; return cheremysl_draw(a, 16, 0, 0, points, 6);'
 warned stringop-overread 'uint8_t a[15] = {0}; char text[76]; return cheremysl_svg(a, 16, given, 1, text, 76);'
+warned stringop-overread 'uint8_t a[15] = {0}, pads[16]; return cheremysl_read_csv(a, 16, pads, 16);'
 warned stringop-overread 'uint8_t a[15] = {0}; return cheremysl_count(a, 16, 1, 0, 0, 0);'
 warned stringop-overread 'uint8_t a[15] = {0}; uint16_t list[1]; return cheremysl_place(a, 16, 1, 0, 0, list, 1, 0, 0);'
 warned stringop-overread 'uint8_t a[15] = {0}; uint16_t list[1]; return cheremysl_table_first(a, 16, table, 1, list, 1);'
@@ -205,6 +212,8 @@ warned nonnull 'return cheremysl_measure(0, 16, 1, 0, given, 1);'
 warned nonnull 'return cheremysl_page(job, bytes, 1, 0, given, 1, 0, 1);'
 warned nonnull 'return cheremysl_svg(job, bytes, given, 1, 0, 76);'
 warned nonnull 'char text[76]; return cheremysl_svg(job, bytes, 0, 1, text, 76);'
+warned nonnull 'uint8_t pads[16]; return cheremysl_read_csv(0, 1, pads, 16);'
+warned nonnull 'return cheremysl_read_csv(job, bytes, 0, 16);'
 warned nonnull 'return cheremysl_count(job, bytes, 1, 0, 0, 18);'
 warned nonnull 'uint64_t buffer[18]; return cheremysl_place(job, bytes, 1, 0, 0, 0, 1, buffer, 18);'
 warned nonnull 'uint16_t list[1]; return cheremysl_place(job, bytes, 1, 0, 0, list, 1, 0, 18);'
@@ -215,6 +224,7 @@ warned nonnull 'return cheremysl_slots_measure(job, bytes, 0, 4, 1, 0, given, 1)
 quiet 'return cheremysl_first(0, 0, 1, 0, 0, 0) + cheremysl_next(0, 0, 1, 0, 0, 0) + cheremysl_measure(0, 0, 1, 0, 0, 0);'
 quiet 'return cheremysl_draw(0, 0, 0, 0, 0, 0) + cheremysl_page(job, bytes, 1, 0, given, 1, 0, 0);'
 quiet 'return cheremysl_svg(0, 0, 0, 0, 0, 0) + cheremysl_svg(job, bytes, given, 1, 0, 0);'
+quiet 'return cheremysl_read_csv(0, 0, 0, 0) + cheremysl_read_csv(job, bytes, 0, 0);'
 quiet 'return cheremysl_count(0, 0, 1, 0, 0, 0) + cheremysl_place(0, 0, 1, 0, 0, 0, 0, 0, 0);'
 quiet 'return cheremysl_table_first(0, 0, 0, 0, 0, 0) + cheremysl_table_next(0, 0, 0, 0, 0, 0);'
 quiet 'return cheremysl_table_measure(job, bytes, 0, 0, given, 1);'
@@ -230,6 +240,7 @@ quiet 'uint64_t buffer[18]; return cheremysl_count(job, bytes, 1, 0, buffer, 18)
 quiet 'uint16_t list[64]; uint64_t buffer[18]; return cheremysl_place(job, bytes, 1, 0, 0, list, 64, buffer, 18);'
 quiet 'float points[6]; return cheremysl_draw(job, bytes, 0, 0, points, 6);'
 quiet 'char text[76]; return cheremysl_svg(job, bytes, given, 1, text, 76);'
+quiet 'uint8_t pads[16]; return cheremysl_read_csv(job, bytes, pads, 16);'
 quiet 'uint16_t list[64]; char text[76]; list[0] = 0; return cheremysl_svg(job, 16, list, 64, text, 76);'
 quiet 'uint16_t list[64]; list[0] = 1; list[1] = 0; return cheremysl_measure(job, 32, 1, 0, list, 64);'
 quiet 'uint16_t list[64]; list[0] = 1; list[1] = 0; return cheremysl_next(job, 32, 1, 0, list, 64);'
@@ -241,6 +252,7 @@ warned '\(maybe-\)*uninitialized' 'uint16_t list[64]; return cheremysl_next(job,
 warned '\(maybe-\)*uninitialized' 'uint16_t list[64]; return cheremysl_measure(job, bytes, 1, 0, list, 64);'
 warned '\(maybe-\)*uninitialized' 'uint16_t list[64]; return cheremysl_page(job, bytes, 1, 0, list, 64, 0, 0);'
 warned '\(maybe-\)*uninitialized' 'uint16_t list[64]; return cheremysl_svg(job, bytes, list, 64, 0, 0);'
+warned '\(maybe-\)*uninitialized' 'uint8_t list[64], pads[16]; return cheremysl_read_csv(list, 64, pads, 16);'
 warned '\(maybe-\)*uninitialized' 'uint16_t list[64]; return cheremysl_table_next(job, bytes, table, 16, list, 64);'
 warned '\(maybe-\)*uninitialized' 'uint16_t list[64]; return cheremysl_table_measure(job, bytes, table, 16, list, 64);'
 warned '\(maybe-\)*uninitialized' 'uint32_t t[16]; return cheremysl_table_measure(job, bytes, t, 16, given, 4);'
@@ -258,6 +270,7 @@ for ignored in 'uint16_t list[64]; cheremysl_first(job, bytes, 1, 0, list, 64)' 
     'cheremysl_measure(job, bytes, 1, 0, given, 1)' \
     'float points[6]; cheremysl_draw(job, bytes, 0, 0, points, 6)' \
     'char text[76]; cheremysl_svg(job, bytes, given, 1, text, 76)' \
+    'uint8_t pads[16]; cheremysl_read_csv(job, bytes, pads, 16)' \
     'uint16_t list[64]; cheremysl_table_first(job, bytes, table, 16, list, 64)' \
     'uint16_t list[64] = {0}; cheremysl_table_next(job, bytes, table, 16, list, 64)' \
     'cheremysl_table_measure(job, bytes, table, 16, given, 4)' \
@@ -282,6 +295,7 @@ static_assert(noexcept(cheremysl_place(nullptr, 0, 0, 0, 0, nullptr, 0, nullptr,
 static_assert(noexcept(cheremysl_measure(nullptr, 0, 0, 0, nullptr, 0)), "Measure");
 static_assert(noexcept(cheremysl_draw(nullptr, 0, 0, 0, nullptr, 0)), "Draw");
 static_assert(noexcept(cheremysl_svg(nullptr, 0, nullptr, 0, nullptr, 0)), "Svg");
+static_assert(noexcept(cheremysl_read_csv(nullptr, 0, nullptr, 0)), "ReadCsv");
 static_assert(noexcept(cheremysl_table_first(nullptr, 0, nullptr, 0, nullptr, 0)), "First over a table");
 static_assert(noexcept(cheremysl_table_next(nullptr, 0, nullptr, 0, nullptr, 0)), "Next over a table");
 static_assert(noexcept(cheremysl_table_measure(nullptr, 0, nullptr, 0, nullptr, 0)), "Measure over a table");
