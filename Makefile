@@ -1,6 +1,6 @@
 # make            proves and builds the archive, the shared library and the programs; the header is include/cheremysl.h
 # make shared     the shared library alone, from the archive
-# make examples   the C examples and cheremysl-draw, into build/
+# make examples   the C examples, cheremysl-draw and cheremysl-import, into build/
 # make install    PREFIX=/usr/local DESTDIR=, or the folders below one by one: libraries, header, pkg-config file, man
 #                 pages, programs, samples. To run ldconfig afterwards is the administrator's
 # make uninstall  with the same words: removes what install put there
@@ -30,8 +30,8 @@ program = target/bin/sheet
 soname = libcheremysl.so.$(firstword $(subst ., ,$(VERSION)))
 shared = build/libcheremysl.so.$(VERSION)
 commands = $(patsubst programs/%.c,build/%,$(wildcard programs/*.c))
-programs = build/sheets build/audit build/antenna build/slots build/thumbs build/webpage build/cheremysl-draw
-samples = $(wildcard examples/*.job examples/*.pads examples/*.ports examples/*.txt examples/*.layout)
+programs = build/sheets build/audit build/antenna build/slots build/thumbs build/webpage build/cheremysl-draw build/cheremysl-import
+samples = $(wildcard examples/*.job examples/*.pads examples/*.ports examples/*.csv examples/*.txt examples/*.layout)
 sources := crates.txt $(shell find crates -name '*.rt' -o -name '*.antt')
 
 all: $(archive) $(program) $(shared) $(commands)
@@ -56,7 +56,7 @@ shared: $(shared)
 examples: $(programs)
 
 vpath %.c examples programs
-build/%: %.c examples/given-sheet.h include/cheremysl.h $(archive)
+build/%: %.c examples/given-sheet.h programs/command.h include/cheremysl.h $(archive)
 	@mkdir -p build
 	$(CC) $(CPPFLAGS) $(CFLAGS) $(LDFLAGS) $(defines) -Iinclude -o $@ $< $(archive)
 

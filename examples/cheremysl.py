@@ -16,12 +16,14 @@ As a module, the calls of the shared library for Python:
     squares = job_of([(101, 10, 15, 10), (102, 20, 15, 20)], half_sides=2)  # or one for each pad
     pads, strip = pads_of([(101, 10, 15), (102, 20, 15)]), ports_of(range(0, 320, 10))
     total, ports = library.slots_first(pads, strip)  # 32 slots, of which 30 stay free
+    pads = library.read_csv(open("board.csv", "rb").read())  # from the list of a board tool
 
-Jobs, pads and strips are bytes, a layout is any sequence of port numbers, a table any sequence of
-figures, pad by pad, ports rising; all are only read. What C's list would hold afterwards is
-returned. A refusal is an exception, Refusal; the end is None. A number that does not fit C's type
-is an OverflowError. The slots calls make their work list, or take one of work_of, for a run of
-calls; count and place make their buffer, or take one of buffer_of. The manual is cheremysl(3).
+Jobs, pads, strips and lists of pads are bytes, a layout is any sequence of port numbers, a table any
+sequence of figures, pad by pad, ports rising; all are only read. What C's list would hold
+afterwards is returned. A refusal is an exception, Refusal; the end is None. A number that does not
+fit C's type is an OverflowError. The slots calls make their work list, or take one of work_of, for
+a run of calls; count and place make their buffer, or take one of buffer_of. The manual is
+cheremysl(3).
 """
 import array
 import ctypes
@@ -40,7 +42,7 @@ PAGE_SHEETS = 20  # fetched at once
 END = -1
 
 TEXTS = {  # as cheremysl_refusal_text of the C header has them
-    1: "The job is not 1 to 64 records of 16 bytes, or its list of ports, if it has one, "
+    1: "The pads are not 1 to 64 records of 16 bytes, or the list of ports, if there is one, "
     "not 1 to 128 heights of 4 bytes.",
     2: "A weight is above 1,000.",
     3: "The list of the layout, or of the points, is too short.",
@@ -61,12 +63,17 @@ TEXTS = {  # as cheremysl_refusal_text of the C header has them
     17: "There is no best sheet at this place: they are fewer.",
     18: "The buffer is too short for so many pads.",
     19: "The text of this sheet is longer than the room lent for it.",
+    20: "The text with the pads is longer than 16,384 bytes.",
+    21: "This line is not name,x,y, if it is the first, or else a name, an x and a y with "
+    "commas between them; lines end with CR LF.",
+    22: "The room for the pads is less than 16 bytes for each.",
     24: "The work list is too short for so many pads and ports.",
 }
 
 
 class Refusal(Exception):
-    """A refusal: its number, the record or port at fault, in refusal 9 the earlier one, else None."""
+    """A refusal: its number, the record, port or line at fault, in refusal 9 the earlier one, else
+    None."""
 
     def __init__(self, number, record, earlier=None):
         super().__init__(number, record, earlier)
@@ -75,7 +82,8 @@ class Refusal(Exception):
     def __str__(self):
         pair = "" if self.earlier is None else f" and record {self.earlier}"
         text = TEXTS.get(self.number, "The library has a reason that is not known here.")
-        return f"refused {self.number} record {self.record}{pair}: {text}"
+        where = "line" if self.number == 21 else "record"
+        return f"refused {self.number} {where} {self.record}{pair}: {text}"
 
 
 def job_of(records, half_sides=0):
@@ -183,6 +191,7 @@ class Cheremysl:
         self._measure = call("measure", *numbers, *layout)
         self._draw = call("draw", *numbers, *points)
         self._svg = call("svg", *layout, ctypes.c_char_p, ctypes.c_size_t)
+        self._read_csv = call("read_csv", *job)
         self._table_first = call("table_first", *table, *layout)
         self._table_next = call("table_next", *table, *layout)
         self._table_measure = call("table_measure", *table, *layout)
@@ -249,6 +258,13 @@ class Cheremysl:
         text = ctypes.create_string_buffer(room)
         written = self._ask_lists(self._svg, job, *layout_of(layout), text, room)
         return text.raw[:written].decode("ascii")
+
+    def read_csv(self, text, room=MAX_RECORDS * RECORD.size):
+        """The pads of a list that a board tool saves, as from pads_of. The room, in bytes, is
+        enough for any."""
+        pads, bytes_ = bytes_of(bytes(room))
+        count = self._ask_lists(self._read_csv, text, pads, bytes_)
+        return bytes(pads[: count * RECORD.size])
 
     def table_first(self, job, table):
         """The earliest best sheet by a table, as from first; the total is that of its figures."""

@@ -887,8 +887,8 @@ static inline const char *cheremysl_refusal_text(int64_t answer) {
     int known = number <= CHEREMYSL_NO_WORK_ROOM ? number : 0; /* within the enum's range */
     switch (CHEREMYSL_CAST(enum cheremysl_refusal, known)) {
     case CHEREMYSL_BAD_SIZE:
-        return "The job is not 1 to 64 records of 16 bytes, or its list of ports, if it has one, "
-               "not 1 to 128 heights of 4 bytes, or a text does not have 1 to 64 pads.";
+        return "The pads are not 1 to 64 records of 16 bytes, or the list of ports, if there is "
+               "one, not 1 to 128 heights of 4 bytes.";
     case CHEREMYSL_BAD_WEIGHT:
         return "A weight is above 1,000.";
     case CHEREMYSL_NO_ROOM:

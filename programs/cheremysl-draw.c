@@ -18,6 +18,7 @@
 #include <inttypes.h>
 
 #include "../examples/given-sheet.h"
+#include "command.h"
 
 /* All in pixels. */
 #define FONT 11.0
@@ -743,26 +744,6 @@ static void draw_picture(struct picture *p, const char *file) {
 
 /* ---- the program ---- */
 
-/* What was printed has been written, or the program ends with 2. */
-static int written(void) {
-    if (fflush(stdout) == 0 && !ferror(stdout) && fclose(stdout) == 0) return 0;
-    fprintf(stderr, "%s: cannot write: %s\n", program, strerror(errno));
-    return 2;
-}
-
-static void end_with_option(const char *word) {
-    if (strcmp(word, "--help") == 0) {
-        fputs(usage, stdout);
-        exit(written());
-    }
-    if (strcmp(word, "--version") == 0) {
-        printf("%s %s\n", program, CHEREMYSL_VERSION_TEXT);
-        exit(written());
-    }
-    fprintf(stderr, "%s: there is no option %s\n%s", program, word, usage);
-    exit(2);
-}
-
 /* Two corners in the job's units; no word is no area. */
 static struct area read_area(const char *word) {
     int at[4];
@@ -793,7 +774,7 @@ static int take_options(int argc, char **argv, struct options *o) {
         else if (strcmp(argv[k], "--slots") == 0)
             o->slots = read_slots(argv[++k]);
         else
-            end_with_option(argv[k]);
+            end_with_option(program, usage, argv[k]);
     }
     if (k == argc) return left;
     memmove(argv + left, argv + k + 1, (size_t)(argc - k - 1) * sizeof *argv);
@@ -816,5 +797,5 @@ int main(int argc, char **argv) {
     find_ports(&p);
     lead_pads(&p);
     draw_picture(&p, argv[1]);
-    return written();
+    return written(program);
 }

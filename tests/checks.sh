@@ -26,6 +26,16 @@ prints() {
     check "$* wrote '$written', status $status" [ "$written $status" = "$expected $wanted" ]
 }
 
+# ends STATUS TEXT MESSAGE COMMAND..: the command ends so, with just this text on standard output and this message on standard error
+ends() {
+    status=$1 text=$2 message=$3
+    shift 3
+    "$@" >"$room/out" 2>"$room/err"
+    got="$? $(cat "$room/out"; echo .) $(cat "$room/err")"
+    check "$*: $got" [ "$got" = "$status ${text:+$text
+}. $message" ]
+}
+
 # counts: a script's last command: the counts, and whether all passed
 counts() {
     echo "$passed passed, $failed failed"

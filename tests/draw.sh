@@ -190,7 +190,7 @@ slots_from_input() { draw --slots - $sensor <$row | cmp - docs/slots.svg; }
 check "pads from standard input" pads_from_input
 check "slots from standard input" slots_from_input
 both_from_input() { draw --slots - - <$sensor; }
-prints 1 'cheremysl-draw: -: refused 1 record 0: The job is not 1 to 64 records of 16 bytes, or its list of ports, if it has one, not 1 to 128 heights of 4 bytes.' both_from_input
+prints 1 'cheremysl-draw: -: refused 1 record 0: The pads are not 1 to 64 records of 16 bytes, or the list of ports, if there is one, not 1 to 128 heights of 4 bytes.' both_from_input
 
 # ---- what is on a picture
 

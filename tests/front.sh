@@ -17,16 +17,6 @@ program() {
     chmod +x "$room/proved"
 }
 
-# ends STATUS TEXT MESSAGE COMMAND..: the command ends so, with just this text on standard output and this message on standard error
-ends() {
-    status=$1 text=$2 message=$3
-    shift 3
-    "$@" >"$room/out" 2>"$room/err"
-    got="$? $(cat "$room/out"; echo .) $(cat "$room/err")"
-    check "$*: $got" [ "$got" = "$status ${text:+$text
-}. $message" ]
-}
-
 # Linked statically where there is an emulator, it needs no library path, which the script that it runs would get as well.
 emulator=${run%% *}
 front() { timeout 20 $emulator "$room/cheremysl-sheet" "$@"; }

@@ -176,7 +176,7 @@ shortest='8 3 9 1 2 10 0 11 5 6 12 4 7'
 prints 0 "$shortest" antenna "$share/antenna.job" 2000,0,3000,9
 prints 1 "$shortest" sh -c '"$@" 2>/dev/null' sh $run "$room/antenna" "$share/antenna.job" 0,0,2000,2000
 prints 0 'antenna: leaders that meet the area: 13; no sheet has fewer' antenna_errors "$share/antenna.job" 0,0,2000,2000
-size='The job is not 1 to 64 records of 16 bytes, or its list of ports, if it has one, not 1 to 128 heights of 4 bytes.'
+size='The pads are not 1 to 64 records of 16 bytes, or the list of ports, if there is one, not 1 to 128 heights of 4 bytes.'
 prints 1 "refused 1 record 0: $size" antenna "$share/antenna.c" $area
 prints 1 'refused 12 record 1: This port is less than 8 above the port before it.' antenna "$room/close.job" $area
 for words in '' "$share/antenna.job" "$share/antenna.job 1,2,3" "$share/antenna.job 1,2,3,4 5"; do
@@ -283,6 +283,10 @@ for file in sensor.pads row.ports; do
     check "made from its list" made_from_list "$share/${file%.*}" ${file#*.}
     check "made again" made_again "$share/${file%.*}" ${file#*.}
 done
+import() { ${run%% *} "$installed/bin/cheremysl-import" "$@"; }
+imported() { import "$share/sensor.csv" | cmp - "$share/sensor.pads"; }
+check "the pads of the list" imported
+prints 0 "cheremysl-import $version" import --version
 
 # ---- the printing program and the Python binding
 

@@ -2,7 +2,7 @@
 """tests/python.py TEXTS [LIBRARY JOBS SEED]: the Python binding, examples/cheremysl.py. Its sentences against those in the file TEXTS, from the C header; its
 job maker; and, given the shared library, every call on random jobs against 01 worked out in plain Python, all assignments tried, and the binding as a program.
 The last line has the counts."""
-import contextlib, ctypes, importlib.util, io, itertools, math, os, random, signal, struct, subprocess, sys
+import contextlib, ctypes, importlib.util, io, itertools, math, os, random, re, signal, struct, subprocess, sys
 
 def module_at(path, *words):
     """A Python file as a module; a program runs with these words, and its definitions stay."""
@@ -215,6 +215,68 @@ def try_svg(library, job, board, given):
         check('svg', (reply(library.svg, job, layout), reply(library.svg, job, tuple(layout), len(text))), (text, text))
         check('svg, a short text', reply(library.svg, job, layout, len(text) - 1), (19, 0, None))
 
+WORD, QUOTED = rb'[^",]*', rb'"(?:[^"]|"")*"'
+LINE = re.compile(rb'(%s|%s),(%s|%s),(%s|%s)' % ((QUOTED, WORD) * 3))
+PAD = re.compile(rb'(0|[1-9][0-9]*),(0|[1-9][0-9]*),(0|-?[1-9][0-9]*)')
+
+def unquoted(line):
+    """A line without its quotes, which stand around whole fields; None if it is no line."""
+    fields = LINE.fullmatch(line)
+    return fields and b','.join(field[1:-1] if field[:1] == b'"' else field for field in fields.groups())
+
+def pads_in(text, room):
+    """02's reading of a list of pads: what read_csv replies."""
+    lines = text.split(b'\r\n')
+    lines = lines[:-1] if len(lines) > 1 and not lines[-1] else lines
+    if len(text) > 16384:
+        return 20, 0, None
+    pads = []
+    for at, line in enumerate(lines, 1):
+        pad = PAD.fullmatch(unquoted(line) or b'')
+        if not pad if at > 1 else unquoted(line) != b'name,x,y':
+            return 21, at, None
+        pads += [tuple(int(field[:12]) for field in pad.groups())] if pad else []  # so many are outside every range, whatever follows
+    if not 1 <= len(pads) <= 64 or room < 16 * len(pads):
+        return 22 if 1 <= len(pads) <= 64 else 1, 0, None
+    for i, (name, x, y) in enumerate(pads):
+        if not (1 <= name <= 65535 and 1 <= x <= 1000000 and abs(y) <= 1000000):
+            return 4, i, None
+    for column in 0, 1:
+        for i, pad in enumerate(pads):
+            if pad[column] in [other[column] for other in pads[:i]]:
+                return 6 + column, i, None
+    return binding.pads_of(pads)
+
+def spoilt_text(r, text):
+    """A list with a byte or two left out, doubled, or other than it was."""
+    for _ in range(r.randint(1, 2)):
+        at = r.randrange(len(text) + 1)
+        text = text[:at] + r.choice([b'', b'"', b',', b'\r\n', b'\n', b'0', b'-', b'1', b' ', text[at:at + 1] * 2]) + text[at + r.randint(0, 1):]
+    return text
+
+def try_csv(library, job, r):
+    """The list of a job's pads, plain or with quotes, whole or spoilt, in just enough bytes and in one less."""
+    rows = [(b'name', b'x', b'y')] + [tuple(b'%d' % v for v in (a, x, y)) for a, _, x, y, _ in struct.iter_unpack('<HHIii', job[:len(job) // 16 * 16])]
+    quote = r.choice([0, 0, .2, 1])
+    text = b''.join(b','.join(b'"%s"' % v if r.random() < quote else v for v in row) + b'\r\n' for row in rows)
+    text = r.choice([text, text, text[:-2], spoilt_text(r, text), spoilt_text(r, text)])
+    for room in 1024, 16 * (len(rows) - 1), 16 * (len(rows) - 1) - 1:
+        check('read_csv', reply(library.read_csv, text, max(0, room)), pads_in(text, room))
+
+def try_lists(library):
+    """The list that lies beside the binding, and those at the limits."""
+    with open(examples + 'sensor.csv', 'rb') as text, open(examples + 'sensor.pads', 'rb') as pads:
+        check('read_csv', library.read_csv(text.read()), pads.read())
+    most = [(1 + i, 999999 - i, i - 1000000) for i in range(65)]
+    plain = lambda pads: ''.join('%s,%s,%s\r\n' % row for row in [('name', 'x', 'y'), *pads]).encode()
+    check('64 pads', library.read_csv(bytearray(plain(most[:64]))), binding.pads_of(most[:64]))
+    check('65 pads', reply(library.read_csv, plain(most)), (1, 0, None))
+    longest = plain([(1, 2, '9' * (16384 - len(plain([(1, 2, '')])))) ])
+    for text in longest, longest + b'0', longest[:-1] + b' ', b'', b'name,x,y', longest.replace(b'9', b'"', 1):
+        check('read_csv', reply(library.read_csv, text), pads_in(text, 1024))
+    for bad in 'name,x,y', None, 16:
+        check('text', reply(library.read_csv, bad), TypeError)
+
 def try_draw(library, job, board):
     for i, q in itertools.product(range(board.n + 1), repeat=2):
         there = max(i, q) < board.n
@@ -237,6 +299,7 @@ def try_job(library, job, r):
     given = list(layouts(r, min(board.n, 64), min(board.n, 64))) if board.n else [[], [0]]
     try_weights(library, job, board, weights, given)
     try_svg(library, job, board, given)
+    try_csv(library, job, r)
     for table in tables(r, board):
         try_table(library, job, board, table, given)
     if not board.bad:
@@ -323,6 +386,7 @@ def try_texts(texts):
     check('texts', binding.TEXTS, texts)
     check('text', str(binding.Refusal(12, 1)), 'refused 12 record 1: ' + texts[12])
     check('text', str(binding.Refusal(9, 2, 0)), 'refused 9 record 2 and record 0: ' + texts[9])
+    check('text', str(binding.Refusal(21, 3)), 'refused 21 line 3: ' + texts[21])
     check('text', str(binding.Refusal(99, 0))[:20], 'refused 99 record 0:')
     for number, record, earlier in itertools.product(texts, [0, 1, 63, 127], [0, 1, 63]):
         if number == 9 or not earlier:
@@ -396,6 +460,7 @@ if len(sys.argv) > 2:
             try_job(library, job, r)
     try_pages(library)
     try_numbers(library)
+    try_lists(library)
     try_program(sys.argv[2], texts)
     try_reader(sys.argv[2])
     check('refusals seen', seen, set(texts))
