@@ -9,19 +9,19 @@ need_compilers
 need python3 python3
 archive=${1:-target/staticlib/libcheremysl.a}
 
-for program in import draw; do
-    check "cheremysl-$program.c" $cc -std=c99 -O2 -Wall -Wextra -Werror -pedantic -Iinclude $static -o "$room/cheremysl-$program" \
-        programs/cheremysl-$program.c "$archive"
+for file in programs/cheremysl-import.c programs/cheremysl-draw.c examples/slots.c; do
+    program=${file##*/}
+    check "$file" $cc -std=c99 -O2 -Wall -Wextra -Werror -pedantic -Iinclude $static -o "$room/${program%.c}" $file "$archive"
 done
 import() { $run "$room/cheremysl-import" "$@"; }
-list=$room/list.csv pads=$room/list.pads wanted=$room/wanted.pads heading='name,x,y\r\n'
+list=$room/list.csv pads=$room/list.pads right=$room/right.pads heading='name,x,y\r\n'
 
 # ---- lists: the records are those of mkjob, from a file and from standard input, to standard output and into a file
 
-to_output() { import "$@" | cmp - "$wanted"; }
-from_input() { import "$@" <"$list" | cmp - "$wanted"; }
-into_file() { rm -f "$pads" && import "$@" && cmp "$pads" "$wanted"; }
-from_input_into_file() { rm -f "$pads" && import "$@" <"$list" && cmp "$pads" "$wanted"; }
+to_output() { import "$@" | cmp - "$right"; }
+from_input() { import "$@" <"$list" | cmp - "$right"; }
+into_file() { rm -f "$pads" && import "$@" && cmp "$pads" "$right"; }
+from_input_into_file() { rm -f "$pads" && import "$@" <"$list" && cmp "$pads" "$right"; }
 
 # read_well WHAT: the list has the pads that are wanted
 read_well() {
@@ -38,7 +38,7 @@ read_well() {
 reads() {
     printf "$1" >"$list"
     shift
-    printf '%s\n' "$@" | examples/mkjob --pads >"$wanted"
+    printf '%s\n' "$@" | examples/mkjob --pads >"$right"
     read_well "$*"
 }
 reads "${heading}1,2,3\r\n" '1 2 3'
@@ -51,7 +51,7 @@ reads '"name","x","y"\r\n"801","120","330"\r\n802,"190",-336\r\n' '801 120 330' 
 rows() { awk -v n="$1" -v between="$2" -v end="$3" 'BEGIN { for (i = 0; i < n; i++) printf "%d%s%d%s%d%s", 65535 - i, between, 1000000 - i, between, i - 1000000, end }'; }
 many() { printf "$heading" && rows "$1" , '\r\n'; }
 many 64 >"$list"
-rows 64 ' ' '\n' | examples/mkjob --pads >"$wanted"
+rows 64 ' ' '\n' | examples/mkjob --pads >"$right"
 read_well '64 pads'
 
 # ---- what is refused: number, line or record, and why; nothing is written, and a file that was there stays
@@ -116,8 +116,8 @@ refused "${heading}1,2,3\r4,5,6\r\n" "$line it has more fields than name, x and 
 
 # What other programs write for text. The advice is taken.
 alone="lines end with CR LF, and here with LF alone; sed 's/\\r*\$/\\r/' puts that right"
-put_right() { sed 's/\r*$/\r/' "$list" | import | cmp - "$wanted"; }
-printf '%s\n' '1 2 3' '4 5 6' | examples/mkjob --pads >"$wanted"
+put_right() { sed 's/\r*$/\r/' "$list" | import | cmp - "$right"; }
+printf '%s\n' '1 2 3' '4 5 6' | examples/mkjob --pads >"$right"
 refused 'name,x,y\n1,2,3\n4,5,6\n' "21 line 1: $alone"
 check "put right" put_right
 refused "${heading}1,2,3\n4,5,6\r\n" "21 line 2: $alone"
@@ -208,13 +208,22 @@ check "/dev/null is left" [ -c /dev/null ]
 onto_itself() { cp examples/sensor.csv "$room/itself" && import -o "$room/itself" "$room/itself" && cmp "$room/itself" examples/sensor.pads; }
 check "onto itself" onto_itself
 
-# ---- from a list to a picture: the sample's list has the sample's pads, and they are drawn on the strip of slots
+# ---- from a list to a picture, as the README has it: its commands write what it shows, the sample's pads and the picture in docs/
 
-sensor() { import examples/sensor.csv | cmp - examples/sensor.pads; }
-check "examples/sensor.csv" sensor
+mkdir "$room/there" "$room/there/build"
+ln -s "$PWD/examples" "$room/there/examples"
+for program in cheremysl-import cheremysl-draw slots; do
+    printf '#!/bin/sh\nexec %s "%s" "$@"\n' "$run" "$room/$program" >"$room/there/build/$program"
+    chmod +x "$room/there/build/$program"
+done
+sed -n '/^## From the board tool/,/^## In/s/^    //p' README.md | sed -n '/^\$ make examples/,/^uint8_t/{/make examples/d;/^uint8_t/d;p}' >"$room/shown"
+pasted() { (cd "$room/there" && sed -n 's/^\$ //p' "$room/shown" | while read -r command; do eval "$command"; done); }
+prints 1 "$(grep -v '^\$ ' "$room/shown")" pasted
+check "the README's commands" [ "$(grep -c '^\$ ' "$room/shown")" = 7 ]
+check "the README's pads" cmp "$room/there/sensor.pads" examples/sensor.pads
+check "the README's picture" cmp "$room/there/sensor.svg" docs/slots.svg
+check "the README's list" [ "$(head -n 3 examples/sensor.csv | tr -d '\r')" = "$(sed -n '/^    name,x,y/,/^$/s/^    //p' README.md)" ]
 drawn() { import examples/sensor.csv | $run "$room/cheremysl-draw" --slots examples/row.ports - | sed 's/standard input/sensor.pads/' | cmp - docs/slots.svg; }
 check "a list that is drawn" drawn
-no_list() { import "$room/none" 2>/dev/null | $run "$room/cheremysl-draw" --slots examples/row.ports - >/dev/null 2>&1; }
-prints 1 '' no_list
 
 counts

@@ -190,7 +190,7 @@ length 3593: 16 17 15 14 18 10 8 23 24
 length 3593: 16 17 15 14 18 9 8 23 25
 length 3593: 16 17 15 14 18 10 8 23 25'
 prints 0 "$on_strip" $run "$room/slots" "$share/sensor.pads" "$share/row.ports"
-check "the README's strip of slots" [ "$(grep '^    length 3593: ' README.md)" = "$(echo "$on_strip" | sed 's/^/    /')" ]
+check "the README's strip of slots" [ "$(grep -m 4 '^    length 3593: ' README.md)" = "$(echo "$on_strip" | sed 's/^/    /')" ]
 prints 1 "refused 1 record 0: $size" $run "$room/slots" "$share/sensor.pads" "$share/slots.c"
 prints 0 'refused 4 record 1: A number of this record, or the height of this port, is outside its range.' slots "$share/J5.job" "$share/row.ports"
 printf '%s\n' 1 9 | "$share/mkjob" --ports >"$room/two.ports"
