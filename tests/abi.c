@@ -300,6 +300,16 @@ static void read_csv_keeps(size_t text_bytes, size_t pad_bytes, int64_t wanted) 
     for (size_t i = written; i < ROOM; i++) check(pads[i] == 'x');
 }
 
+static void rooms(void) {
+    read_csv_keeps(LIST, ROOM, 1);
+    read_csv_keeps(LIST, PAD, 1);
+    read_csv_keeps(LIST - 2, PAD, 1);
+    read_csv_keeps(LIST - 3, ROOM, -(65536 * CHEREMYSL_BAD_LINE + 2));
+    read_csv_keeps(LIST, PAD - 1, -65536 * CHEREMYSL_NO_PAD_ROOM);
+    read_csv_keeps(HEADING, ROOM, -65536 * CHEREMYSL_BAD_SIZE);
+    read_csv_keeps(HEADING - 1, ROOM, -(65536 * CHEREMYSL_BAD_LINE + 1));
+}
+
 /* No text, then no pads in it, then no room for one, with a pointer and without. */
 static void no_pads(void) {
     uint8_t pads[1] = {'x'};
@@ -454,13 +464,6 @@ static void lists(void) {
     svg_keeps(LINE, LINE);
     svg_keeps(LINE - 1, -65536 * CHEREMYSL_TEXT_TOO_LONG);
     svg_keeps(0, -65536 * CHEREMYSL_TEXT_TOO_LONG);
-    read_csv_keeps(LIST, ROOM, 1);
-    read_csv_keeps(LIST, PAD, 1);
-    read_csv_keeps(LIST - 2, PAD, 1);
-    read_csv_keeps(LIST - 3, ROOM, -(65536 * CHEREMYSL_BAD_LINE + 2));
-    read_csv_keeps(LIST, PAD - 1, -65536 * CHEREMYSL_NO_PAD_ROOM);
-    read_csv_keeps(HEADING, ROOM, bad_size);
-    read_csv_keeps(HEADING - 1, ROOM, -(65536 * CHEREMYSL_BAD_LINE + 1));
 #ifndef NO_SEARCH
     int64_t bad_entry = -65536 * CHEREMYSL_BAD_ENTRY;
     first_keeps(sizeof one_pad, 5, 1);
@@ -504,6 +507,7 @@ int main(void) {
     version();
     measures();
     lists();
+    rooms();
     printf("%d passed, %d failed\n", passed, failed);
     return failed != 0;
 }
