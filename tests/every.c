@@ -60,7 +60,7 @@ static bool run_alike(struct question q, const struct sheets *all) {
 
 /* Over weights, and over the table; over the table of the weights, and on slots, as over these. */
 static void from_this(struct question *q) {
-    for (q->call = 0; q->call < CALLS; q->call++) {
+    for (q->call = MEASURE; q->call < CALLS; q->call++) {
         if (!takes_layout(q->call) || takes_slots(q->call)) continue;
         if (q->call == SVG) lend_text(q, any_text_room(q));
         expect(q, plain_reply(q));
@@ -119,7 +119,7 @@ static void too_close(struct question q) {
     size_t i = 1 + below((uint32_t)ports_of(&q) - 1);
     set_port(&q, i, port_of(&q, i - 1) + 1 + below(7));
     q.count = LIST_ROOM;
-    for (q.call = 0; q.call < CALLS; q.call++)
+    for (q.call = MEASURE; q.call < CALLS; q.call++)
         if (takes_slots(q.call) == slots) expect(&q, keeps(&q, refused(12, (int)i)));
 }
 

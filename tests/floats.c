@@ -218,6 +218,7 @@ static void probe(void) {
 /* ---- asking ---- */
 
 static const function entrances[CALLS] = {
+    [READ_CSV] = (function)cheremysl_read_csv,
     [MEASURE] = (function)cheremysl_measure,
     [DRAW] = (function)cheremysl_draw,
     [SVG] = (function)cheremysl_svg,

@@ -29,6 +29,13 @@ static uint32_t take(struct bytes *b, uint64_t k) {
 
 static uint32_t take_bits(struct bytes *b) { return take(b, (uint64_t)UINT32_MAX + 1); }
 
+/* How many lines a text to be read has after its first. */
+static size_t lines_of(const struct question *q) {
+    size_t lines = 0;
+    for (size_t k = 0; k + 1 < q->csv->bytes; k++) lines += q->csv->text[k] == '\n';
+    return lines;
+}
+
 /*
  * How many pads and, where they stand apart, how many ports: few that can all be tried, or more; a
  * search on very many takes too long, and so does counting all layouts.
@@ -85,6 +92,61 @@ static uint64_t take_place(struct bytes *b) {
     uint32_t kind = take(b, 8);
     uint64_t bits = kind < 6 ? take(b, kind < 4 ? 3 : 256) : (uint64_t)take_bits(b) << 32;
     return kind < 6 ? bits : (bits | take_bits(b)) >> take(b, 64);
+}
+
+/* ---- texts of comma-separated values ---- */
+
+/* Mostly a number that is not on another line; else one of few, or badly written, or far out. */
+static void take_value(struct bytes *b, struct csv *csv, uint32_t line) {
+    static const char *const words[] = {
+        "0",  "-1", "00", "-0", "65535",   "65536",         "1000000",              "1000001",
+        "1 ", "+1", "",   "x",  "\"7\"", "\"8\"\"\"", "99999999999999999999", "-1000001"};
+    char number[12];
+    uint32_t kind = take(b, 128), last = take(b, 9);
+    snprintf(number, sizeof number, "%u", kind < 80 ? 10 * (line + 1) + last : 1 + last);
+    add_word(csv, kind < 112 ? number : words[kind - 112]);
+}
+
+/* The header, and so many lines of three values; a last CR LF or none. */
+static void take_lines(struct bytes *b, struct csv *csv) {
+    static const char *const headers[] = {"name,x,y\r\n", "\"name\",x,y\r\n",
+                                          "name,x,\"y\"\r\n", "name,x\r\n"};
+    uint32_t n = take(b, 8) ? take(b, 6) : take(b, 70);
+    add_word(csv, headers[take(b, 32) ? take(b, 3) : 3]);
+    for (uint32_t k = 0; k < n; k++) {
+        for (int field = 0; field < 3; field++) {
+            if (field > 0) add_word(csv, ",");
+            take_value(b, csv, k);
+        }
+        add_word(csv, "\r\n");
+    }
+    if (take(b, 2) && csv->bytes > 2) csv->bytes -= 2;
+}
+
+/* A byte changed or put in; a piece left out, or put in again, perhaps many times. */
+static void take_damage(struct bytes *b, struct csv *csv) {
+    size_t at = take(b, csv->bytes + 1), some = take(b, csv->bytes - at + 1);
+    uint8_t byte = (uint8_t)take(b, 256);
+    switch (take(b, 6)) {
+    case 0: splice(csv, at, at < csv->bytes, &byte, 1); break;
+    case 1: splice(csv, at, 0, &byte, 1); break;
+    case 2: splice(csv, at, some, NULL, 0); break;
+    case 3: splice(csv, csv->bytes, 0, csv->text + at, some); break;
+    case 4: splice(csv, at, 0, csv->text + at, some); break;
+    default:
+        for (uint32_t k = 0; k < byte; k++) splice(csv, at, 0, csv->text + at, some % 100);
+    }
+}
+
+/* Room for the lines that there are, or a byte more or less; now and then any room. */
+static void take_csv(struct bytes *b, struct question *q) {
+    static struct csv csv;
+    csv.bytes = 0;
+    take_lines(b, &csv);
+    q->csv = &csv;
+    for (uint32_t times = take(b, 8); times > 4; times--) take_damage(b, &csv);
+    size_t lines = lines_of(q), kind = take(b, 8), room = 16 * (lines < 64 ? lines : 64);
+    lend_text(q, kind < 6 ? room : kind == 6 ? room - (room > 0) : take(b, TEXT_ROOM + 1));
 }
 
 static uint32_t take_weight(struct bytes *b) {
@@ -239,6 +301,10 @@ static void question_of(const uint8_t *data, size_t size, struct question *q) {
     for (size_t k = 0; k < 2 * LIST_ROOM; k++)
         put_number((uint8_t *)&q->list + 2 * k, 2, below(65536));
     q->call = take(&b, CALLS);
+    if (q->call == READ_CSV) {
+        take_csv(&b, q);
+        return;
+    }
     take_job(&b, q);
     q->count = (q->call == DRAW ? 6 : records_of(q)) + take(&b, 3);
     q->a = q->call == DRAW ? take(&b, records_of(q)) : take_weight(&b);
@@ -373,7 +439,8 @@ static long came[CALLS][OUTCOMES]; /* how often each outcome came */
 /* Keeps an input if no other had its call, its outcome and about its number of records. */
 static void keep_if_new(const struct input *in, const struct question *q, int what) {
     static bool seen[CALLS][OUTCOMES][SIZES];
-    size_t n = records_of(q);
+    size_t n = q->call == READ_CSV ? lines_of(q) : records_of(q), most = JOB_ROOM / 16;
+    if (n > most) n = most;
     bool *mark = &seen[q->call][what][n < 8 ? n : 8 + n / 8];
     came[q->call][what]++;
     if (!*mark) kept[kept_count++] = *in;

@@ -9,7 +9,7 @@ seconds=${1:-600} archive=${2:-target/staticlib/libcheremysl.a}
 need_compilers
 [ $# -gt 1 ] || rt staticlib cheremysl || exit 1
 mkdir -p build/corpus || exit 2
-files="tests/fuzz.c tests/trial.c tests/guard.c tests/boards.c tests/plain.c tests/ranked.c $archive"
+files="tests/fuzz.c tests/trial.c tests/guard.c tests/boards.c tests/plain.c tests/ranked.c tests/values.c $archive"
 strict="-Wall -Wextra -Werror -pedantic -Iinclude"
 
 # Without the sanitizers, which tests/run.sh has: this is for the number of inputs.

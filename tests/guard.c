@@ -40,6 +40,14 @@ struct guarded guard_memory(bool writable, size_t element, size_t most) {
     return g;
 }
 
+void *guard_wide(void) {
+    size_t all = 0x100000000 + 0x100000, usable = 0x10000;
+    int flags = MAP_PRIVATE | MAP_ANONYMOUS | MAP_NORESERVE;
+    void *memory = mmap(NULL, all, PROT_NONE, flags, -1, 0);
+    bool lent = memory != MAP_FAILED && mprotect(memory, usable, PROT_READ | PROT_WRITE) == 0;
+    return lent ? memory : NULL;
+}
+
 static size_t start_of(const struct guarded *g, enum side side, size_t bytes) {
     return side == AT_START ? 0 : side == AT_END ? g->size - bytes : g->size / 2 + g->element;
 }

@@ -34,6 +34,12 @@ void *guard_put(struct guarded *g, enum side side, const void *list, size_t byte
 /* The address alone, whatever the memory holds. */
 void *guard_at(const struct guarded *g, enum side side, size_t bytes);
 
+/*
+ * Addresses of more bytes than 32 bits count, for the library to write at: nothing is there but the
+ * first 64 KiB. NULL if there are no such addresses.
+ */
+void *guard_wide(void);
+
 /* Copies the list back; false if the rest of the memory was changed, which is then mended. */
 bool guard_get(struct guarded *g, enum side side, void *list, size_t bytes);
 

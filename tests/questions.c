@@ -109,11 +109,29 @@ static size_t any_ports(enum call call, size_t n) {
     return n + below((uint32_t)(most - n) + 1);
 }
 
+/* Just enough room for n pads, or some more. */
+static void lend_pads(struct question *q, size_t n) {
+    lend_text(q, 16 * n + (below(2) ? 0 : below(2) ? below(17) : below(TEXT_ROOM - 16 * 64)));
+}
+
+static void sound_text(struct question *q) {
+    static struct csv csv;
+    uint8_t pads[16 * 64];
+    size_t n = 1 + below(below(3) ? 5 : 64);
+    any_csv(&csv, pads, n);
+    q->csv = &csv;
+    lend_pads(q, n);
+}
+
 void sound_question(struct question *q, enum call call) {
     static uint32_t table[TABLE_ROOM];
     size_t n = any_count(call);
     memset(q, 0, sizeof *q);
     q->call = call;
+    if (call == READ_CSV) {
+        sound_text(q);
+        return;
+    }
     for (size_t k = 0; k < JOB_ROOM; k++) q->job[k] = (uint8_t)below(256);
     for (size_t k = 0; k < PORTS_ROOM; k++) q->ports[k] = (uint8_t)below(256);
     for (size_t k = 0; k < LIST_ROOM; k++) {
@@ -287,7 +305,24 @@ static void damage_numbers(struct question *q) {
     *number = below(2) ? least : below(2) ? UINT32_MAX : any_bits();
 }
 
+/* One byte too few for its pads, or any number. */
+static void damage_room(struct question *q) {
+    size_t less = q->text_bytes / 16 * 16;
+    q->text_bytes = less == 0 || below(4) == 0 ? below(TEXT_ROOM + 1) : below(2) ? less - 1 : less;
+}
+
+static void damage_read(struct question *q) {
+    if (below(8) == 0)
+        damage_room(q);
+    else
+        damage_csv(q->csv);
+}
+
 void damage(struct question *q) {
+    if (q->call == READ_CSV) {
+        damage_read(q);
+        return;
+    }
     switch (below(12)) {
     case 0: damage_size(q); break;
     case 1: q->count = below((uint32_t)q->count + 1); break;

@@ -6,7 +6,7 @@
 
 /*
  * A random question of one call that is accepted, or whose layout touches or is not best, or whose
- * squares leave no layout. Its table stands until the next question.
+ * squares leave no layout. Its table, or the text to be read, stands until the next question.
  */
 void sound_question(struct question *q, enum call call);
 

@@ -1,13 +1,14 @@
 /*
- * Every refusal of every call, at every record and in every way; every pair of refusals that one
- * input can deserve, wherever both stand; and all of them at once, mended one by one. Each time
- * nothing is written, and Page refuses alike with room for some and with room for none. Name 0 at
- * every record of up to 64, alone, twice and beside every other fault of a field. Squares that are
- * too large, at every record, and squares that leave no layout, for 1 to 64 pads. Tables of other
- * lengths than the right one, for 1 to 64 pads, and of lengths that no memory has. Work lists of
- * just enough numbers and of one too few, for up to 64 pads and 128 ports; buffers so for 1 to 64
- * pads. Every other refusal on a board with too many sheets: 16 comes after all but 17. Texts of one
- * byte more than there is room for, for 1 to 64 pads.
+ * Every refusal of every call that has a job, at every record and in every way; every pair of
+ * refusals that one input can deserve, wherever both stand; and all of them at once, mended one by
+ * one. ReadCsv's are in csv.c. Each time nothing is written, and Page refuses alike with room for
+ * some and with room for none. Name 0 at every record of up to 64, alone, twice and beside every
+ * other fault of a field. Squares that are too large, at every record, and squares that leave no
+ * layout, for 1 to 64 pads. Tables of other lengths than the right one, for 1 to 64 pads, and of
+ * lengths that no memory has. Work lists of just enough numbers and of one too few, for up to 64
+ * pads and 128 ports; buffers so for 1 to 64 pads. Every other refusal on a board with too many
+ * sheets: 16 comes after all but 17. Texts of one byte more than there is room for, for 1 to 64
+ * pads.
  */
 #include <stdio.h>
 #include <string.h>
@@ -561,7 +562,7 @@ static void nothing(enum call call) {
 
 int main(void) {
     begin();
-    for (enum call call = 0; call < CALLS; call++) {
+    for (enum call call = MEASURE; call < CALLS; call++) {
         nothing(call);
         for (const int *number = refusals_of[call]; *number != 0; number++) alone(call, *number);
         pairs(call);

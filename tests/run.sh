@@ -2,7 +2,7 @@
 # tests/run.sh [--no-search] [--random | --no-random] [ARCHIVE]: builds the library's archive, or takes the one given, then
 # compiles and runs the C tests, once as they are and once more under the sanitizers. Fails on any failure; the last line
 # has the counts.
-#   --no-search  only what needs Measure, over weights, over a table or on slots, Draw and Svg alone
+#   --no-search  only what needs Measure, over weights, over a table or on slots, Draw, Svg and ReadCsv alone
 #   --random, --no-random  the trials on random inputs alone, random and fuzz; all but those. Two such runs may go on side by side
 #   SEED, TIMES  in the environment: another seed; so many times the usual number of random trials
 # What is missing is installed by apt-get (tools/machine.sh).
@@ -63,7 +63,7 @@ try() {
 
 # What the tests share is compiled once as it is and once sanitized.
 plain="-std=c99 -O2" checked="-std=c11 -O1 -g $sanitize"
-for file in trial questions guard boards plain ranked; do
+for file in trial questions guard boards plain ranked values; do
     $cc $strict $plain -c -o $out/$file.o tests/$file.c && $cc $strict $checked -c -o $out/$file-sanitized.o tests/$file.c ||
         fail "$file.c does not compile"
 done
@@ -73,7 +73,7 @@ build() {
     file=$1 program=$2 suffix=$3
     shift 3
     $cc $strict "$@" $static -o $out/$file tests/$program.c $out/trial$suffix.o $out/questions$suffix.o \
-        $out/guard$suffix.o $out/boards$suffix.o $out/plain$suffix.o $out/ranked$suffix.o "$archive" ||
+        $out/guard$suffix.o $out/boards$suffix.o $out/plain$suffix.o $out/ranked$suffix.o $out/values$suffix.o "$archive" ||
         { fail "$file does not compile"; false; }
 }
 
@@ -91,7 +91,7 @@ finish() {
 }
 
 # Random trials are so many a call; under the emulator, so many fewer that all take as long as those of eight calls.
-calls_tried=14
+calls_tried=15
 [ -z "$run" ] || calls_tried=8
 [ $part = rest ] || {
     both fuzz $((50000 * calls_tried)) $((5000 * calls_tried))
@@ -100,7 +100,7 @@ calls_tried=14
 [ $part != random ] || finish
 
 # The archive exports nothing but the calls, has no variables, and needs nothing but memcpy and its kin.
-calls='first|next|page|count|place|measure|draw|svg|(table|slots)_(first|next|measure)'
+calls='first|next|page|count|place|measure|draw|svg|read_csv|(table|slots)_(first|next|measure)'
 exports=$($nm -g --defined-only "$archive" | sed -En "/ cheremysl_($calls)\$/!s/.* . //p")
 others=$($nm "$archive" | sed -En '/ [BbCDdGgSs] | U /{/ U (mem(cpy|set|move|cmp)|_GLOBAL_OFFSET_TABLE_)$/!s/.* //p}')
 [ -z "$exports" ] && passed=$((passed + 1)) || fail "the archive exports" $exports
@@ -119,6 +119,7 @@ both sheets
 both refusals
 both touching 100 10
 both svg 300 30
+both csv 200000 5000
 if [ $search ]; then
     both every $((3750 * calls_tried)) $((375 * calls_tried))
     both large 150 15

@@ -40,6 +40,7 @@ static const struct {
     function enter;
     size_t stated;
 } calls[CALLS] = {
+    [READ_CSV] = {(function)cheremysl_read_csv, 3000},
     [MEASURE] = {(function)cheremysl_measure, 584},
     [DRAW] = {(function)cheremysl_draw, 136},
     [SVG] = {(function)cheremysl_svg, 5496},
@@ -241,6 +242,17 @@ static void among_squares(enum call call, enum board board) {
     ask_on_small_stack();
 }
 
+/* Texts of up to 64 pads, sound and then damaged more and more. */
+static void on_texts(void) {
+    for (int k = 0; k < DAMAGED * DAMAGED; k++) {
+        sound_question(&question, READ_CSV);
+        for (int times = 0; times < 3; times++) {
+            ask_on_small_stack();
+            damage(&question);
+        }
+    }
+}
+
 static void hold_to_figure(enum call call) {
     size_t used = deepest[call], stated = calls[call].stated;
     char what[80];
@@ -255,7 +267,8 @@ static void hold_to_figure(enum call call) {
 int main(void) {
     prepare();
     for (enum call call = 0; call < CALLS; call++) {
-        for (enum board board = 0; board < BOARDS; board++) {
+        if (call == READ_CSV) on_texts();
+        for (enum board board = 0; board < BOARDS && call != READ_CSV; board++) {
             on_board(call, board, POINTS);
             if (FIRST < CALLS) on_board(call, board, FITTED);
             among_squares(call, board);

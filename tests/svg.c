@@ -6,11 +6,9 @@
  * 32 bits; each byte of a job and each entry of a layout changed, where Svg refuses what Measure
  * refuses with weights 0, 0. With a COUNT below 300 about a tenth of the numbers are tried.
  */
-#define _DEFAULT_SOURCE
 #include <stdio.h>
 #include <stdlib.h>
 #include <string.h>
-#include <sys/mman.h>
 
 #include "boards.h"
 #include "cheremysl.h"
@@ -279,14 +277,11 @@ static void largest(size_t n) {
 
 /* ---- rooms of more than 32 bits ---- */
 
-/* Lent are addresses alone but for the first bytes: nothing is at the others. */
 static void wide_rooms(void) {
     static struct question q;
     static const uint64_t wide[] = {0x7FFFFFFF, 0x80000000, 0xFFFFFFFF, 0x100000000, 0x100000001};
-    size_t all = 0x100000000 + 0x100000, readable = 0x10000;
-    char *memory = mmap(NULL, all, PROT_NONE, MAP_PRIVATE | MAP_ANONYMOUS | MAP_NORESERVE, -1, 0);
-    bool lent = memory != MAP_FAILED && mprotect(memory, readable, PROT_READ | PROT_WRITE) == 0;
-    if (!check(lent, NULL, "4 GiB of addresses")) return;
+    char *memory = guard_wide();
+    if (!check(memory != NULL, NULL, "4 GiB of addresses")) return;
     any_sheet(&q, 3, STRAIGHT);
     for (size_t i = 0; i < 3; i++) put_half(q.job, i, 0);
     lend_text(&q, TEXT_ROOM);
@@ -299,7 +294,6 @@ static void wide_rooms(void) {
         int64_t answer = cheremysl_svg(q.job, q.job_bytes, q.list.layout, q.count, memory, wide[k]);
         check(answer == r.answer && memcmp(memory, r.text, sizeof r.text) == 0, &q, "a wide room");
     }
-    munmap(memory, all);
 }
 
 /* ---- refusals, beside Measure's ---- */

@@ -22,13 +22,14 @@ const int *const refusals_of[] = {
     [DRAW] = draw_checks,       [SLOTS_FIRST] = slots_first_checks,
     [SLOTS_NEXT] = slots_next_checks, [COUNT] = count_checks,
     [PLACE] = place_checks,     [SVG] = svg_checks,
+    [READ_CSV] = csv_checks,
 };
 const char *const call_names[] = {
     [MEASURE] = "Measure", [TABLE_MEASURE] = "TableMeasure", [SLOTS_MEASURE] = "SlotsMeasure",
     [FIRST] = "First",     [TABLE_FIRST] = "TableFirst",     [SLOTS_FIRST] = "SlotsFirst",
     [NEXT] = "Next",       [TABLE_NEXT] = "TableNext",       [SLOTS_NEXT] = "SlotsNext",
     [PAGE] = "Page",       [DRAW] = "Draw",                  [COUNT] = "Count",
-    [PLACE] = "Place",     [SVG] = "Svg",
+    [PLACE] = "Place",     [SVG] = "Svg",                    [READ_CSV] = "ReadCsv",
 };
 
 /* ---- counting ---- */
@@ -60,6 +61,8 @@ static void show_text(const char *text, size_t bytes) {
     printf("\n");
 }
 
+static bool fills_text(enum call call) { return call == SVG || call == READ_CSV; }
+
 static void show_lists(const struct question *q, const union list *list, const uint16_t *page,
                        const char *text) {
     if (q->call == COUNT) {
@@ -71,7 +74,7 @@ static void show_lists(const struct question *q, const union list *list, const u
         show_floats(list->points, q->count);
     else
         show_entries(list->layout, q->count);
-    if (q->call == SVG) show_text(text, q->text_bytes);
+    if (fills_text(q->call)) show_text(text, q->text_bytes);
     if (q->call != PAGE) return;
     printf("  page of %zu:", q->page_entries);
     show_entries(page, q->page_entries);
@@ -97,6 +100,7 @@ static const char *content_name(void);
 static void show(const struct question *q) {
     printf("  %s, numbers %" PRIu32 " %" PRIu32 ", ", call_names[q->call], q->a, q->b);
     show_bytes("job", q->job, q->job_bytes);
+    if (q->call == READ_CSV) show_text((const char *)q->csv->text, q->csv->bytes);
     if (takes_table(q->call)) show_table(q);
     if (takes_slots(q->call)) show_bytes("ports", q->ports, q->port_bytes);
     if (takes_work(q->call)) printf("work list of %zu, %s, ", q->numbers, content_name());
@@ -165,7 +169,10 @@ bool takes_table(enum call call) { return in_family(1, call); }
 bool takes_slots(enum call call) { return in_family(2, call); }
 bool takes_work(enum call call) { return takes_slots(call) && !measures(call); }
 bool takes_buffer(enum call call) { return call == COUNT || call == PLACE; }
-bool takes_weights(enum call call) { return call != DRAW && call != SVG && !takes_table(call); }
+
+bool takes_weights(enum call call) {
+    return call != DRAW && !fills_text(call) && !takes_table(call);
+}
 
 static enum call turned(enum call call, int family) {
     int kind = kind_of(call);
@@ -349,6 +356,8 @@ struct reply plain_reply(const struct question *q) {
     if (q->call == COUNT) r.answer = plain_count(&g);
     if (q->call == PLACE) r.answer = plain_place(&g, r.list.layout);
     if (q->call == SVG) r.answer = plain_svg(&g, r.text);
+    if (q->call == READ_CSV)
+        r.answer = plain_read_csv(q->csv, (uint8_t *)r.text, q->text_bytes);
     bool unknown = takes_buffer(q->call) && r.answer == PLAIN_UNKNOWN;
     return unknown ? ranked_reply(q, &g) : r;
 }
@@ -375,7 +384,7 @@ static size_t page_bytes_of(const struct question *q) {
 }
 
 static size_t text_bytes_of(const struct question *q) {
-    return q->call == SVG ? q->text_bytes : 0;
+    return fills_text(q->call) ? q->text_bytes : 0;
 }
 
 /* More figures than there is room for are lent with no memory behind them. */
@@ -426,7 +435,7 @@ static size_t work_bytes_of(const struct question *q) {
 
 /* A question's job and lists, wherever they stand. */
 struct lent {
-    const uint8_t *job, *ports;
+    const uint8_t *job, *ports, *csv;
     const uint32_t *table;
     void *list;
     uint16_t *page;
@@ -437,6 +446,8 @@ struct lent {
 static int64_t call_over(const struct question *q, struct lent at) {
     size_t bytes = q->job_bytes, figures = q->figures, count = q->count;
     switch (q->call) {
+    case READ_CSV:
+        return cheremysl_read_csv(at.csv, q->csv->bytes, (uint8_t *)at.text, q->text_bytes);
     case MEASURE: return cheremysl_measure(at.job, bytes, q->a, q->b, at.list, count);
     case DRAW: return cheremysl_draw(at.job, bytes, q->a, q->b, at.list, count);
     case SVG: return cheremysl_svg(at.job, bytes, at.list, count, at.text, q->text_bytes);
@@ -470,16 +481,20 @@ static int64_t call_over(const struct question *q, struct lent at) {
 }
 
 int64_t call_library(struct question *q) {
-    struct lent own = {q->job, q->ports, q->table, &q->list, q->page, held, q->text};
+    const uint8_t *csv = q->call == READ_CSV ? q->csv->text : NULL;
+    struct lent own = {q->job, q->ports, csv, q->table, &q->list, q->page, held, q->text};
     return call_over(q, own);
 }
 
-/* Job, then ports or table if it takes them, weights, place, layout, page, work list or text. */
+/*
+ * Job, or what ReadCsv reads; then ports or table if it takes them, weights, place, layout, page,
+ * work list or text.
+ */
 void put_arguments(struct question *q, uint64_t *arguments) {
-    bool tabled = takes_table(q->call), apart = takes_slots(q->call);
+    bool tabled = takes_table(q->call), apart = takes_slots(q->call), reads = q->call == READ_CSV;
     bool works = apart || takes_buffer(q->call);
-    *arguments++ = (uintptr_t)q->job;
-    *arguments++ = q->job_bytes;
+    *arguments++ = reads ? (uintptr_t)q->csv->text : (uintptr_t)q->job;
+    *arguments++ = reads ? q->csv->bytes : q->job_bytes;
     if (tabled || apart) {
         *arguments++ = tabled ? (uintptr_t)q->table : (uintptr_t)q->ports;
         *arguments++ = tabled ? q->figures : q->port_bytes;
@@ -489,11 +504,11 @@ void put_arguments(struct question *q, uint64_t *arguments) {
         *arguments++ = q->b;
     }
     if (q->call == PLACE) *arguments++ = q->place;
-    if (q->call != COUNT) {
+    if (q->call != COUNT && !reads) {
         *arguments++ = (uintptr_t)&q->list;
         *arguments++ = q->count;
     }
-    if (q->call == SVG) {
+    if (fills_text(q->call)) {
         *arguments++ = (uintptr_t)q->text;
         *arguments++ = q->text_bytes;
         return;
@@ -513,13 +528,14 @@ static bool can_answer(enum call call, int64_t answer) {
     return *own != 0 && earlier < record && answer == refused_pair(record, earlier);
 }
 
-static struct guarded jobs, ports, tables, read_only, writable, pages, texts;
+static struct guarded jobs, ports, csvs, tables, read_only, writable, pages, texts;
 static struct guarded works[WORK_SIZES], unwritable; /* for work lists */
 
 static void need_memory(void) {
     if (jobs.size != 0) return;
     jobs = guard_memory(false, 1, JOB_ROOM);
     ports = guard_memory(false, 1, PORTS_ROOM);
+    csvs = guard_memory(false, 1, sizeof((struct csv *)NULL)->text);
     tables = guard_memory(false, sizeof(uint32_t), TABLE_ROOM * sizeof(uint32_t));
     read_only = guard_memory(false, sizeof(uint16_t), LIST_ROOM * sizeof(uint16_t));
     writable = guard_memory(true, sizeof(float), sizeof(union list));
@@ -550,7 +566,7 @@ static uint64_t *lend_held(const struct question *q, enum side side, bool spared
 }
 
 static struct lent lend(const struct question *q, enum side side, bool spared) {
-    struct lent at = {NULL, NULL, NULL, NULL, NULL, NULL, NULL};
+    struct lent at = {NULL, NULL, NULL, NULL, NULL, NULL, NULL, NULL};
     need_memory();
     at.job = guard_put(&jobs, side, q->job, q->job_bytes);
     at.list = guard_put(memory_of(q->call), side, &q->list, bytes_of(q));
@@ -558,7 +574,8 @@ static struct lent lend(const struct question *q, enum side side, bool spared) {
     if (takes_slots(q->call)) at.ports = guard_put(&ports, side, q->ports, q->port_bytes);
     if (takes_numbers(q->call)) at.work = lend_held(q, side, spared);
     if (q->call == PAGE) at.page = guard_put(&pages, side, q->page, page_bytes_of(q));
-    if (q->call == SVG) at.text = guard_put(&texts, side, q->text, text_bytes_of(q));
+    if (fills_text(q->call)) at.text = guard_put(&texts, side, q->text, text_bytes_of(q));
+    if (q->call == READ_CSV) at.csv = guard_put(&csvs, side, q->csv->text, q->csv->bytes);
     return at;
 }
 
@@ -590,6 +607,8 @@ static void check_kept(const struct question *q, enum side side) {
         check(false, q, "the table was changed");
     if (takes_slots(q->call) && !kept(&ports, side, q->ports, q->port_bytes))
         check(false, q, "the ports were changed");
+    if (q->call == READ_CSV && !kept(&csvs, side, q->csv->text, q->csv->bytes))
+        check(false, q, "the text was changed");
 }
 
 /* Spared: a work list that can not be written. */
@@ -601,7 +620,7 @@ static struct reply ask_sparing(const struct question *q, enum side side, bool s
     asked = NULL;
     if (!guard_get(memory_of(q->call), side, &r.list, bytes_of(q)) ||
         (q->call == PAGE && !guard_get(&pages, side, r.page, page_bytes_of(q))) ||
-        (q->call == SVG && !guard_get(&texts, side, r.text, text_bytes_of(q))))
+        (fills_text(q->call) && !guard_get(&texts, side, r.text, text_bytes_of(q))))
         check(false, q, "written beside the list");
     check_kept(q, side);
     if (takes_numbers(q->call) && !spared && !kept_work(q, side, r.answer))

@@ -12,16 +12,20 @@
 #include "boards.h"
 #include "guard.h"
 #include "plain.h"
+#include "values.h"
 
-/* With NO_SEARCH the tests keep to the calls that search for nothing: the first five. */
+/*
+ * ReadCsv has no job: those from MEASURE on have. With NO_SEARCH the tests keep to the calls that
+ * search for nothing: the first six.
+ */
 enum call {
-    MEASURE, DRAW, SVG, TABLE_MEASURE, SLOTS_MEASURE,
+    READ_CSV, MEASURE, DRAW, SVG, TABLE_MEASURE, SLOTS_MEASURE,
     FIRST, NEXT, PAGE, TABLE_FIRST, TABLE_NEXT, SLOTS_FIRST, SLOTS_NEXT, COUNT, PLACE
 };
 #ifdef NO_SEARCH
-#define CALLS 5
+#define CALLS 6
 #else
-#define CALLS 14
+#define CALLS 15
 #endif
 
 #define JOB_ROOM 1056 /* two records more than the largest job */
@@ -52,8 +56,9 @@ struct question {
     size_t figures; /* more than TABLE_ROOM stand nowhere, and must not be read */
     size_t numbers; /* of the work list, or of the buffer; the same for more than WORK_ROOM */
     uint64_t place;
-    char text[TEXT_ROOM]; /* Svg alone has it */
+    char text[TEXT_ROOM]; /* that Svg writes; ReadCsv's room for pads */
     size_t text_bytes;
+    struct csv *csv; /* that ReadCsv reads; copies share it */
 };
 
 struct reply {
@@ -110,7 +115,10 @@ void set_port(struct question *q, size_t i, int64_t height);
 /* Lends a page of so many entries, which hold other numbers each time, all different. */
 void lend_page(struct question *q, size_t entries);
 
-/* Lends so many bytes for a text, which hold other bytes each time; how many its text would have. */
+/*
+ * Lends so many bytes for a text, or for pads, which hold other bytes each time; how many Svg's
+ * text would have.
+ */
 void lend_text(struct question *q, size_t bytes);
 size_t text_length(const struct question *q);
 
