@@ -1,11 +1,12 @@
 /*
  * bench.c: the library beside the plain C program, on the same jobs.
  *
- *   bench same TRIALS SEED  both on random jobs, sound and spoilt: fails if an answer, a list, a page or a text differs
+ *   bench same TRIALS SEED  both on random jobs and texts, sound and spoilt: fails if an answer, a list, a page or a text
+ *                           differs
  *   bench count             each call on each board at 8, 16, 32 and 64 pads, on those with squares at 32 and 64, and on
  *                           slots at some sizes, by the library and then by plain C, marked for the emulator, which
  *                           counts instructions; Count and Place by the library, and then its First. Prints CALL BOARD
- *                           SIZE ANSWER; the size is the number of pads, or PADSxPORTS
+ *                           SIZE ANSWER; the size is the number of pads, or PADSxPORTS. ReadCsv on some texts
  */
 #define _POSIX_C_SOURCE 200112L /* getppid */
 
@@ -32,7 +33,8 @@ static struct {
     uint16_t page[PAGE_ENTRIES];
     char text[CHEREMYSL_MAX_SVG_BYTES];
 } lent;
-static size_t text_bytes = CHEREMYSL_MAX_SVG_BYTES;
+static size_t text_bytes = CHEREMYSL_MAX_SVG_BYTES; /* for Svg's text, or for ReadCsv's pads */
+static struct csv csv;
 static uint64_t work[CHEREMYSL_MAX_SLOTS_WORK]; /* holds what the last call left there; a buffer for Count and Place */
 static uint64_t place;
 
@@ -41,7 +43,8 @@ static uint64_t place;
 /* A call by a table directly after that by weights: the emulator's plugin tells what the two have in common. */
 enum {
     FIRST, TABLE_FIRST, SLOTS_FIRST, NEXT, TABLE_NEXT, SLOTS_NEXT, PAGE, MEASURE, TABLE_MEASURE, SLOTS_MEASURE, SVG,
-    CALLS
+    CALLS, READ_CSV = CALLS, /* which has no board */
+    ALL_CALLS
 };
 
 typedef int64_t call_of(uint16_t *layout);
@@ -62,10 +65,19 @@ BY_BOTH(slots_next, ports, port_bytes, length_weight, bend_weight, layout, entri
 BY_BOTH(slots_measure, ports, port_bytes, length_weight, bend_weight, layout, entries)
 BY_BOTH(svg, layout, entries, lent.text, text_bytes)
 
+static int64_t our_read(uint16_t *layout) {
+    (void)layout;
+    return cheremysl_read_csv(csv.text, csv.bytes, (uint8_t *)lent.text, text_bytes);
+}
+static int64_t plain_read(uint16_t *layout) {
+    (void)layout;
+    return c_read_csv(csv.text, csv.bytes, (uint8_t *)lent.text, text_bytes);
+}
+
 static const struct {
     const char *name;
     call_of *ours, *plain;
-} by[CALLS] = {{"First", our_first, plain_first},
+} by[ALL_CALLS] = {{"First", our_first, plain_first},
                {"Table-First", our_table_first, plain_table_first},
                {"Slots-First", our_slots_first, plain_slots_first},
                {"Next", our_next, plain_next},
@@ -75,7 +87,8 @@ static const struct {
                {"Measure", our_measure, plain_measure},
                {"Table-Measure", our_table_measure, plain_table_measure},
                {"Slots-Measure", our_slots_measure, plain_slots_measure},
-               {"Svg", our_svg, plain_svg}};
+               {"Svg", our_svg, plain_svg},
+               {"Read-Csv", our_read, plain_read}};
 
 /* Place gives the sheet in the middle of all. */
 static int64_t our_count(uint16_t *layout) {
@@ -198,6 +211,22 @@ static void count_squares(int n) {
     for (int kind = RANDOM_SQUARES; kind <= EVEN_SQUARES; kind++) count_slots((enum measured)kind, n, 2 * n, SLOTS_MEASURE);
 }
 
+static void count_text(enum text kind, int n) {
+    uint16_t layout[ENTRIES] = {0};
+    make_measured_text(&csv, kind, n);
+    int64_t answer = both(READ_CSV, layout);
+    printf("%s %s %d %" PRId64 "\n", by[READ_CSV].name, text_names[kind], n, answer);
+    if (answer != (kind == LONG ? -4 * 65536 : kind == LINES ? -65536 : n)) exit(1);
+}
+
+static void count_texts(void) {
+    for (int kind = UNQUOTED; kind <= LONG; kind++) {
+        count_text((enum text)kind, 8);
+        count_text((enum text)kind, CHEREMYSL_MAX_RECORDS);
+    }
+    count_text(LINES, MOST_LINES);
+}
+
 static int count_all(void) {
     for (int kind = 0; kind < KINDS; kind++)
         for (int n = 8; n <= CHEREMYSL_MAX_RECORDS; n *= 2) count_board((enum measured)kind, n, CALLS - 1);
@@ -206,6 +235,7 @@ static int count_all(void) {
     for (int kind = 0; kind < ALL_KINDS; kind++)
         for (int n = 32; n <= CHEREMYSL_MAX_RECORDS && kind != AT_PORTS && kind != TALL; n *= 2)
             count_places((enum measured)kind, n);
+    count_texts();
     return 0;
 }
 
@@ -322,6 +352,16 @@ static void trial(size_t n, int way) {
     if (accepted) other_sheets(n, layout, way);
 }
 
+/* Any text, damaged or not; room for its pads, or less. */
+static void text_trial(void) {
+    uint16_t layout[ENTRIES] = {0};
+    size_t n = 1 + below(below(2) ? 5 : CHEREMYSL_MAX_RECORDS);
+    any_csv(&csv, job, n);
+    for (uint32_t k = below(3); k > 0; k--) damage_csv(&csv);
+    text_bytes = below(16) ? CHEREMYSL_MAX_JOB_BYTES : below((uint32_t)(CHEREMYSL_RECORD_BYTES * n + 1));
+    tried(READ_CSV, layout);
+}
+
 /* Few pads on slots: a search takes time that grows with the cube of their number. */
 static void any_trial(int t) {
     static const int ways[] = {BY_WEIGHTS, BY_WEIGHTS, BY_TABLE, ON_SLOTS};
@@ -331,7 +371,7 @@ static void any_trial(int t) {
 
 static int same(int trials, int seed) {
     seed_random((uint64_t)seed);
-    for (int t = 0; t < trials; t++) any_trial(t);
+    for (int t = 0; t < trials; t++) any_trial(t), text_trial();
     printf("%ld calls, %ld steps of Next, refusals", calls, steps);
     for (int r = 1; r <= CHEREMYSL_NO_WORK_ROOM; r++)
         if (refused[r] > 0) printf(" %d: %ld", r, refused[r]);

@@ -4,6 +4,7 @@
 
 #include <stdbool.h>
 #include <stdlib.h>
+#include <string.h>
 
 const char *const measured_names[ALL_KINDS] = {"random", "even",           "middle",       "ties",         "right", "above", "level",
                                                "tall",   "random-squares", "even-squares", "tall-squares", "free",
@@ -121,4 +122,30 @@ struct on_slots make_measured_slots(enum measured kind, int n, int p) {
     for (int q = 0; q < p; q++) put_height(g.ports, (size_t)q, 10 * q);
     put_squares(kind, g.pads, &plan);
     return g;
+}
+
+/* ---- texts ---- */
+
+const char *const text_names[TEXTS] = {"unquoted", "quoted", "long", "lines"};
+
+/* Each of n pads gets its share of what the text may still have. */
+static void lengthen_numbers(struct csv *csv, int n) {
+    uint8_t digits[CSV_LIMIT];
+    memset(digits, '7', sizeof digits);
+    for (size_t at = 0; n > 0; n--) {
+        size_t share = (CSV_LIMIT - csv->bytes) / (size_t)n;
+        while (csv->text[at++] != '\n') continue;
+        while (csv->text[at++] != ',') continue;
+        splice(csv, at, 0, digits, share);
+        at += share;
+    }
+}
+
+void make_measured_text(struct csv *csv, enum text kind, int n) {
+    struct given g = make_measured(RANDOM, kind == LINES ? 1 : n);
+    csv->bytes = 0;
+    add_pads(csv, g.job, kind == LINES ? 0 : (size_t)n);
+    if (kind == QUOTED) quote_some(csv, 1);
+    if (kind == LONG) lengthen_numbers(csv, n);
+    for (int k = 0; k < n && kind == LINES; k++) add_word(csv, "1,1,1\r\n");
 }

@@ -5,6 +5,8 @@
 #include <stddef.h>
 #include <stdint.h>
 
+#include "../tests/values.h"
+
 enum measured {
     RANDOM,      /* pad heights anywhere beside the ports */
     EVEN_SPREAD, /* a pad in each gap between ports */
@@ -51,5 +53,21 @@ struct on_slots {
 };
 
 struct on_slots make_measured_slots(enum measured kind, int n, int p);
+
+/* Texts to be read, of the pads of random. */
+enum text {
+    UNQUOTED,
+    QUOTED, /* every field */
+    LONG,   /* of the largest size, by as many digits as fit each x: refused with 4 */
+    LINES,  /* n lines, each the same, and none of random's: refused with 1 */
+    TEXTS
+};
+
+extern const char *const text_names[TEXTS];
+
+void make_measured_text(struct csv *csv, enum text kind, int n);
+
+/* As many lines as a text can have beside the header. */
+#define MOST_LINES 2339
 
 #endif

@@ -90,6 +90,8 @@ $0 == "@beside-points-on-slots@" { print_rows("Squares", "32x64 64x128", 0, 0, 1
 $0 == "@squares@" { print_rows("First|Next|Page|Measure|Svg|Table-.*", "32 64", 1, 0, 1); next }
 $0 == "@places@" { print_rows("Count|Place", "32 64", 1, 0, 0); next }
 $0 == "@places-with-squares@" { print_rows("Count|Place", "32 64", 1, 0, 1); next }
+$0 == "@texts@" { print_rows("Read-Csv", "8 64", 1, 0, 0); next }
+$0 == "@texts-of-lines@" { print_rows("Read-Csv", "2339", 1, 0, 0); next }
 $0 == "@squares-on-slots@" { print_rows("Slots-.*", "32x64 64x128", 1, 0, 1); next }
 {
     while (match($0, /@[a-z0-9-]+@/)) {

@@ -23,12 +23,13 @@
 #define LARGEST 10000  /* layouts on a page */
 #define ENTRIES CHEREMYSL_MAX_RECORDS
 
-enum { CALLS = 11, SIZES = 4, LISTINGS = 2, PAGES = 4 };
+enum { CALLS = 13, SIZES = 4, LISTINGS = 2, PAGES = 4 };
 
 static struct given on;
 static size_t pads;
 static uint16_t start[ENTRIES], layout[ENTRIES], page[LARGEST * ENTRIES];
 static uint64_t amid, buffer[CHEREMYSL_MAX_BUFFER]; /* the place in the middle of all sheets */
+static struct csv csv, long_csv; /* the pads of random as text, and with long numbers */
 static volatile int64_t answer; /* of the last call */
 
 /* ---- the calls: Next and Page go on from First's sheet, Measure measures it, Svg writes it, Draw draws a leader ---- */
@@ -62,6 +63,12 @@ static void svg(void) {
     static char text[CHEREMYSL_MAX_SVG_BYTES];
     answer = cheremysl_svg(on.job, on.bytes, start, pads, text, sizeof text);
 }
+static void read_text(const struct csv *csv) {
+    static uint8_t room[CHEREMYSL_MAX_JOB_BYTES];
+    answer = cheremysl_read_csv(csv->text, csv->bytes, room, sizeof room);
+}
+static void read_csv(void) { read_text(&csv); }
+static void read_long(void) { read_text(&long_csv); }
 static void draw(void) {
     float points[CHEREMYSL_DRAW_FLOATS];
     answer = cheremysl_draw(on.job, on.bytes, 0, start[0], points, CHEREMYSL_DRAW_FLOATS);
@@ -80,7 +87,9 @@ static const struct {
                   {"Table Next", table_next},
                   {"Table Measure", table_measure},
                   {"Svg", svg},
-                  {"Draw, one leader", draw}};
+                  {"Draw, one leader", draw},
+                  {"ReadCsv", read_csv},
+                  {"ReadCsv, 16,384 bytes", read_long}};
 
 static void take_board(int kind, int n) {
     on = make_measured((enum measured)kind, n);
@@ -88,6 +97,8 @@ static void take_board(int kind, int n) {
     first();
     memcpy(start, layout, sizeof start);
     count();
+    make_measured_text(&csv, UNQUOTED, n);
+    make_measured_text(&long_csv, LONG, n);
     amid = answer > 0 ? (uint64_t)answer / 2 : 0; /* too many to have places are refused, after the counting */
 }
 
