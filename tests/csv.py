@@ -10,16 +10,12 @@ RANGES = ((1, 65535), (1, 1000000), (-1000000, 1000000))
 LIMIT = 16384
 WORDS = ['0', '00', '-0', '-1', '+1', '-', '', ' 1', '1 ', '1.0', '1e3', '65535', '65536', '1000000', '1000001', '-1000000', '-1000001', '\u0661', '\xb2',
          '1_0', str(2 ** 32 + 1), str(2 ** 64 + 1), '9' * 5000, '"', '""', ',', 'a,b', 'a"b', '\r\n', '1\r\n', '\r', '\n', '\0', 'name', 'x', 'Y']
-passed = failed = 0
+outcomes = []  # whether each check passed
 
 def check(what, found, expected):
-    global passed, failed
-    if found == expected:
-        passed += 1
-    else:
-        failed += 1
-        if failed < 10:
-            print('FAILED: %s: %r, not %r' % (what, found, expected))
+    outcomes.append(found == expected)
+    if not outcomes[-1] and outcomes.count(False) < 10:
+        print('FAILED: %s: %r, not %r' % (what, found, expected))
 
 # ---- what the module reads
 
@@ -136,7 +132,7 @@ def main(count, seed, *command):
         came[min(answer, 0) // -65536] = came.get(min(answer, 0) // -65536, 0) + 1
     print('accepted %d, refused %s' % (came.pop(0, 0), ', '.join('%d: %d' % pair for pair in sorted(came.items()))))
     check('every refusal came', sorted(came), [1, 4, 6, 7, 20, 21, 22])
-    print('%d passed, %d failed' % (passed, failed))
-    return failed != 0
+    print('%d passed, %d failed' % (outcomes.count(True), outcomes.count(False)))
+    return False in outcomes
 
 sys.exit(main(*sys.argv[1:]))

@@ -90,9 +90,9 @@ finish() {
     exit
 }
 
-# Random trials are so many a call; under the emulator, so many fewer that all take as long as those of eight calls.
-calls_tried=15
-[ -z "$run" ] || calls_tried=8
+# Random trials are so many a call; under the emulator, so many fewer that all take as long as those of eight calls. So with texts.
+calls_tried=15 texts_tried=100000
+[ -z "$run" ] || calls_tried=8 texts_tried=30000
 [ $part = rest ] || {
     both fuzz $((50000 * calls_tried)) $((5000 * calls_tried))
     both random $((50000 * calls_tried)) $((5000 * calls_tried))
@@ -119,7 +119,7 @@ both sheets
 both refusals
 both touching 100 10
 both svg 300 30
-both csv 200000 5000
+both csv $texts_tried 5000
 if [ $search ]; then
     both every $((3750 * calls_tried)) $((375 * calls_tried))
     both large 150 15

@@ -138,6 +138,7 @@ static bool names(struct question *q, struct pair pair) {
 
 static void begin_question(struct question *q, size_t n) {
     memset(q, 0, sizeof *q);
+    q->call = MEASURE;
     q->job_bytes = 16 * n;
     q->count = n + below(3);
     for (size_t k = 0; k < LIST_ROOM; k++) q->list.layout[k] = (uint16_t)below(65536);
