@@ -1,3 +1,3 @@
--- What the code's answers are in the words of paper's laws/Parsing.
-pub mod Cursor
+-- Lines: what the code's answers stand for. Laws: what the lines that were read come to.
+pub mod Lines
 pub mod Laws

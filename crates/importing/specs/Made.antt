@@ -14,7 +14,7 @@ use Rattle.paper.specs.laws.Tests.{atWhole}
 use Rattle.paper.specs.laws.Parsing.{Row, listed, good, rowsBytes}
 use Rattle.paper.specs.laws.Imported.{padTests, rowTests, row-tests, text-passed, csv-bad, csv-made}
 use Rattle.csv.specs.declared.Listed.the-variants.{Bad}
-use Rattle.csv.specs.Cursor.{ListedIs}
+use Rattle.csv.specs.Lines.{ListedIs}
 use Rattle.checks.specs.declared.Verdict.{Verdict}
 use Rattle.checks.specs.declared.Verdict.the-variants.{Sound, Refused}
 use Rattle.checks.specs.Verdicts.{andThen, verdictAfter}

@@ -311,10 +311,10 @@ padTrials pads =
 abbrev pub stripTrials : List ℕ → List ℕ → Badness → Work → ℕ → List Trial
 stripTrials pads ports bad work room =
     ofWhole 1 (BadSize 4 512 ports) ∷ badnessTrial (boardOf (slots pads ports)) bad ∷ roomTrials (slots pads ports) work room ++ (
-      ofEach 4 (portCount Slots ports) (λ q. Outside (portOf Slots ports q)) ∷
-      ofEach 5 (portCount Slots ports) (NotAbove (portOf Slots ports)) ∷
-      ofEach 12 (portCount Slots ports) (TooClose (portOf Slots ports)) ∷
-      []
+    ofEach 4 (portCount Slots ports) (λ q. Outside (portOf Slots ports q)) ∷
+    ofEach 5 (portCount Slots ports) (NotAbove (portOf Slots ports)) ∷
+    ofEach 12 (portCount Slots ports) (TooClose (portOf Slots ports)) ∷
+    []
     )
 
 -- ---- which records a refusal names

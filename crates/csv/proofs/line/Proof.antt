@@ -6,9 +6,9 @@ use native.Mathlib.Omega.{arith}
 use denote.Ref.{now}
 use lib.ListN.{drop}
 use Rattle.paper.specs.laws.Parsing.{skip, fieldFront, lineFront}
-use Rattle.csv.specs.declared.Step.the-variants.{At}
-use Rattle.csv.specs.declared.Number.the-variants.{Got}
-use Rattle.csv.specs.Cursor.{contentOf, Steps, Numbers}
+use Rattle.fields.specs.declared.Step.the-variants.{At}
+use Rattle.fields.specs.declared.Number.the-variants.{Got}
+use Rattle.fields.specs.Cursor.{contentOf, Steps, Numbers}
 use Rattle.csv.proofs.line.Statement.{statement}
 use Rattle.csv.proofs.line.Tie as tie
 

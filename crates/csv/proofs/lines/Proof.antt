@@ -7,8 +7,8 @@ use native.Mathlib.Omega.{arith}
 use denote.Ref.{now}
 use lib.ListN.{length, drop}
 use Rattle.paper.specs.laws.Parsing.{headFront, padFront, listed}
-use Rattle.csv.specs.declared.Fields.the-variants.{Got}
-use Rattle.csv.specs.Cursor.{LineIs}
+use Rattle.csv.specs.declared.Columns.the-variants.{Got}
+use Rattle.csv.specs.Lines.{LineIs}
 use Rattle.csv.specs.Laws.{Reading, reading-none, filled-rows, reading-next, reading-bad, reading-end}
 use Rattle.csv.proofs.lines.Statement.{statement}
 use Rattle.csv.proofs.lines.Tie as tie

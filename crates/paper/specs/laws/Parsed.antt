@@ -336,8 +336,7 @@ module _ {f : List ℕ → Front ℕ} {Is : List ℕ → ℕ → Type 0} (E : Ex
           let value : m ≡ n = cc in
           let same : t′ ≡ rest = cc in
           let (v, is, t-is) = E .sound t m w read in
-          let inside : t ≡ v ++ 34 ∷ rest = t-is ∙ ap (λ (q : List ℕ). v ++ q) (skip-got 34 w u′ t′ closes ∙ ap (λ (q : List ℕ). 34 ∷ q) same) in
-          (
+          let inside : t ≡ v ++ 34 ∷ rest = t-is ∙ ap (λ (q : List ℕ). v ++ q) (skip-got 34 w u′ t′ closes ∙ ap (λ (q : List ℕ). 34 ∷ q) same) in (
             bytes "\"" ++ doubled v ++ bytes "\"",
             v,
             inr refl,
@@ -434,8 +433,7 @@ module _ {f g h : List ℕ → Front ℕ} {A B C : List ℕ → ℕ → Type 0} 
           let rest : v ≡ t = cc in
           let line = p ++ bytes "," ++ q ++ bytes "," ++ r in
           let numbers = subst (λ (o : Row). A a (o .name) × B b (o .x) × C c (o .y)) row-is is in
-          let ended = ended-is s line z v (fields-from s p q r u w z s-is u-is w-is) ends in
-          (
+          let ended = ended-is s line z v (fields-from s p q r u w z s-is u-is w-is) ends in (
             line,
             (a, b, c, (p, q, r, fields .0, fields .1, fields .2, refl), numbers .0, numbers .1, numbers .2),
             subst (λ (o : List ℕ). Ended s line o) rest ended,
@@ -456,12 +454,12 @@ module _ {f g h : List ℕ → Front ℕ} {A B C : List ℕ → ℕ → Type 0} 
 
   line-unbroken : (line : List ℕ) (row : Row) → RowIs line row → Unbroken line
   line-unbroken line row (a, b, c, (p, q, r, field-a, field-b, field-c, e), is-a, is-b, is-c) = free-unbroken line (rw e (
-    free-append (eqb 13) (p ++ bytes "," ++ q ++ bytes ",") r (
+      free-append (eqb 13) (p ++ bytes "," ++ q ++ bytes ",") r (
       free-append (eqb 13) (p ++ bytes "," ++ q) (bytes ",") (
-        free-append (eqb 13) (p ++ bytes ",") q (free-append (eqb 13) p (bytes ",") (field-unbroken F p a (row .name) field-a is-a) refl) (field-unbroken G q b (row .x) field-b is-b)
+      free-append (eqb 13) (p ++ bytes ",") q (free-append (eqb 13) p (bytes ",") (field-unbroken F p a (row .name) field-a is-a) refl) (field-unbroken G q b (row .x) field-b is-b)
       ) refl
-    ) (field-unbroken H r c (row .y) field-c is-c)
-  ))
+      ) (field-unbroken H r c (row .y) field-c is-c)
+      ))
 
 -- ---- the lines of a list
 

@@ -194,15 +194,17 @@ pub list-valid : (l : List ℕ) (room : ℕ) → Bytes l → Passed (padTrials l
     → ValidPads (padsIn l) room × (recordsOf (padsIn l) ≡ l)
 list-valid l room bytes (size, (fields, (names, (places, _)))) points fits =
     let s = sized l (size 0 (omega arith)) in
-    let many = pads-many l in
-    (record {
-      some = omega (arith, many, s .some);
-      few = omega (arith, many, s .few);
-      roomy = omega (arith, many, s .whole);
-      ranges = λ i h. let k : i < count l = omega (arith, many) in rw (pad-at l i k) (ranges i k);
-      names = λ i j m h e. let k : i < count l = omega (arith, many) in names i k (j, m, rw (pad-at l i k, pad-at l j (omega arith)) at e);
-      places = λ i j m h e. let k : i < count l = omega (arith, many) in places i k (j, m, rw (pad-at l i k, pad-at l j (omega arith)) at e);
-    }, records-back l bytes (omega (arith, s .whole)) (λ i h. (points i h, last i h)))
+    let many = pads-many l in (
+      record {
+        some = omega (arith, many, s .some);
+        few = omega (arith, many, s .few);
+        roomy = omega (arith, many, s .whole);
+        ranges = λ i h. let k : i < count l = omega (arith, many) in rw (pad-at l i k) (ranges i k);
+        names = λ i j m h e. let k : i < count l = omega (arith, many) in names i k (j, m, rw (pad-at l i k, pad-at l j (omega arith)) at e);
+        places = λ i j m h e. let k : i < count l = omega (arith, many) in places i k (j, m, rw (pad-at l i k, pad-at l j (omega arith)) at e);
+      },
+      records-back l bytes (omega (arith, s .whole)) (λ i h. (points i h, last i h)),
+    )
   where
     small : (i : ℕ) → i < count l → nameOf l i < 65536
     small i h = unfold nameOf in omega (arith, bytes (16 * i) (omega arith), bytes (16 * i + 1) (omega arith))
@@ -280,13 +282,16 @@ module _ (text : List ℕ) (room : ℕ) where
         (λ k l r. ⊎-elim (λ e. omega arith) (λ e. omega arith) (only text pads reads room (λ pads. (length pads ≡ 0) ⊎ (64 < length pads)) r)),
         inr (
           (λ k l r. omega (arith, only text pads reads room (λ pads. room < 16 * length pads) r)),
-          inl (refl, record {
-            inside = omega (arith, s .here .0);
-            first = record {
-              here = (pads, reads, s .here);
-              none-below = λ k l r. s .none-below k l (only text pads reads room (λ pads. (k < length pads) × BadRead (padAt pads k)) r);
-            };
-            named = alone;
-          }),
+          inl (
+            refl,
+            record {
+              inside = omega (arith, s .here .0);
+              first = record {
+                here = (pads, reads, s .here);
+                none-below = λ k l r. s .none-below k l (only text pads reads room (λ pads. (k < length pads) × BadRead (padAt pads k)) r);
+              };
+              named = alone;
+            },
+          ),
         ),
       ))

@@ -362,14 +362,13 @@ csv-holds text l a m = go (listed text) refl a
         let w = both (eqb k (length rows)) (sameList m (overwritten (rowsBytes rows) l)) .0 (v .1) in
         let (pads, reads, says) = row-tests text rows (length l) e in
         let passed = passed-append (textTrials text) (readTrials text (length l)) (text-passed text pads (leb→le (length text) 16384 (u .0)) reads)
-            (tests-pass tests (readTrials text (length l)) says (v .0)) in
+        (tests-pass tests (readTrials text (length l)) says (v .0)) in
         rw (eqb→eq k (length rows) (w .0), same-list m (overwritten (rowsBytes rows) l) (w .1)) (passed, (rowsBytes rows, csv-made text rows (length l) e passed, refl))
     go (good rows) e (NotCounted r) h =
         let tests = wideTests (length rows) (rowsBytes rows) (length l) in
         let u = both (leb (length text) 16384) (refuses tests r && sameList m l) .0 h in
         let v = both (refuses tests r) (sameList m l) .0 (u .1) in
-        let (pads, reads, says) = row-tests text rows (length l) e in
-        (
+        let (pads, reads, says) = row-tests text rows (length l) e in (
           refused-right (textTrials text) (readTrials text (length l)) r (text-passed text pads (leb→le (length text) 16384 (u .0)) reads)
               (tests-refuse tests (readTrials text (length l)) r says (v .0)),
           same-list m l (v .1),

@@ -1,4 +1,4 @@
--- `csv::signed` meets its contract. Assumes nothing.
+-- `fields::signed` meets its contract. Assumes nothing.
 use borrow.Author.Needs.{needs}
 use borrow.Author.Tests.{eq-eqb, ne-eqb}
 use native.Mathlib.Omega.{arith}
@@ -7,11 +7,11 @@ use mathlib.Core.List.{List}
 use denote.Ref.{now}
 use lib.ListN.{drop}
 use Rattle.paper.specs.laws.Parsing.{skip, naturalFront, signedFront}
-use Rattle.csv.specs.declared.Step.the-variants.{At}
-use Rattle.csv.specs.declared.Number.the-variants.{Got}
-use Rattle.csv.specs.Cursor.{Steps, Numbers}
-use Rattle.csv.proofs.signed.Statement.{statement}
-use Rattle.csv.proofs.signed.Tie as tie
+use Rattle.fields.specs.declared.Step.the-variants.{At}
+use Rattle.fields.specs.declared.Number.the-variants.{Got}
+use Rattle.fields.specs.Cursor.{Steps, Numbers}
+use Rattle.fields.proofs.signed.Statement.{statement}
+use Rattle.fields.proofs.signed.Tie as tie
 
 abbrev textOf : tie.Start → List ℕ
 textOf s = now (s .args .text)
@@ -33,7 +33,7 @@ size : (k : tie.After-known-told2)
     let from = at-minus k .before .minus .given .0 .0 in
     let v = k .before .size .given .0 in
     Numbers (textOf s) from (naturalFront (drop from (textOf s))) (Got (v .0) (v .1 .0))
-size k = rw (k .before .size .given .1) at (k .before .before .before .natural2 .ensures .0)
+size k = rw (k .before .size .given .1) at (k .before .before .before .natural2 .ensures)
 
 byte-requires : tie.Need-byte-requires
 byte-requires c κs = search needs
@@ -52,7 +52,7 @@ unfolding signedFront
 returns c =
     let t = c .before in
     let none = rw (t .enum-told .given .1) at (t .before .before .byte .ensures) in
-    record { is = rw (none .is) (c .natural .ensures .0 .is); inside = c .natural .ensures .0 .inside }
+    record { is = rw (none .is) (c .natural .ensures .is); inside = c .natural .ensures .inside }
 
 natural-requires-2 : tie.Need-natural-requires-2
 natural-requires-2 c κs = minus c .inside .1
@@ -67,23 +67,23 @@ returns-2 : tie.Need-returns-2
 unfolding signedFront
 returns-2 c =
     let n = c .before .before in
-    let none = rw (c .enum-told2 .given .1) at (n .natural2 .ensures .0) in
+    let none = rw (c .enum-told2 .given .1) at (n .natural2 .ensures) in
     record { is = rw (minus (n .before) .is, none .is); inside = tt }
+
+cast-t10 : tie.Need-cast-t10
+cast-t10 c = search needs
+
+sub-t11 : tie.Need-sub-t11
+sub-t11 c = search needs
+
+cast-t12 : tie.Need-cast-t12
+cast-t12 c = search needs
 
 returns-3 : tie.Need-returns-3
 unfolding signedFront
 returns-3 c =
     let k = c .before in
     record { is = rw (minus (at-minus k) .is, size k .is, eq-eqb _ 0 (c .if1 .taken)); inside = tt }
-
-cast-t9 : tie.Need-cast-t9
-cast-t9 c = search needs
-
-sub-t10 : tie.Need-sub-t10
-sub-t10 c = search needs
-
-cast-t11 : tie.Need-cast-t11
-cast-t11 c = search needs
 
 returns-4 : tie.Need-returns-4
 unfolding signedFront
@@ -104,8 +104,8 @@ signed-spec =
     enum-known-size
     enum-told-2
     returns-2
+    cast-t10
+    sub-t11
+    cast-t12
     returns-3
-    cast-t9
-    sub-t10
-    cast-t11
     returns-4)

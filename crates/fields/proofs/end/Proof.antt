@@ -1,13 +1,13 @@
--- `csv::end` meets its contract. Assumes nothing.
+-- `fields::end` meets its contract. Assumes nothing.
 use borrow.Author.Needs.{needs}
 use native.Mathlib.Omega.{arith}
 use mathlib.Core.Path.{_≡_, _∙_}
 use denote.Ref.{now}
 use lib.ListN.{drop}
 use Rattle.paper.specs.laws.Parsing.{onto, skip, endFront}
-use Rattle.csv.specs.Laws.{end-here, end-more, steps-from}
-use Rattle.csv.proofs.end.Statement.{statement}
-use Rattle.csv.proofs.end.Tie as tie
+use Rattle.fields.specs.Laws.{end-here, end-more, steps-from}
+use Rattle.fields.proofs.end.Statement.{statement}
+use Rattle.fields.proofs.end.Tie as tie
 
 -- a byte stands at the place
 more : (c : tie.Else1)

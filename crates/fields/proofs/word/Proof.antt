@@ -1,13 +1,13 @@
--- `csv::word` meets its contract: k bytes of the word were there, and the others have to stand from the place on. Assumes nothing.
+-- `fields::word` meets its contract: k bytes of the word were there, and the others have to stand from the place on. Assumes nothing.
 use borrow.Author.Needs.{needs}
 use Prim.Native.Nat.{_-_, _≤_}
 use mathlib.Core.Path.{_≡_, refl, _∙_}
 use denote.Ref.{now}
 use lib.ListN.{length, drop}
 use Rattle.paper.specs.laws.Parsing.{wordFront}
-use Rattle.csv.specs.Laws.{word-next, word-other, word-all}
-use Rattle.csv.proofs.word.Statement.{statement}
-use Rattle.csv.proofs.word.Tie as tie
+use Rattle.fields.specs.Laws.{word-next, word-other, word-all}
+use Rattle.fields.proofs.word.Statement.{statement}
+use Rattle.fields.proofs.word.Tie as tie
 
 abbrev Inv-loop : tie.InvT-loop
 Inv-loop text at w place₀ k₀ place k =

@@ -1,4 +1,4 @@
--- `csv::digits` meets its contract: the digits up to the place came to v. Assumes nothing.
+-- `fields::digits` meets its contract: the digits up to the place came to v. Assumes nothing.
 use borrow.Author.Needs.{needs}
 use borrow.Author.Tests.{not-true, not-false}
 use Prim.Native.Nat.{_-_, _≤_}
@@ -8,9 +8,9 @@ use denote.Ref.{now}
 use lib.ListN.{length, getD, drop}
 use Rattle.paper.specs.laws.Parsing.{isDigit, digitsFront}
 use Rattle.paper.specs.laws.Parsed.{digit-range}
-use Rattle.csv.specs.Laws.{digits-next, digits-other, digits-end}
-use Rattle.csv.proofs.digits.Statement.{statement}
-use Rattle.csv.proofs.digits.Tie as tie
+use Rattle.fields.specs.Laws.{digits-next, digits-other, digits-end}
+use Rattle.fields.proofs.digits.Statement.{statement}
+use Rattle.fields.proofs.digits.Tie as tie
 
 abbrev Inv-loop : tie.InvT-loop
 Inv-loop text at first v₀ place₀ v place =
@@ -33,7 +33,7 @@ returns c =
     let i = c .before in
     let l = i .before .before in
     let other = sym (i .is-digit .ensures) ∙ not-true _ (c .if1 .taken) in
-    (record { is = l .before .loop .inv .3 ∙ digits-other _ _ _ (l .loop-test .taken) other; inside = search needs }, search needs)
+    record { is = l .before .loop .inv .3 ∙ digits-other _ _ _ (l .loop-test .taken) other; inside = search needs }
 
 -- a digit stands at the place
 digit : (c : tie.Else1 Inv-loop μ-loop)
@@ -58,8 +58,7 @@ loop-again c =
 
 returns-2 : tie.Need-returns-2 Inv-loop μ-loop
 returns-2 c =
-    let l = c .before .loop .inv in
-    (record { is = l .3 ∙ digits-end _ _ _ (c .loop-test .left); inside = search needs }, search needs)
+    record { is = c .before .loop .inv .3 ∙ digits-end _ _ _ (c .loop-test .left); inside = search needs }
 
 pub digits-spec : {M : Type 1} → statement M
 digits-spec =

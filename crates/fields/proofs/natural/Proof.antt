@@ -1,14 +1,14 @@
--- `csv::natural` meets its contract. Assumes nothing.
+-- `fields::natural` meets its contract. Assumes nothing.
 use borrow.Author.Needs.{needs}
 use Prim.Native.Nat.{_≤_}
 use mathlib.Core.Path.{sym, _∙_}
 use native.Mathlib.Omega.{arith}
 use denote.Ref.{now}
 use lib.ListN.{getD}
-use Rattle.csv.specs.Laws.{natural-zero, natural-digits, natural-other, natural-end, numbers-from}
+use Rattle.fields.specs.Laws.{natural-zero, natural-digits, natural-other, natural-end, numbers-from}
 use Rattle.paper.specs.laws.Parsed.{digit-range}
-use Rattle.csv.proofs.natural.Statement.{statement}
-use Rattle.csv.proofs.natural.Tie as tie
+use Rattle.fields.proofs.natural.Statement.{statement}
+use Rattle.fields.proofs.natural.Tie as tie
 
 -- a digit stands at the place
 digit : (c : tie.Then3)
@@ -24,7 +24,7 @@ add-t9 : tie.Need-add-t9
 add-t9 c = search needs
 
 returns : tie.Need-returns
-returns c = (record { is = natural-zero _ _ (c .before .before .if1 .taken) (c .if2 .taken); inside = search needs }, search needs)
+returns c = record { is = natural-zero _ _ (c .before .before .if1 .taken) (c .if2 .taken); inside = search needs }
 
 is-digit-requires : tie.Need-is-digit-requires
 is-digit-requires c κs = search needs
@@ -46,16 +46,16 @@ returns-2 c =
     let i = c .before .before in
     let t = i .before .before .before in
     let e = natural-digits _ _ (t .if1 .taken) (i .before .if2 .left) (sym (i .is-digit .ensures) ∙ c .before .if3 .taken) in
-    (numbers-from (omega arith) e (c .digits .ensures .0), c .digits .ensures .1)
+    numbers-from (omega arith) e (c .digits .ensures)
 
 returns-3 : tie.Need-returns-3
 returns-3 c =
     let i = c .before in
     let t = i .before .before .before in
-    (record { is = natural-other _ _ (t .if1 .taken) (i .before .if2 .left) (sym (i .is-digit .ensures) ∙ c .if3 .left); inside = tt }, tt)
+    record { is = natural-other _ _ (t .if1 .taken) (i .before .if2 .left) (sym (i .is-digit .ensures) ∙ c .if3 .left); inside = tt }
 
 returns-4 : tie.Need-returns-4
-returns-4 c = (record { is = natural-end _ _ (c .if1 .left); inside = tt }, tt)
+returns-4 c = record { is = natural-end _ _ (c .if1 .left); inside = tt }
 
 pub natural-spec : {M : Type 1} → statement M
 natural-spec =

@@ -1,8 +1,8 @@
--- `csv::byte` meets its contract. Assumes nothing.
+-- `fields::byte` meets its contract. Assumes nothing.
 use borrow.Author.Needs.{needs}
-use Rattle.csv.specs.Laws.{skip-here, skip-other, skip-end}
-use Rattle.csv.proofs.byte.Statement.{statement}
-use Rattle.csv.proofs.byte.Tie as tie
+use Rattle.fields.specs.Laws.{skip-here, skip-other, skip-end}
+use Rattle.fields.proofs.byte.Statement.{statement}
+use Rattle.fields.proofs.byte.Tie as tie
 
 shared-slice-read-if2 : tie.Need-shared-slice-read-if2
 shared-slice-read-if2 c = search needs

@@ -1,7 +1,7 @@
--- `csv::content` meets its contract. Assumes nothing.
+-- `fields::content` meets its contract. Assumes nothing.
 use borrow.Author.Needs.{needs}
-use Rattle.csv.proofs.content.Statement.{statement}
-use Rattle.csv.proofs.content.Tie as tie
+use Rattle.fields.proofs.content.Statement.{statement}
+use Rattle.fields.proofs.content.Tie as tie
 
 enum-told : tie.Need-enum-told
 enum-told c = search needs
@@ -52,7 +52,7 @@ returns-3 : tie.Need-returns-3
 returns-3 c = rw (c .before .before .enum-told3 .given .1) (c .word3 .ensures)
 
 returns-4 : tie.Need-returns-4
-returns-4 c = rw (c .before .enum-told4 .given .1) (c .natural .ensures .0)
+returns-4 c = rw (c .before .enum-told4 .given .1) (c .natural .ensures)
 
 returns-5 : tie.Need-returns-5
 returns-5 c = rw (c .before .enum-told5 .given .1) (c .signed .ensures)

@@ -1,4 +1,4 @@
--- `csv::field` meets its contract. Assumes nothing.
+-- `fields::field` meets its contract. Assumes nothing.
 use borrow.Author.Needs.{needs}
 use native.Mathlib.Omega.{arith}
 use Prim.Native.Nat.{ℕ, _+_}
@@ -6,11 +6,11 @@ use mathlib.Core.List.{List}
 use denote.Ref.{now}
 use lib.ListN.{drop}
 use Rattle.paper.specs.laws.Parsing.{skip, fieldFront}
-use Rattle.csv.specs.declared.Step.the-variants.{At}
-use Rattle.csv.specs.declared.Number.the-variants.{Got}
-use Rattle.csv.specs.Cursor.{contentOf, Steps, Numbers}
-use Rattle.csv.proofs.field.Statement.{statement}
-use Rattle.csv.proofs.field.Tie as tie
+use Rattle.fields.specs.declared.Step.the-variants.{At}
+use Rattle.fields.specs.declared.Number.the-variants.{Got}
+use Rattle.fields.specs.Cursor.{contentOf, Steps, Numbers}
+use Rattle.fields.proofs.field.Statement.{statement}
+use Rattle.fields.proofs.field.Tie as tie
 
 abbrev textOf : tie.Start → List ℕ
 textOf s = now (s .args .text)

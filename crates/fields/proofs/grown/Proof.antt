@@ -1,10 +1,10 @@
--- `csv::grown` meets its contract. Assumes nothing.
+-- `fields::grown` meets its contract. Assumes nothing.
 use borrow.Author.Needs.{needs}
 use borrow.Author.Tests.{lt-ltb, le-ltb}
 use native.Mathlib.Omega.{arith}
 use Rattle.paper.specs.laws.Parsing.{cap}
-use Rattle.csv.proofs.grown.Statement.{statement}
-use Rattle.csv.proofs.grown.Tie as tie
+use Rattle.fields.proofs.grown.Statement.{statement}
+use Rattle.fields.proofs.grown.Tie as tie
 
 mul-n : tie.Need-mul-n
 mul-n c = search needs
