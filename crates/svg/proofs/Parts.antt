@@ -3,22 +3,20 @@ use mathlib.Core.Path.{_≡_, refl, sym, ap, subst, _∙_}
 use mathlib.Core.Bool.{true, false, true≢false}
 use mathlib.Core.List.{List, [], _∷_, _++_, append-assoc}
 use Prim.Native.Nat.{ℕ, _+_, _/_, _%_, _≤_, _<_}
-use lib.ListN.{length, take, drop, length-append}
-use lib.Seq.{sets-eq}
+use lib.ListN.{length, take, length-append}
 use lib.IntN.{ℤ, pos, negsuc, natAbs, negℤ, ℤ-discrete}
 use lib.Signed.{ltZ}
 use borrow.Author.Tests.{ltb-true}
 use native.Mathlib.Omega.{arith}
-use native.Mathlib.Nat.{zero-add}
 use Rattle.text.specs.Text.{bytes, decimal, Writes}
-use Rattle.text.specs.Writing.{writes-then, writes-whole}
+use Rattle.text.specs.Writing.{writes-then, writes-whole, writes-over}
 use Rattle.paper.specs.Leaders.{Leader}
 use Rattle.paper.specs.declared.Counted.the-variants.{Many}
 use Rattle.paper.specs.declared.Work.the-variants.{Unlent}
 use Rattle.paper.specs.Job.{records}
 use Rattle.paper.specs.Layouts.{Board, boardOf, held, leader, byWeights}
 use Rattle.paper.specs.Refusals.{Passed, measureTrials}
-use Rattle.paper.specs.Promises.{overwritten, SvgAnswers}
+use Rattle.paper.specs.Promises.{SvgAnswers}
 use Rattle.paper.specs.laws.Exported.{text-bound, svg-made}
 use Rattle.paper.specs.Svg.{fraction, quarters, numeral}
 use Rattle.paper.specs.laws.Texts.{pointText, lineText, linesText, sheetText, AllOnSheet, level-text, bend-text, line-short, lines-short}
