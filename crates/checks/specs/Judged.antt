@@ -20,7 +20,7 @@ use Rattle.paper.specs.Refusals.{Trial, Smallest, Passed, RefusedBy, refusal, s
 use Rattle.paper.specs.laws.Tests.{Test, atEach, atPairs, atWhole, withEarlier, badField, sameName, sameX, drawTests}
 use Rattle.paper.specs.laws.Parsing.{Row, listed, good, rowsBytes}
 use Rattle.paper.specs.laws.Written.{rows-count}
-use Rattle.paper.specs.laws.Imported.{padTests, rowTests, wide, wideTests, row-tests}
+use Rattle.paper.specs.laws.Imported.{recordTests, rowTests, wide, wideTests, row-tests}
 use Rattle.paper.specs.laws.Trials.{passed-append, refused-left, refused-right}
 use Rattle.paper.specs.laws.Decided.{reasonOf, TestOf, TestsOf, soundTestsOf, measureTestsOf, sound-tests, measure-tests, draw-tests}
 use Rattle.find.specs.declared.Found.{Found}
@@ -175,7 +175,7 @@ module _ (n room : ℕ) (bytes : List ℕ) (is : count bytes ≡ n) where
   many : 64 < n → sizes ≡ Refused (refusal 1 0 0)
   many l = ap (outcome 1) (found-here (λ i. eqb n 0 || ltb 64 n) 0 (none-below (λ i. eqb n 0 || ltb 64 n)) (rw (lt-ltb 64 n l) (or-true (eqb n 0))) 1 (omega arith))
 
-  few : (v : Verdict) → n ≤ 64 → verdictAfter v (padTests bytes) ≡ verdictAfter v wides
+  few : (v : Verdict) → n ≤ 64 → verdictAfter v (recordTests bytes) ≡ verdictAfter v wides
   few v l =
       let four = andThen v (atEach 4 64 (wide n (badField Slots bytes))) in
       let six = andThen four (atEach 6 64 (wide n (withEarlier (sameName bytes)))) in
@@ -189,7 +189,7 @@ module _ (n room : ℕ) (bytes : List ℕ) (is : count bytes ≡ n) where
     where
       go : Dec (64 < n) → verdictAfter Sound (rowTests n made room) ≡ verdictAfter Sound (wideTests n bytes room)
       go (yes l) =
-          ap (λ (v : Verdict). verdictAfter v (atWhole 22 (ltb room (16 * n)) ∷ padTests made)) (many l)
+          ap (λ (v : Verdict). verdictAfter v (atWhole 22 (ltb room (16 * n)) ∷ recordTests made)) (many l)
           ∙ sym (ap (λ (v : Verdict). verdictAfter v (atWhole 22 (ltb room (16 * n)) ∷ wides)) (many l))
       go (no l) =
           ap (λ (m : List ℕ). verdictAfter Sound (rowTests n m room)) (same (omega arith)) ∙ few (andThen sizes (atWhole 22 (ltb room (16 * n)))) (omega arith)

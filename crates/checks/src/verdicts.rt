@@ -16,7 +16,7 @@ ghost use Rattle.paper.specs.Layouts.{boardFrom, held};
 ghost use Rattle.paper.specs.Refusals.{workNeeded};
 ghost use Rattle.paper.specs.laws.Tests.{badWeight, badTable, badEntry, recordsTouch, atEach, atPairs, atWhole};
 ghost use Rattle.paper.specs.laws.Tests.{sizeTests, enoughTests, workTests, roomTests, fieldTests, boardTests, jobTests, layoutTests, soundTests, measureTests, drawTests};
-ghost use Rattle.paper.specs.laws.Imported.{padTests, rowTests};
+ghost use Rattle.paper.specs.laws.Imported.{recordTests, rowTests};
 ghost use Rattle.find.specs.Dispatch.{testOf, numberOf, Led};
 ghost use Rattle.checks.specs.Verdicts.{outcome, andThen, verdictAfter, givenTest, Formed, Short, Few};
 
@@ -250,10 +250,10 @@ pub fn of_draw(job: &[u8], i: u32, q: u32, room: usize) -> Verdict
     try_whole(v7, 11, faults::bad_number(job, i, q))
 }
 
-// 4, 6 and 7 of pad records alone.
+// 4, 6 and 7 of pad records alone: none of these looks at the ports.
 fn of_pads(pads: &[u8]) -> Verdict
     requires { ⌜ length (now pads) ≤ 1024 ⌝ }
-    ensures { λ r. ⌜ r ≡ verdictAfter Verdict.Sound (padTests (now (pads .entry))) ⌝ }
+    ensures { λ r. ⌜ r ≡ verdictAfter Verdict.Sound (recordTests (now (pads .entry))) ⌝ }
 {
     let v4 = try_records(Verdict::Sound, 4, Check::Field, Form::Slots, pads, pads);
     let v6 = try_records(v4, 6, Check::Name, Form::Slots, pads, pads);

@@ -8,7 +8,7 @@ use lib.ListN.{length, drop, length-append, drop-of-length-le}
 use Rattle.text.specs.Text.{Writes}
 use Rattle.text.specs.Writing.{writes-none, writes-then, writes-length, writes-whole}
 use Rattle.paper.specs.Job.{bytes4}
-use Rattle.paper.specs.laws.Parsing.{Row, short, rowBytes, rowsBytes, got, none, Listed, good, bad, before, headFront, padFront, listFrom, listed}
+use Rattle.paper.specs.laws.Parsing.{Row, fitting, rowBytes, rowsBytes, got, none, Listed, good, bad, before, headFront, padFront, listFrom, listed}
 use Rattle.paper.specs.laws.Written.{rows-length}
 use Rattle.fields.specs.Laws.{from-here}
 use Rattle.csv.specs.declared.Listed.the-variants.{Pads, Bad}
@@ -16,9 +16,9 @@ use Rattle.csv.specs.Lines.{ListedIs}
 
 -- ---- rows in bytes
 
-pub row-written : (w : Row) {b m n o a : List ℕ} {at p q t r : ℕ} → Writes b at (bytes4 (short (w .name))) p m → Writes m p (bytes4 (w .x)) q n
+pub row-written : (w : Row) {b m n o a : List ℕ} {at p q t r : ℕ} → Writes b at (bytes4 (fitting (w .name))) p m → Writes m p (bytes4 (w .x)) q n
     → Writes n q (bytes4 (w .y)) t o → Writes o t (bytes4 0) r a → Writes b at (rowBytes w) r a
-row-written w f g h i = rw (add-zero (short (w .name))) (writes-then f (writes-then g (writes-then h i)))
+row-written w f g h i = rw (add-zero (fitting (w .name))) (writes-then f (writes-then g (writes-then h i)))
 
 rows-append : (rs : List Row) (r : Row) → rowsBytes (rs ++ (r ∷ [])) ≡ rowsBytes rs ++ rowBytes r
 rows-append [] r = append-nil (rowBytes r)

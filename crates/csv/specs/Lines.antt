@@ -7,7 +7,7 @@ use Rattle.paper.specs.laws.Parsing.{Front, got, none, listed, good, bad, rowsB
 use Rattle.paper.specs.laws.Parsing.{Row as RowOf}
 use Rattle.csv.specs.declared.Row.{Row}
 use Rattle.csv.specs.declared.Columns.{Columns}
-use Rattle.csv.specs.declared.Columns.the-variants.{Got, Bad as BadLine}
+use Rattle.csv.specs.declared.Columns.the-variants.{Got, Bad as BadColumns}
 use Rattle.csv.specs.declared.Listed.{Listed}
 use Rattle.csv.specs.declared.Listed.the-variants.{Pads, Bad}
 
@@ -16,11 +16,11 @@ rowOf r = record { name = r .name; x = r .x; y = r .y }
 
 abbrev pub lineFrontOf : List ℕ → Columns → Front RowOf
 lineFrontOf text (Got r k) = got (rowOf r) (drop k text)
-lineFrontOf text BadLine = none
+lineFrontOf text BadColumns = none
 
 abbrev pub LineIn : List ℕ → ℕ → Columns → Type 0
 LineIn text at (Got r k) = (at < k) × (k ≤ length text)
-LineIn text at BadLine = Unit {0}
+LineIn text at BadColumns = Unit {0}
 
 pub record LineIs (text : List ℕ) (at : ℕ) (front : Front RowOf) (r : Columns) : Type 0 where
   pub is : front ≡ lineFrontOf text r

@@ -8,7 +8,7 @@ ghost use lib.ListN.{length, drop};
 ghost use Rattle.text.specs.Text.{Writes};
 ghost use Rattle.paper.specs.Job.{bytes4};
 ghost use Rattle.paper.specs.laws.Parsing.{lineFront, rowBytes};
-ghost use Rattle.paper.specs.laws.Parsing.{short as short-of};
+ghost use Rattle.paper.specs.laws.Parsing.{fitting as fitting-of};
 ghost use Rattle.fields.specs.Cursor.{contentOf};
 ghost use Rattle.csv.specs.Lines.{rowOf, LineIs, ListedIs};
 
@@ -75,8 +75,8 @@ fn four(n: u32, out: &mut [u8], at: usize) -> usize
 }
 
 // A name of 2 bytes: one that does not fit is 0, and so is refused like it.
-fn short(name: u32) -> u32
-    ensures { λ r. ⌜ r ≡ short-of name ⌝ }
+fn fitting(name: u32) -> u32
+    ensures { λ r. ⌜ r ≡ fitting-of name ⌝ }
 {
     if 65535 < name { 0 } else { name }
 }
@@ -86,7 +86,7 @@ fn put(row: Row, out: &mut [u8], at: usize) -> usize
     requires { ⌜ at + 16 ≤ length (now out) ⌝ }
     ensures { λ r. ⌜ Writes (now (out .entry)) at (rowBytes (rowOf row)) r (now (out .exit)) ⌝ }
 {
-    let x = four(short(row.name), out, at);
+    let x = four(fitting(row.name), out, at);
     let y = four(row.x, out, x);
     let last = four(row.y, out, y);
     four(0, out, last)

@@ -12,7 +12,7 @@ use Rattle.paper.specs.Promises.{overwritten, CsvAnswers}
 use Rattle.paper.specs.laws.Trials.{passed-append, refused-right}
 use Rattle.paper.specs.laws.Tests.{atWhole}
 use Rattle.paper.specs.laws.Parsing.{Row, listed, good, rowsBytes}
-use Rattle.paper.specs.laws.Imported.{padTests, rowTests, row-tests, text-passed, csv-bad, csv-made}
+use Rattle.paper.specs.laws.Imported.{recordTests, rowTests, row-tests, text-passed, csv-bad, csv-made}
 use Rattle.csv.specs.declared.Listed.the-variants.{Bad}
 use Rattle.csv.specs.Lines.{ListedIs}
 use Rattle.checks.specs.declared.Verdict.{Verdict}
@@ -32,7 +32,7 @@ MadeIs made n before (NotCounted r) after = (verdictOf made n (length before) �
 pub made-few : (made : List ℕ) (n room : ℕ) → verdictOf made n room ≡ Sound → (n ≤ 64) × (16 * n ≤ room)
 made-few made n room e =
     let sizes = andThen (andThen Sound (atWhole 1 (eqb n 0 || ltb 64 n))) (atWhole 22 (ltb room (16 * n))) in
-    list-few n room (after-sound sizes (padTests (take (16 * n) made)) e)
+    list-few n room (after-sound sizes (recordTests (take (16 * n) made)) e)
 
 module _ (text before made : List ℕ) (short : length text ≤ 16384) where
   -- A list whose lines are all good.

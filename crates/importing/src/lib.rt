@@ -29,14 +29,14 @@ fn checked(made: &[u8], n: u16, pads: &mut [u8]) -> Counted
     let v = verdicts::of_list(made, n, pads.len());
     match v {
         Verdict::Sound => {
-            text::word(&made[..16 * n as usize], pads, 0);
+            text::word(&made[..16 * n as usize], pads, 0); // any bytes are a word to it
             Counted::Many(n as u64)
         }
         Verdict::Refused(r) => Counted::Refused(r),
     }
 }
 
-// The same where they are made.
+// The same of the array in which they are made, handed on as a slice: of one with no length in its type a part can be taken.
 fn keep(made: &[u8; 1024], n: u16, pads: &mut [u8]) -> Counted
     ensures { λ r. ⌜ MadeIs (now (made .entry)) n (now (pads .entry)) r (now (pads .exit)) ⌝ }
 {

@@ -2,7 +2,7 @@
 use mathlib.Core.Path.{_≡_}
 use mathlib.Core.Logic.{_≢_, _⊎_}
 use mathlib.Core.Bool.{cond}
-use mathlib.Core.List.{List, [], _∷_, _++_}
+use mathlib.Core.List.{List, [], _∷_, _++_, map}
 use Prim.Native.Nat.{ℕ, zero, suc, _<_}
 use lib.Dec.{eqb}
 use lib.ListN.{length, getD}
@@ -30,6 +30,11 @@ abbrev pub Lines : List ℕ → List (List ℕ) → Type 0
 Lines text [] = ⊥
 Lines text (s ∷ []) = Unbroken s × ((text ≡ s) ⊎ (text ≡ s ++ crlf))
 Lines text (s ∷ l ∷ ls) = Unbroken s × ((t : List ℕ) × (t ≢ []) × (text ≡ s ++ crlf ++ t) × Lines t (l ∷ ls))
+
+-- A text of these lines, each with its end.
+abbrev pub ended : List (List ℕ) → List ℕ
+ended [] = []
+ended (l ∷ ls) = l ++ crlf ++ ended ls
 
 -- ---- fields: 34 is the byte of a quote, 44 of a comma
 
@@ -106,9 +111,5 @@ padsIn records = firstPads records (count records)
 abbrev pub plainLine : Pad → List ℕ
 plainLine p = decimal (p .name) ++ bytes "," ++ decimal (p .x) ++ bytes "," ++ withMinus decimal (p .y)
 
-abbrev pub plainLines : List Pad → List ℕ
-plainLines [] = []
-plainLines (p ∷ ps) = plainLine p ++ crlf ++ plainLines ps
-
 unfoldable pub plainText : List Pad → List ℕ
-plainText pads = bytes "name,x,y" ++ crlf ++ plainLines pads
+plainText pads = ended (bytes "name,x,y" ∷ map plainLine pads)

@@ -42,7 +42,7 @@ number (Total t) = pos t
 number End = negsuc 0
 number (Refused r) = refusalNumber r
 
--- Page's, Count's, Svg's and Csv's: how many layouts, bytes or pads, as itself, or the refusal's
+-- Page's, Count's, Svg's and ReadCsv's: how many layouts, bytes or pads, as itself, or the refusal's
 abbrev pub countedNumber : Counted → ℤ
 countedNumber (Many k) = pos k
 countedNumber (NotCounted r) = refusalNumber r
@@ -204,7 +204,7 @@ DrawAnswers job i q before (NotDrawn r) after = RefusedBy (drawTrials job i q (l
 abbrev pub DrawPromise : List ℕ → ℕ → ℕ → List Float → ℤ → List Float → Type 0
 DrawPromise job i q before c after = (d : Drawn) × DrawAnswers job i q before d after × (c ≡ drawnNumber d)
 
--- Svg and Csv fill the first bytes of what they are lent, by such trials: `Is s k` says that s is what fills them, and k the answer.
+-- Svg and ReadCsv fill the first bytes of what they are lent, by such trials: `Is s k` says that s is what fills them, and k the answer.
 abbrev pub FillOver : List Trial → (List ℕ → ℕ → Type 0) → List ℕ → Counted → List ℕ → Type 0
 FillOver ts Is before (Many k) after = Passed ts × ((s : List ℕ) × Is s k × (after ≡ overwritten s before))
 FillOver ts Is before (NotCounted r) after = RefusedBy ts r × (after ≡ before)
@@ -222,7 +222,7 @@ SvgAnswers job list before = FillOver (svgTrials job list (length before)) (SvgF
 abbrev pub SvgPromise : List ℕ → List ℕ → List ℕ → ℤ → List ℕ → Type 0
 SvgPromise job list before = FillReplies (svgTrials job list (length before)) (SvgFills job list) before
 
--- CSV: the records of the pads that the text reads as, and the answer is how many pads.
+-- READCSV: the records of the pads that the text reads as, and the answer is how many pads.
 abbrev pub CsvFills : List ℕ → List ℕ → ℕ → Type 0
 CsvFills text s k = ReadWith text (λ pads. (s ≡ recordsOf pads) × (k ≡ length pads))
 

@@ -273,18 +273,22 @@ svgTrials bytes list room =
 abbrev pub BadRead : Pad → Type 0
 BadRead p = (65535 < p .name) ⊎ BadPad (p .name) 0 (p .x) (p .y)
 
--- 20: the text has more than 16,384 bytes; 21: a line is bad (there are at most as many lines as bytes, and one)
+-- 20: the text has more than 16,384 bytes; 21: a line is bad (lines are numbered from 1, and there is at most one more of them than bytes)
 abbrev pub textTrials : List ℕ → List Trial
 textTrials text = ofWhole 20 (16384 < length text) ∷ ofEach 21 (length text + 2) (BadLine text) ∷ []
+
+-- A trial of each of the pads that the text reads as: there are at most 64 where it is tried.
+abbrev pub ofPads : ℕ → List ℕ → (List Pad → ℕ → Type 0) → Trial
+ofPads r text fault = ofEach r 64 (λ i. ReadWith text (λ pads. (i < length pads) × fault pads i))
 
 -- Of what the text reads as, with room for so many bytes. 1: no pads or more than 64; 22: room under 16 bytes a pad; then 4, 6 and 7 as for a job
 abbrev pub readTrials : List ℕ → ℕ → List Trial
 readTrials text room =
     ofWhole 1 (ReadWith text (λ pads. (length pads ≡ 0) ⊎ (64 < length pads))) ∷
     ofWhole 22 (ReadWith text (λ pads. room < 16 * length pads)) ∷
-    ofEach 4 64 (λ i. ReadWith text (λ pads. (i < length pads) × BadRead (padAt pads i))) ∷
-    ofEach 6 64 (λ i. ReadWith text (λ pads. (i < length pads) × Earlier (λ i j. padAt pads i .name ≡ padAt pads j .name) i)) ∷
-    ofEach 7 64 (λ i. ReadWith text (λ pads. (i < length pads) × Earlier (λ i j. padAt pads i .x ≡ padAt pads j .x) i)) ∷
+    ofPads 4 text (λ pads i. BadRead (padAt pads i)) ∷
+    ofPads 6 text (λ pads. Earlier (λ i j. padAt pads i .name ≡ padAt pads j .name)) ∷
+    ofPads 7 text (λ pads. Earlier (λ i j. padAt pads i .x ≡ padAt pads j .x)) ∷
     []
 
 abbrev pub csvTrials : List ℕ → ℕ → List Trial

@@ -16,7 +16,7 @@ use Rattle.paper.specs.declared.Counted.{Counted}
 use Rattle.paper.specs.declared.Counted.the-variants.{Many, Refused as NotCounted}
 use Rattle.paper.specs.Promises.{number, countedNumber, FirstPromise, NextPromise, PagePromise, MeasurePromise, CountPromise, PlacePromise, SvgPromise, CsvPromise}
 use Rattle.text.specs.Text.{bytes}
-use Rattle.paper.specs.Csv.{crlf}
+use Rattle.paper.specs.Csv.{crlf, ended}
 
 -- A record whose pad is a point.
 abbrev pub padAndPort : ℕ → ℕ → ℕ → ℕ → List ℕ
@@ -335,42 +335,44 @@ CsvAllowed s = CsvPromise (s .text) (s .before) (countedNumber (s .answer)) (s .
 abbrev pub csvSheet : List ℕ → List ℕ → Counted → List ℕ → CsvSheet
 csvSheet text before answer after = record { text = text; before = before; answer = answer; after = after }
 
--- Lines with their ends; and a list that is refused, with room for two pads.
-abbrev pub ended : List (List ℕ) → List ℕ
-ended [] = []
-ended (l ∷ ls) = l ++ crlf ++ ended ls
-
+-- A list that is refused, with room for two pads.
 abbrev pub refusedList : List ℕ → ℕ → ℕ → CsvSheet
 refusedList text r i = csvSheet text (replicate 32 9) (NotCounted (refusal r i 0)) (replicate 32 9)
 
-abbrev pub first : List ℕ
-first = bytes "name,x,y"
+abbrev pub header : List ℕ
+header = bytes "name,x,y"
 
 -- In this order. Accepted: two pads, and the bytes after them kept; quotes and a height below 0, the last line without its end; the largest numbers.
--- 21: an empty text; LF alone; a line within quotes that goes on; an empty line; a leading zero; -0; a minus in x; a plus; a blank; a quote in a number; a field more;
--- the first of two bad lines. 1: a first line alone. 22 before 4. 4: a name of 0; a number of 20 digits; a name above 65,535. 6; 7.
+-- 21: an empty text; LF alone; CR alone at the end; CR twice before LF; a line within quotes that goes on; an empty line; an empty field; a leading zero; -0; a minus in x; a
+-- plus; a blank; a quote in a number; a field more; the first of two bad lines. 1: a first line alone, with its end and without. 22 before 4. 4: a name of 0; x of 1,000,001; a
+-- number of 20 digits; a name above 65,535. 6; 7.
 abbrev pub csvSheets : List CsvSheet
 csvSheets =
-    csvSheet (ended (first ∷ bytes "101,10,0" ∷ bytes "102,20,30" ∷ [])) (replicate 40 9) (Many 2) (pad 101 10 0 ++ pad 102 20 30 ++ replicate 8 9) ∷
+    csvSheet (ended (header ∷ bytes "101,10,0" ∷ bytes "102,20,30" ∷ [])) (replicate 40 9) (Many 2) (pad 101 10 0 ++ pad 102 20 30 ++ replicate 8 9) ∷
     csvSheet (ended (bytes "\"name\",x,\"y\"" ∷ []) ++ bytes "\"101\",10,\"-3\"") (replicate 16 9) (Many 1) (pad 101 10 4294967293) ∷
-    csvSheet (ended (first ∷ bytes "65535,1000000,-1000000" ∷ [])) (replicate 16 9) (Many 1) (pad 65535 1000000 4293967296) ∷
+    csvSheet (ended (header ∷ bytes "65535,1000000,-1000000" ∷ [])) (replicate 16 9) (Many 1) (pad 65535 1000000 4293967296) ∷
     refusedList [] 21 1 ∷
-    refusedList (first ++ (10 ∷ []) ++ bytes "101,10,0") 21 1 ∷
-    refusedList (ended (first ∷ bytes "\"101" ∷ bytes "\",10,0" ∷ [])) 21 2 ∷
-    refusedList (ended (first ∷ bytes "101,10,0" ∷ [] ∷ [])) 21 3 ∷
-    refusedList (ended (first ∷ bytes "101,010,0" ∷ [])) 21 2 ∷
-    refusedList (ended (first ∷ bytes "101,10,-0" ∷ [])) 21 2 ∷
-    refusedList (ended (first ∷ bytes "101,-10,0" ∷ [])) 21 2 ∷
-    refusedList (ended (first ∷ bytes "101,10,+5" ∷ [])) 21 2 ∷
-    refusedList (ended (first ∷ bytes "101, 10,0" ∷ [])) 21 2 ∷
-    refusedList (ended (first ∷ bytes "\"1\"\"1\",10,0" ∷ [])) 21 2 ∷
-    refusedList (ended (first ∷ bytes "101,10,0,5" ∷ [])) 21 2 ∷
-    refusedList (ended (first ∷ bytes "101,10,0" ∷ bytes "102,20" ∷ bytes "103" ∷ [])) 21 3 ∷
-    refusedList (ended (first ∷ [])) 1 0 ∷
-    csvSheet (ended (first ∷ bytes "0,10,0" ∷ [])) (replicate 15 9) (NotCounted (refusal 22 0 0)) (replicate 15 9) ∷
-    refusedList (ended (first ∷ bytes "101,10,0" ∷ bytes "0,20,0" ∷ [])) 4 1 ∷
-    refusedList (ended (first ∷ bytes "101,10,-99999999999999999999" ∷ [])) 4 0 ∷
-    refusedList (ended (first ∷ bytes "65536,10,0" ∷ [])) 4 0 ∷
-    refusedList (ended (first ∷ bytes "101,10,0" ∷ bytes "101,10,5" ∷ [])) 6 1 ∷
-    refusedList (ended (first ∷ bytes "101,10,0" ∷ bytes "102,10,5" ∷ [])) 7 1 ∷
+    refusedList (header ++ (10 ∷ []) ++ bytes "101,10,0") 21 1 ∷
+    refusedList (ended (header ∷ []) ++ bytes "101,10,0" ++ (13 ∷ [])) 21 2 ∷
+    refusedList (header ++ (13 ∷ []) ++ crlf ++ bytes "101,10,0") 21 1 ∷
+    refusedList (ended (header ∷ bytes "\"101" ∷ bytes "\",10,0" ∷ [])) 21 2 ∷
+    refusedList (ended (header ∷ bytes "101,10,0" ∷ [] ∷ [])) 21 3 ∷
+    refusedList (ended (header ∷ bytes "101,10,\"\"" ∷ [])) 21 2 ∷
+    refusedList (ended (header ∷ bytes "101,010,0" ∷ [])) 21 2 ∷
+    refusedList (ended (header ∷ bytes "101,10,-0" ∷ [])) 21 2 ∷
+    refusedList (ended (header ∷ bytes "101,-10,0" ∷ [])) 21 2 ∷
+    refusedList (ended (header ∷ bytes "101,10,+5" ∷ [])) 21 2 ∷
+    refusedList (ended (header ∷ bytes "101, 10,0" ∷ [])) 21 2 ∷
+    refusedList (ended (header ∷ bytes "\"1\"\"1\",10,0" ∷ [])) 21 2 ∷
+    refusedList (ended (header ∷ bytes "101,10,0,5" ∷ [])) 21 2 ∷
+    refusedList (ended (header ∷ bytes "101,10,0" ∷ bytes "102,20" ∷ bytes "103" ∷ [])) 21 3 ∷
+    refusedList (ended (header ∷ [])) 1 0 ∷
+    refusedList header 1 0 ∷
+    csvSheet (ended (header ∷ bytes "0,10,0" ∷ [])) (replicate 15 9) (NotCounted (refusal 22 0 0)) (replicate 15 9) ∷
+    refusedList (ended (header ∷ bytes "101,10,0" ∷ bytes "0,20,0" ∷ [])) 4 1 ∷
+    refusedList (ended (header ∷ bytes "101,1000001,0" ∷ [])) 4 0 ∷
+    refusedList (ended (header ∷ bytes "101,10,-99999999999999999999" ∷ [])) 4 0 ∷
+    refusedList (ended (header ∷ bytes "65536,10,0" ∷ [])) 4 0 ∷
+    refusedList (ended (header ∷ bytes "101,10,0" ∷ bytes "101,10,5" ∷ [])) 6 1 ∷
+    refusedList (ended (header ∷ bytes "101,10,0" ∷ bytes "102,10,5" ∷ [])) 7 1 ∷
     []

@@ -396,7 +396,7 @@ pub draw-bent : (job : List ℕ) (i q : ℕ) (before after : List Float)
     × (after ≡ overwritten (coordinates (Bent d)) before)))
 draw-bent job i q before after = (by.Numbers.bent-told job i q before after, λ (d, a). (Bent d, a, refl))
 
--- They fill the first places of the list, and the places after those keep their content. So do the bytes of a text.
+-- They fill the first places of the list, and the places after those keep their content. So do the bytes of a text, and of records.
 pub drawn-places : {A : Type 0} (cs before : List A) (k : ℕ) (d : A)
     → (k < length cs → getD (overwritten cs before) k d ≡ getD cs k d) × (length cs ≤ k → getD (overwritten cs before) k d ≡ getD before k d)
 drawn-places = by.Drawn.overwritten-is
@@ -780,7 +780,7 @@ pub records-round-trip : (l before : List ℕ) → ((k : ℕ) → k < length l �
 records-round-trip l before bytes passed points fits = (Many (count l), by.Readable.records-trip l before bytes passed points fits, refl)
 
 -- What was read is a pad list for the slots calls: it passes 1, 4, 6 and 7, half-sides are 0, and SlotsFirst accepts it exactly if its other trials, those of the ports, the
--- weights and the room, are passed.
+-- weights and the room, are passed: 15 never comes.
 pub read-pads-pass : (text before : List ℕ) (k : ℕ) (after : List ℕ) → CsvPromise text before (pos k) after
     → let pads = take (16 * k) after in (count pads ≡ k) × Passed (padTrials pads) × ((i : ℕ) → i < k → halfOf pads i ≡ 0)
 read-pads-pass text before k after p = by.Readable.read-pads-pass text before k after (csv-answers text before k after .0 p)
@@ -799,7 +799,7 @@ pub fields-read : (count sample ≡ 2) × (nameOf sample 1 ≡ 513) × (halfOf s
 fields-read = by.Vectors.fields-read
 
 -- P1 to P12, and those of 02 for 12, for both records of 9, by tables, on slots and with squares, are replies that the promises allow; so are Page's nine, Count's two,
--- Place's six, Svg's seven and ReadCsv's twenty-two.
+-- Place's six, Svg's seven and ReadCsv's twenty-seven.
 pub worked : Each Allowed sheets
 worked = by.Worked.worked
 

@@ -26,7 +26,7 @@ pub enum Answer {
     Refused(Refusal),
 }
 
-// What Page, Count, Svg and Csv answer: how many layouts it wrote, how many best ones there are, how many bytes it wrote, how many pads.
+// What Page, Count, Svg and ReadCsv answer: how many layouts it wrote, how many best ones there are, how many bytes it wrote, how many pads.
 pub enum Counted {
     Many(u64),
     Refused(Refusal),

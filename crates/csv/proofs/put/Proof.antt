@@ -4,8 +4,8 @@ use Rattle.csv.specs.Laws.{row-written}
 use Rattle.csv.proofs.put.Statement.{statement}
 use Rattle.csv.proofs.put.Tie as tie
 
-short-requires : tie.Need-short-requires
-short-requires c κs = search needs
+fitting-requires : tie.Need-fitting-requires
+fitting-requires c κs = search needs
 
 four-requires : tie.Need-four-requires
 four-requires c κs = search needs
@@ -28,14 +28,14 @@ returns c =
     let y = d .before .before .before .before in
     let x = y .before .before .before .before in
     let n = x .before .before .before .before in
-    let name = rw (n .before .before .short .ensures) at (n .four .ensures) in
+    let name = rw (n .before .before .fitting .ensures) at (n .four .ensures) in
     row-written _ name (x .four2 .ensures) (y .four3 .ensures) (d .four4 .ensures)
 
 pub put-spec : {M : Type 1} → statement M
 put-spec =
     tie.close
     (tie.spec
-    short-requires
+    fitting-requires
     four-requires
     four-requires-2
     four-requires-3

@@ -107,7 +107,7 @@ module _ (c : Calls) (numbers : ℕ) where
     pub place-determined : (n m : ℤ) (l k : List ℕ) → PlaceReplies c numbers place before n l → PlaceReplies c numbers place before m k → (n ≡ m) × (l ≡ k)
     place-determined n m l k p q = let e = place-answer (p .0) (q .0) l k (p .1) (q .1) in (p .2 ∙ ap number (e .0) ∙ sym (q .2), e .1)
 
--- ---- Svg and Csv: what fills the first bytes is one
+-- ---- Svg and ReadCsv: what fills the first bytes is one
 
 module _ (ts : List Trial) (Is : List ℕ → ℕ → Type 0) (one : (s t : List ℕ) (j k : ℕ) → Is s j → Is t k → (s ≡ t) × (j ≡ k)) (before : List ℕ) where
   fill-answer : (a d : Counted) (l m : List ℕ) → FillOver ts Is before a l → FillOver ts Is before d m → (a ≡ d) × (l ≡ m)

@@ -1,4 +1,4 @@
--- THE CALL CSV: what is read of a text, by rows of numbers that are cut off above 1,000,000, is refused as 02 says, and otherwise its rows are the records.
+-- THE CALL READCSV: what is read of a text, by rows of numbers that are cut off above 1,000,000, is refused as 02 says, and otherwise its rows are the records.
 --     in-range, exact-records: rows of pads in range;  rowTests, wideTests, wide-tests: what the code tests says what the trials say
 --     csv-large, csv-bad, text-passed: 20 and 21;  csv-decided, csv-filled, csv-fills-one
 use mathlib.Core.Path.{_≡_, refl, sym, ap, subst, _∙_}
@@ -23,20 +23,20 @@ use Rattle.paper.specs.laws.Trials.{alone, append-passed, whole-refused,
 use Rattle.paper.specs.laws.Tests.{Test, atEach, atWhole, badField, sameName, sameX, withEarlier, with-earlier-iff, bad-field-iff}
 use Rattle.paper.specs.laws.Decided.{Decided, TestOf, TestsOf, each-test, whole-test, tests-decide, decided-append}
 use Rattle.paper.specs.laws.Lines.{reads-one, reads-good, bad-among}
-use Rattle.paper.specs.laws.Parsing.{cap, Row, Listed, good, bad, listed, short, rowBytes, rowsBytes}
+use Rattle.paper.specs.laws.Parsing.{cap, Row, Listed, good, bad, listed, fitting, rowBytes, rowsBytes}
 use Rattle.paper.specs.laws.Parsed.{cap-small, cap-large, capBits, rowOf}
 use Rattle.paper.specs.laws.Listing.{listed-good, listed-bad}
 use Rattle.paper.specs.laws.Written.{rowAt, rows-count, row-name, row-half, row-x, row-y, row-last, twos-bits}
 
 -- ---- a pad's row
 
-short-small : (n : ℕ) → n ≤ 65535 → short n ≡ n
-unfolding short
-short-small n h = rw (le-ltb 65535 n h)
+fitting-small : (n : ℕ) → n ≤ 65535 → fitting n ≡ n
+unfolding fitting
+fitting-small n h = rw (le-ltb 65535 n h)
 
-short-large : (n : ℕ) → 65535 < n → short n ≡ 0
-unfolding short
-short-large n h = rw (lt-ltb 65535 n h)
+fitting-large : (n : ℕ) → 65535 < n → fitting n ≡ 0
+unfolding fitting
+fitting-large n h = rw (lt-ltb 65535 n h)
 
 -- A number that is cut off is above 1,000,000 as before, and 0 as before.
 cap-cases : (n : ℕ) → ((n ≤ 1000001) × (cap n ≡ n)) ⊎ ((1000001 < n) × (cap n ≡ 1000001))
@@ -46,14 +46,14 @@ cap-cases n = go (decLt 1000001 n)
     go (yes h) = inr (h, cap-large n h)
     go (no h) = inl (omega arith, cap-small n (omega arith))
 
-name-iff : (n : ℕ) → (short (cap n) ≡ 0) ↔ ((65535 < n) ⊎ (n ≡ 0))
+name-iff : (n : ℕ) → (fitting (cap n) ≡ 0) ↔ ((65535 < n) ⊎ (n ≡ 0))
 name-iff n = go (decLt 65535 n) (cap-cases n)
   where
-    go : Dec (65535 < n) → ((n ≤ 1000001) × (cap n ≡ n)) ⊎ ((1000001 < n) × (cap n ≡ 1000001)) → (short (cap n) ≡ 0) ↔ ((65535 < n) ⊎ (n ≡ 0))
-    go (yes h) (inl (l, e)) = ((λ _. inl h), λ _. rw e (short-large n h))
-    go (yes h) (inr (l, e)) = ((λ _. inl h), λ _. rw e (short-large 1000001 (omega arith)))
+    go : Dec (65535 < n) → ((n ≤ 1000001) × (cap n ≡ n)) ⊎ ((1000001 < n) × (cap n ≡ 1000001)) → (fitting (cap n) ≡ 0) ↔ ((65535 < n) ⊎ (n ≡ 0))
+    go (yes h) (inl (l, e)) = ((λ _. inl h), λ _. rw e (fitting-large n h))
+    go (yes h) (inr (l, e)) = ((λ _. inl h), λ _. rw e (fitting-large 1000001 (omega arith)))
     go (no h) (inl (l, e)) =
-        let same = short-small n (omega arith) in
+        let same = fitting-small n (omega arith) in
         rw (e, same) (inr, ⊎-elim (λ k. absurd (h k)) (λ z. z))
     go (no h) (inr (l, e)) = absurd (omega arith)
 
@@ -73,7 +73,7 @@ height-cap (negsuc n) = go (cap-cases (suc n))
     go (inr (l, e)) = rw e (ap natAbs (twos-bits (negsuc 1000000) (omega arith)))
 
 -- Each part of 4 is as before.
-pub row-bad-iff : (p : Pad) → (BadPad (short (cap (p .name))) 0 (cap (p .x)) (twos (capBits (p .y))) ⊎ (_≢_ {A = ℕ} 0 0)) ↔ BadRead p
+pub row-bad-iff : (p : Pad) → (BadPad (fitting (cap (p .name))) 0 (cap (p .x)) (twos (capBits (p .y))) ⊎ (_≢_ {A = ℕ} 0 0)) ↔ BadRead p
 row-bad-iff p = (there, back)
   where
     x-is : ((p .x ≤ 1000001) × (cap (p .x) ≡ p .x)) ⊎ ((1000001 < p .x) × (cap (p .x) ≡ 1000001))
@@ -85,7 +85,7 @@ row-bad-iff p = (there, back)
     size : natAbs (twos (capBits (p .y))) ≡ cap (natAbs (p .y))
     size = height-cap (p .y)
 
-    there : BadPad (short (cap (p .name))) 0 (cap (p .x)) (twos (capBits (p .y))) ⊎ (_≢_ {A = ℕ} 0 0) → BadRead p
+    there : BadPad (fitting (cap (p .name))) 0 (cap (p .x)) (twos (capBits (p .y))) ⊎ (_≢_ {A = ℕ} 0 0) → BadRead p
     there (inr n) = absurd (n refl)
     there (inl (inl e)) = ⊎-elim inl (λ z. inr (inl z)) (name-iff (p .name) .0 e)
     there (inl (inr (inl h))) = absurd (omega arith)
@@ -93,7 +93,7 @@ row-bad-iff p = (there, back)
     there (inl (inr (inr (inr (inl h))))) = inr (inr (inr (inr (inl (⊎-elim (λ c. omega arith) (λ c. omega arith) x-is)))))
     there (inl (inr (inr (inr (inr h))))) = inr (inr (inr (inr (inr (⊎-elim (λ c. omega (arith, size)) (λ c. omega (arith, size)) y-is)))))
 
-    back : BadRead p → BadPad (short (cap (p .name))) 0 (cap (p .x)) (twos (capBits (p .y))) ⊎ (_≢_ {A = ℕ} 0 0)
+    back : BadRead p → BadPad (fitting (cap (p .name))) 0 (cap (p .x)) (twos (capBits (p .y))) ⊎ (_≢_ {A = ℕ} 0 0)
     back (inl h) = inl (inl (name-iff (p .name) .1 (inl h)))
     back (inr (inl e)) = inl (inl (name-iff (p .name) .1 (inr e)))
     back (inr (inr (inl h))) = absurd (omega arith)
@@ -106,12 +106,12 @@ height-in : (y : ℤ) → natAbs y ≤ 1000000 → capBits y ≡ bits y
 height-in (pos n) h = cap-small n (omega arith)
 height-in (negsuc n) h = rw (cap-small (suc n) (omega arith)) (omega arith)
 
-in-range : (p : Pad) → ¬ BadRead p → (short (cap (p .name)) ≡ p .name) × (cap (p .x) ≡ p .x) × (capBits (p .y) ≡ bits (p .y))
+in-range : (p : Pad) → ¬ BadRead p → (fitting (cap (p .name)) ≡ p .name) × (cap (p .x) ≡ p .x) × (capBits (p .y) ≡ bits (p .y))
 in-range p ok =
     let name : ¬ (65535 < p .name) = λ h. ok (inl h) in
     let x : ¬ (1000000 < p .x) = λ h. ok (inr (inr (inr (inr (inl h))))) in
     let y : ¬ (1000000 < natAbs (p .y)) = λ h. ok (inr (inr (inr (inr (inr h))))) in
-    (rw (cap-small (p .name) (omega arith)) (short-small (p .name) (omega arith)), cap-small (p .x) (omega arith), height-in (p .y) (omega arith))
+    (rw (cap-small (p .name) (omega arith)) (fitting-small (p .name) (omega arith)), cap-small (p .x) (omega arith), height-in (p .y) (omega arith))
 
 abbrev pub InRange : List Pad → Type 0
 InRange pads = (i : ℕ) → i < length pads → ¬ BadRead (padAt pads i)
@@ -149,7 +149,7 @@ module _ (pads : List Pad) (i : ℕ) (h : i < length pads) where
       (rw (row-name rows i inside, row-half rows i inside, row-x rows i inside, row-y rows i inside, row-last rows i inside, is) (row-bad-iff (padAt pads i)))
 
   pub exact-name : ¬ BadRead (padAt pads i) → nameOf (madeOf pads) i ≡ padAt pads i .name
-  exact-name ok = row-name (map rowOf pads) i inside ∙ ap (λ (r : Row). short (r .name)) (row-at pads i h) ∙ in-range (padAt pads i) ok .0
+  exact-name ok = row-name (map rowOf pads) i inside ∙ ap (λ (r : Row). fitting (r .name)) (row-at pads i h) ∙ in-range (padAt pads i) ok .0
 
   pub exact-x : ¬ BadRead (padAt pads i) → xOf (madeOf pads) i ≡ padAt pads i .x
   exact-x ok = row-x (map rowOf pads) i inside ∙ ap (λ (r : Row). r .x) (row-at pads i h) ∙ in-range (padAt pads i) ok .1
@@ -157,14 +157,14 @@ module _ (pads : List Pad) (i : ℕ) (h : i < length pads) where
 -- ---- the tests
 
 -- As the code tries them, of n rows whose bytes are made: 1 and 22, and then of the bytes 4, 6 and 7.
-abbrev pub padTests : List ℕ → List Test
-padTests made =
+abbrev pub recordTests : List ℕ → List Test
+recordTests made =
     atEach 4 (count made) (badField Slots made) ∷
     atEach 6 (count made) (withEarlier (sameName made)) ∷
     atEach 7 (count made) (withEarlier (sameX made)) ∷ []
 
 abbrev pub rowTests : ℕ → List ℕ → ℕ → List Test
-rowTests n made room = atWhole 1 (eqb n 0 || ltb 64 n) ∷ atWhole 22 (ltb room (16 * n)) ∷ padTests made
+rowTests n made room = atWhole 1 (eqb n 0 || ltb 64 n) ∷ atWhole 22 (ltb room (16 * n)) ∷ recordTests made
 
 -- The same at 64 pads, of which there are n.
 abbrev pub wide : ℕ → (ℕ → Bool) → ℕ → Bool

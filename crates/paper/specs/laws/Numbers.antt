@@ -354,7 +354,7 @@ numbered job bad work = record {
     next : (work : Work) (list : List ℕ) (r : Refusal) → RefusedBy (nextTrials job bad work list) r → SmallRefusal r
     next work list r = refused-small (nextTrials job bad work list) r (next-small job bad work list)
 
--- ---- Svg and Csv
+-- ---- Svg and ReadCsv
 
 -- By trials that refuse so a number of 0 or more is the answer's, and every other one is a refusal.
 module _ (ts : List Trial) (small : (r : Refusal) → RefusedBy ts r → SmallRefusal r) (Is : List ℕ → ℕ → Type 0) (before after : List ℕ) where

@@ -127,11 +127,11 @@ listed text = headed (headFront text) (listFrom (length text))
 
 -- ---- rows as bytes: a name that does not fit its 2 bytes is 0, which is refused like it
 
-unfoldable pub short : ℕ → ℕ
-short name = cond (ltb 65535 name) 0 name
+unfoldable pub fitting : ℕ → ℕ
+fitting name = cond (ltb 65535 name) 0 name
 
 abbrev pub rowBytes : Row → List ℕ
-rowBytes r = squareAndPort (short (r .name)) 0 (r .x) (r .y) 0
+rowBytes r = squareAndPort (fitting (r .name)) 0 (r .x) (r .y) 0
 
 abbrev pub rowsBytes : List Row → List ℕ
 rowsBytes [] = []

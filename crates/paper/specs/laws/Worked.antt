@@ -30,7 +30,7 @@ use Rattle.paper.specs.laws.Drawn.{byBend}
 use Rattle.paper.specs.laws.Texts.{pointText, lineText, sheetText}
 use Rattle.paper.specs.laws.Exported.{svgTests, svg-tests, svg-measured, svg-made}
 use Rattle.paper.specs.Sheets.{SvgSheet, SvgAllowed, svgSheets, CsvSheet, CsvAllowed, csvSheets}
-use Rattle.paper.specs.laws.Parsing.{Listed, good, bad as badAt, listed, listFrom, lineFront, fieldFront, wordFront, digitsFront, naturalFront, signedFront, cap, short, rowsBytes}
+use Rattle.paper.specs.laws.Parsing.{Listed, good, bad as badAt, listed, listFrom, lineFront, fieldFront, wordFront, digitsFront, naturalFront, signedFront, cap, fitting, rowsBytes}
 use Rattle.paper.specs.laws.Imported.{wideTests, row-tests, text-passed, csv-made, csv-bad}
 use Rattle.paper.specs.Sheets.{J3plus, CountSheet, PlaceSheet, CountAllowed, PlaceAllowed, countSheets, placeSheets}
 use Rattle.paper.specs.laws.Tests.{Test, somewhere, outside, between, leadersTouch, reaches, notRight, underTop, overBottom, meets, meetsLarge, jobTests, layoutTests, soundTests, measureTests}
@@ -424,7 +424,7 @@ all-hold : T (allHold holds sheets) × T (allHold pageSheetHolds pages) × T (ho
 unfolding heads words any someWord leastTest misled untouchingTest differRight decidedAt beforeTest cheaper bestTest firstTest laterTest nextTest lastTest
     somewhere outside between leadersTouch reaches notRight underTop overBottom meets meetsLarge jobTests layoutTests soundTests firstTests measureTests nextTests
     twos nameOf halfOf xOf yOf lastOf portOf lengthOf bendsOf sum weighted digits decimal quarters numeral pointText lineText byBend
-    listed listFrom lineFront fieldFront wordFront digitsFront naturalFront signedFront cap short
+    listed listFrom lineFront fieldFront wordFront digitsFront naturalFront signedFront cap fitting
 all-hold = (tt, tt, tt, tt, tt, tt, tt, tt, tt)
 
 pub copper-first : FirstAnswers (records (copper 4)) (byWeights 1 0) Unlent (9 ∷ 9 ∷ []) (Total 84) (1 ∷ 0 ∷ [])

@@ -17,8 +17,8 @@ use Rattle.text.specs.Text.{bytes, decimal, withMinus}
 use Rattle.text.specs.Digits.{decimal-few}
 use Rattle.paper.specs.Job.{u16At, u32At, twos, count, nameOf, halfOf, xOf, yOf, lastOf, bytes4, bits}
 use Rattle.paper.specs.Csv.{Pad, crlf, Unbroken, Lines, Field, Header, Lists, ListEach, ReadsAs}
-use Rattle.paper.specs.Csv.{padAt, recordOf, recordsOf, firstPads, padsIn, plainLine, plainLines, plainText}
-use Rattle.paper.specs.laws.Parsing.{Front, Row, short, rowBytes, rowsBytes}
+use Rattle.paper.specs.Csv.{padAt, recordOf, recordsOf, firstPads, padsIn, plainLine, plainText, ended}
+use Rattle.paper.specs.laws.Parsing.{Front, Row, fitting, rowBytes, rowsBytes}
 use Rattle.paper.specs.laws.Parsed.{Exact, natural-exact, signed-exact, name-exact, x-exact, y-exact, clear-plain, pad-unbroken, head-unbroken}
 
 -- ---- rows as bytes
@@ -47,22 +47,22 @@ row-pair rows i k h g = rw (add-assoc (16 * i) k 1, row-byte rows i k h (omega a
 row-word : (rows : List Row) (i k : ℕ) → i < length rows → k < 13 → u32At (rowsBytes rows) (16 * i + k) ≡ u32At (rowBytes (rowAt rows i)) k
 row-word rows i k h g = rw (add-assoc (16 * i) k 2) (cc (row-pair rows i k h (omega arith), row-pair rows i (k + 2) h (omega arith)))
 
-short-small : (n : ℕ) → short n < 65536
-unfolding short
-short-small n = go (decLt 65535 n)
+fitting-small : (n : ℕ) → fitting n < 65536
+unfolding fitting
+fitting-small n = go (decLt 65535 n)
   where
-    go : Dec (65535 < n) → short n < 65536
+    go : Dec (65535 < n) → fitting n < 65536
     go (yes h) = rw (lt-ltb 65535 n h) (omega arith)
     go (no h) = rw (le-ltb 65535 n (omega arith)) (omega arith)
 
 module _ (rows : List Row) (i : ℕ) (h : i < length rows) where
-  pub row-name : nameOf (rowsBytes rows) i ≡ short (rowAt rows i .name)
+  pub row-name : nameOf (rowsBytes rows) i ≡ fitting (rowAt rows i .name)
   unfolding nameOf
-  row-name = rw (← add-zero (16 * i), row-pair rows i 0 h (omega arith)) (omega (arith, short-small (rowAt rows i .name)))
+  row-name = rw (← add-zero (16 * i), row-pair rows i 0 h (omega arith)) (omega (arith, fitting-small (rowAt rows i .name)))
 
   pub row-half : halfOf (rowsBytes rows) i ≡ 0
   unfolding halfOf
-  row-half = rw (row-pair rows i 2 h (omega arith)) (omega (arith, short-small (rowAt rows i .name)))
+  row-half = rw (row-pair rows i 2 h (omega arith)) (omega (arith, fitting-small (rowAt rows i .name)))
 
   pub row-x : xOf (rowsBytes rows) i ≡ rowAt rows i .x
   unfolding xOf
@@ -210,7 +210,7 @@ abbrev endless : List ℕ → List Pad → List ℕ
 endless s [] = s
 endless s (p ∷ ps) = s ++ crlf ++ endless (plainLine p) ps
 
-endless-end : (s : List ℕ) (pads : List Pad) → endless s pads ++ crlf ≡ s ++ crlf ++ plainLines pads
+endless-end : (s : List ℕ) (pads : List Pad) → endless s pads ++ crlf ≡ s ++ crlf ++ ended (map plainLine pads)
 endless-end s [] = sym (append-nil (s ++ crlf))
 endless-end s (p ∷ ps) = append-assoc (s ++ crlf) (endless (plainLine p) ps) crlf ∙ ap (λ (t : List ℕ). s ++ crlf ++ t) (endless-end (plainLine p) ps)
 
@@ -248,7 +248,7 @@ height-few : (y : ℤ) → natAbs y < 10000000 → length (withMinus decimal y) 
 height-few (pos n) h = omega (arith, decimal-few 6 n (omega arith))
 height-few (negsuc n) h = omega (arith, decimal-few 6 (suc n) (omega arith))
 
-lines-short : (pads : List Pad) → ((i : ℕ) → i < length pads → Small (padAt pads i)) → length (plainLines pads) ≤ 24 * length pads
+lines-short : (pads : List Pad) → ((i : ℕ) → i < length pads → Small (padAt pads i)) → length (ended (map plainLine pads)) ≤ 24 * length pads
 lines-short [] h = omega arith
 lines-short (p ∷ ps) h =
     let (a, b, c) = h 0 (omega arith) in

@@ -9,7 +9,7 @@ use lib.Dec.{eqb, ltb}
 use lib.ListN.{length, take}
 use lib.Seq.{length-take-le}
 use Rattle.paper.specs.laws.Tests.{atWhole}
-use Rattle.paper.specs.laws.Imported.{padTests}
+use Rattle.paper.specs.laws.Imported.{recordTests}
 use Rattle.checks.specs.declared.Verdict.{Verdict}
 use Rattle.checks.specs.declared.Verdict.the-variants.{Sound}
 use Rattle.checks.specs.Verdicts.{andThen, verdictAfter, after-refused}
@@ -60,14 +60,14 @@ returns c =
     let told = c .before .before in
     let v = told .before .before in
     let s = v .before .before .before in
-    let tests = padTests (take (16 * s .args .n) (now (s .args .made))) in
+    let tests = recordTests (take (16 * s .args .n) (now (s .args .made))) in
     c .of-pads .ensures ∙ ap (λ (w : Verdict). verdictAfter w tests) (sym (told .enum-told .given .1) ∙ after v)
 
 returns-2 : tie.Need-returns-2
 returns-2 c =
     let v = c .before .before .before in
     let s = v .before .before .before in
-    let tests = padTests (take (16 * s .args .n) (now (s .args .made))) in
+    let tests = recordTests (take (16 * s .args .n) (now (s .args .made))) in
     sym (ap (λ (w : Verdict). verdictAfter w tests) (sym (after v) ∙ c .before .v22 .given .1) ∙ after-refused _ tests)
 
 pub of-list-spec : {M : Type 1} → statement M
