@@ -294,6 +294,16 @@ readTrials text room =
 abbrev pub csvTrials : List ℕ → ℕ → List Trial
 csvTrials text room = textTrials text ++ readTrials text room
 
+-- The same of given pads.
+abbrev pub listTrials : List Pad → ℕ → List Trial
+listTrials pads room =
+    ofWhole 1 ((length pads ≡ 0) ⊎ (64 < length pads)) ∷
+    ofWhole 22 (room < 16 * length pads) ∷
+    ofEach 4 (length pads) (λ i. BadRead (padAt pads i)) ∷
+    ofEach 6 (length pads) (Earlier (λ i j. padAt pads i .name ≡ padAt pads j .name)) ∷
+    ofEach 7 (length pads) (Earlier (λ i j. padAt pads i .x ≡ padAt pads j .x)) ∷
+    []
+
 -- Pads that are accepted with room for so many bytes: from 1 to 64, in range, names and x different.
 pub record ValidPads (pads : List Pad) (room : ℕ) : Type 0 where
   pub some : 1 ≤ length pads

@@ -30,11 +30,11 @@ use Rattle.paper.specs.Layouts.{Board, boardOf, held, leader, LeadersTou
 use Rattle.paper.specs.Layouts.{Same, Differ, Proper}
 use Rattle.paper.specs.Problem.{Best, Before, FirstBest, NextBest, LastBest, PlaceBest, CountBest, labeling, labelingOf}
 use Rattle.paper.specs.Refusals.{Smallest, FirstFault, Passed, refusal, ofPairs, soundTrials, firstTrials, measureTrials, nextTrials, drawTrials, callsOf, Alone, FirstPair, Named}
-use Rattle.paper.specs.Refusals.{bufferNeeded, TooMany, PastCount, countTrials, placeTrials, TooLong, svgTrials, BadRead, csvTrials, ValidPads, padTrials, stripTrials}
+use Rattle.paper.specs.Refusals.{bufferNeeded, TooMany, PastCount, countTrials, placeTrials, TooLong, svgTrials, csvTrials, listTrials, ValidPads, padTrials, stripTrials}
 use Rattle.paper.specs.Canvas.{FourTimesIs, DrawnStraight, DrawnBent, coordinates}
 use Rattle.text.specs.Text.{bytes, Begins}
 use Rattle.paper.specs.Svg.{numeral, Written, LineWritten, SheetWritten, cut, readNumber, readLine, lineAt}
-use Rattle.paper.specs.Csv.{Pad, crlf, Lines, Fields, ReadsAs, ReadWith, BadLine, padAt, recordsOf, padsIn, plainText}
+use Rattle.paper.specs.Csv.{Pad, crlf, Lines, Fields, ReadsAs, ReadWith, BadLine, recordsOf, padsIn, plainText}
 use Rattle.paper.specs.Promises.{refusalNumber, refusalIn, Kept, overwritten, FirstPromise, NextPromise, PagePromise, MeasurePromise, DrawPromise, SvgPromise, WorkPromise}
 use Rattle.paper.specs.Promises.{SvgFills, CsvFills, CsvPromise, CountPromise, PlacePromise, BufferPromise, FirstReplies, NextReplies, PageReplies, MeasureReplies, CountReplies, PlaceReplies, OneReply, RefusesBy}
 use Rattle.paper.specs.Runs.{NextRun, Run, AskedTo, Demand3, PageByNext, PagedOn}
@@ -746,8 +746,8 @@ csv-passed = by.Readable.csv-passed
 pub csv-bound : (text before : List ℕ) (k : ℕ) (after : List ℕ) → CsvPromise text before (pos k) after → (1 ≤ k) × (k ≤ 64)
 csv-bound text before k after p = by.Bounds.csv-bound text before k after (csv-answers text before k after .0 p)
 
--- It refuses by 20 exactly if the text is too long, and by 21 with line i exactly if it is not and i is its first bad line. Of a text that reads as pads it refuses by 4
--- with pad i exactly if the text is not too long, there are 1 to 64 pads and room for them, and i is the first with a number out of range, however long that is.
+-- It refuses by 20 exactly if the text is too long, and by 21 with line i exactly if it is not and i is its first bad line. A text that reads as pads and is not too long it
+-- refuses as the pads are: by 1, 22, 4, 6 or 7. So a number out of range is 4, however long it is.
 pub csv-too-long : (text before : List ℕ) (m : ℤ) (after : List ℕ) → CsvPromise text before m after → (m ≡ refusalNumber (refusal 20 0 0)) ↔ (16384 < length text)
 csv-too-long text before m after p =
     Iff·trans (by.Numbers.refuses-iff (csvTrials text (length before)) (after ≡ before) m (refusal 20 0 0) (omega arith) (csv-refuses text before m after p))
@@ -759,12 +759,10 @@ csv-bad-line text before m after p i h =
     Iff·trans (by.Numbers.refuses-iff (csvTrials text (length before)) (after ≡ before) m (refusal 21 i 0) (omega arith) (csv-refuses text before m after p))
     (by.Readable.csv-21 text (length before) i)
 
-pub csv-out-of-range : (text before : List ℕ) (m : ℤ) (after : List ℕ) → CsvPromise text before m after → (pads : List Pad) → ReadsAs text pads → (i : ℕ) → i < 65536
-    → (m ≡ refusalNumber (refusal 4 i 0))
-    ↔ ((length text ≤ 16384) × (1 ≤ length pads) × (length pads ≤ 64) × (16 * length pads ≤ length before) × Smallest (λ i. (i < length pads) × BadRead (padAt pads i)) i)
-csv-out-of-range text before m after p pads reads i h =
-    Iff·trans (by.Numbers.refuses-iff (csvTrials text (length before)) (after ≡ before) m (refusal 4 i 0) (omega arith) (csv-refuses text before m after p))
-    (by.Readable.csv-4 text (length before) pads reads i)
+pub csv-as-pads : (text before : List ℕ) (m : ℤ) (after : List ℕ) → CsvPromise text before m after → (pads : List Pad) → ReadsAs text pads → length text ≤ 16384
+    → RefusesBy (listTrials pads (length before)) m (after ≡ before)
+csv-as-pads text before m after p pads reads short =
+    by.Readable.csv-as-pads text pads (length before) short reads m (after ≡ before) (csv-refuses text before m after p)
 
 -- A list written by the plain rule reads as its pads, whatever their numbers, with the last line's end or without. Written from valid pads it is answered with their
 -- records; and so it is written from records: 1 to 64 of them, that pass 1, 4, 6 and 7 of the slots calls, with half-sides 0.

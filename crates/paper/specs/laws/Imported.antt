@@ -14,16 +14,15 @@ use lib.ListN.{length, length-map}
 use lib.IntN.{ℤ, pos, negsuc, natAbs}
 use Rattle.numbers.specs.Tests.{both, or-iff, ltb-iff, eqb-iff}
 use Rattle.paper.specs.declared.Form.the-variants.{Slots}
-use Rattle.paper.specs.declared.Refusal.{Refusal}
-use Rattle.paper.specs.Job.{twos, count, nameOf, halfOf, xOf, yOf, lastOf, squareAndPort, bits}
-use Rattle.paper.specs.Csv.{Pad, ReadsAs, ReadWith, BadLine, padAt, recordOf, recordsOf}
-use Rattle.paper.specs.Refusals.{Trial, Smallest, Clean, Passed, RefusedBy, refusal, ofEach, ofWhole, Earlier, Outside, BadPad, BadField, BadRead, textTrials, readTrials, csvTrials}
+use Rattle.paper.specs.Job.{twos, count, nameOf, xOf, squareAndPort, bits}
+use Rattle.paper.specs.Csv.{Pad, ReadsAs, ReadWith, BadLine, padAt, recordsOf}
+use Rattle.paper.specs.Refusals.{Clean, Passed, RefusedBy, refusal, ofEach, ofWhole, Earlier, BadPad, BadRead, textTrials, readTrials, csvTrials}
 use Rattle.paper.specs.Promises.{CsvFills}
-use Rattle.paper.specs.laws.Trials.{alone, append-passed, whole-refused, refused-left}
+use Rattle.paper.specs.laws.Trials.{alone, whole-refused}
 use Rattle.paper.specs.laws.Tests.{Test, atEach, atWhole, badField, sameName, sameX, withEarlier, with-earlier-iff, bad-field-iff}
-use Rattle.paper.specs.laws.Decided.{Decided, TestOf, TestsOf, each-test, whole-test, tests-decide, decided-append}
+use Rattle.paper.specs.laws.Decided.{Decided, TestsOf, each-test, whole-test, tests-decide, decided-append}
 use Rattle.paper.specs.laws.Lines.{reads-one, reads-good, bad-among}
-use Rattle.paper.specs.laws.Parsing.{cap, Row, Listed, good, bad, listed, fitting, rowBytes, rowsBytes}
+use Rattle.paper.specs.laws.Parsing.{cap, Row, Listed, good, bad, listed, fitting, rowsBytes}
 use Rattle.paper.specs.laws.Parsed.{cap-small, cap-large, capBits, rowOf}
 use Rattle.paper.specs.laws.Listing.{listed-good, listed-bad}
 use Rattle.paper.specs.laws.Written.{rowAt, rows-count, row-name, row-half, row-x, row-y, row-last, twos-bits}
@@ -194,7 +193,7 @@ module _ (text : List ℕ) (pads : List Pad) (reads : ReadsAs text pads) where
 
   module _ (room : ℕ) where
     -- 1 is passed: at most 64; 4 is passed: all are in range.
-    few-told : Clean (ofWhole 1 (ReadWith text (λ pads. (length pads ≡ 0) ⊎ (64 < length pads)))) → length pads ≤ 64
+    pub few-told : Clean (ofWhole 1 (ReadWith text (λ pads. (length pads ≡ 0) ⊎ (64 < length pads)))) → length pads ≤ 64
     few-told c = let few : ¬ (64 < length pads) = λ h. c 0 (omega arith) (pads, reads, inr h) in omega arith
 
     range-told : length pads ≤ 64 → Clean (ofEach 4 64 (λ i. ReadWith text (λ pads. (i < length pads) × BadRead (padAt pads i)))) → InRange pads

@@ -1,9 +1,9 @@
 -- WHAT THE CODE READS IS WHAT THE TEXT SAYS: the rows of its pads, or its first bad line.
 --     listed-good, listed-bad
 use mathlib.Core.Path.{_≡_, refl, sym, ap, subst, _∙_}
-use mathlib.Core.Logic.{_≢_, _⊎_, inl, inr}
-use mathlib.Core.List.{List, [], _∷_, _++_, map, append-nil, cons≢nil, tail-eq-of-cons-eq}
-use Prim.Native.Nat.{ℕ, zero, suc, _+_, _≤_, _<_}
+use mathlib.Core.Logic.{inl, inr}
+use mathlib.Core.List.{List, [], _∷_, _++_, map, append-nil, cons≢nil}
+use Prim.Native.Nat.{ℕ, zero, suc, _≤_, _<_}
 use native.Mathlib.Omega.{arith}
 use lib.ListN.{length, getD, length-append}
 use Rattle.paper.specs.Csv.{Pad, crlf, Unbroken, Lines, Header, Lists, ListEach, ReadsAs, GoodLine, BadLine}

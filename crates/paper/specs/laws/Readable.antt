@@ -1,38 +1,37 @@
 -- WHEN A LIST IS ACCEPTED, and what is made of it: valid pads; their records are a pad list for the slots calls; the plain rule goes round.
 --     csv-passed, readable-or-bad;  valid-list, slots-accept, slots-first-accept;  csv-answered, read-pads-pass, slots-take-them;  round-trip, records-trip
---     csv-20, csv-21, csv-4: when these are given
+--     csv-20, csv-21: when these are given;  csv-as-pads: what else
 use mathlib.Core.Path.{_≡_, refl, sym, ap, subst, _∙_}
 use mathlib.Core.Logic.{_≢_, _⊎_, inl, inr, ⊎-elim, _↔_, Dec·not-not}
-use mathlib.Core.List.{List, [], _∷_, _++_, map}
-use Prim.Native.Nat.{ℕ, zero, suc, _+_, _*_, _%_, _≤_, _<_}
+use mathlib.Core.List.{List, [], map}
+use Prim.Native.Nat.{ℕ, suc, _+_, _*_, _≤_, _<_}
 use native.Mathlib.Decide.{ℕ-discrete}
 use native.Mathlib.Omega.{arith}
-use lib.Dec.{T}
 use lib.ListN.{length, length-map, take}
 use lib.Seq.{take-at}
-use lib.IntN.{ℤ, pos, natAbs}
+use lib.IntN.{ℤ, natAbs}
 use Rattle.paper.specs.declared.Form.the-variants.{Slots}
 use Rattle.paper.specs.declared.Refusal.{Refusal}
 use Rattle.paper.specs.declared.Work.{Work}
 use Rattle.paper.specs.declared.Counted.the-variants.{Many}
-use Rattle.paper.specs.Job.{slots, count, nameOf, halfOf, xOf, yOf, lastOf, portCount, portOf}
+use Rattle.paper.specs.Job.{slots, count, nameOf, halfOf, xOf, yOf, lastOf}
 use Rattle.paper.specs.Layouts.{boardOf, Badness}
-use Rattle.paper.specs.Csv.{Pad, crlf, ReadsAs, ReadWith, BadLine, padAt, recordsOf, padsIn, plainText}
-use Rattle.paper.specs.Refusals.{Trial, Smallest, Clean, FirstFault, Passed, RefusedBy, refusal, ofEach, ofWhole, Earlier, BadSize, BadField, BadRead, SameName, SameX}
-use Rattle.paper.specs.Refusals.{sizeTrials, fieldTrials, boardTrials, roomTrials, soundTrials, firstTrials, textTrials, readTrials, csvTrials, ValidPads, padTrials, stripTrials}
+use Rattle.paper.specs.Csv.{Pad, ReadsAs, ReadWith, BadLine, padAt, recordsOf, padsIn, plainText}
+use Rattle.paper.specs.Refusals.{Smallest, Passed, RefusedBy, refusal, ofEach, ofWhole, Earlier, BadRead}
+use Rattle.paper.specs.Refusals.{roomTrials, soundTrials, firstTrials, textTrials, ofPads, readTrials, csvTrials, listTrials, ValidPads, padTrials, stripTrials}
 use Rattle.paper.specs.Points.{Points}
-use Rattle.paper.specs.Promises.{overwritten, CsvFills, CsvAnswers}
-use Rattle.paper.specs.laws.Trials.{alone, passed-append, append-passed, refused-right}
+use Rattle.paper.specs.Promises.{overwritten, refusalIn, RefusesBy, CsvAnswers}
+use Rattle.paper.specs.laws.Trials.{alone, not-both, Alike, each-alike, AllAlike, alike-passed, alike-refused, passed-append, append-passed, refused-append}
 use Rattle.paper.specs.laws.Tests.{bad-field-iff}
 use Rattle.paper.specs.laws.Decided.{sound-parts}
 use Rattle.paper.specs.laws.Accepted.{sized, sound-accepted, first-sound, first-passed}
 use Rattle.paper.specs.laws.Existence.{points-exist}
-use Rattle.paper.specs.laws.Lines.{reads-one, reads-good, bad-among}
+use Rattle.paper.specs.laws.Lines.{reads-one, bad-among}
 use Rattle.paper.specs.laws.Parsing.{Listed, good, bad as badAt, listed}
 use Rattle.paper.specs.laws.Listing.{listed-good, listed-bad}
 use Rattle.paper.specs.laws.Parsed.{rowOf}
 use Rattle.paper.specs.laws.Written.{rows-length, row-half, Bytes, pads-many, pad-at, records-back, plain-reads, plain-short}
-use Rattle.paper.specs.laws.Imported.{InRange, exact-records, madeOf, made-count, inside, field-iff, exact-name, exact-x, text-passed, read-passed, csv-large, csv-read}
+use Rattle.paper.specs.laws.Imported.{exact-records, madeOf, made-count, inside, field-iff, exact-name, exact-x, text-passed, few-told, read-passed, csv-large, csv-read}
 
 -- ---- valid pads
 
@@ -223,7 +222,7 @@ records-trip l before bytes passed points fits =
     let (v, back) = list-valid l (length before) bytes passed points fits in
     rw (back, pads-many l) at (round-trip (padsIn l) before v)
 
--- ---- when a text is refused by 20, by 21 and by 4
+-- ---- when a text is refused by 20, by 21, and otherwise
 
 module _ (text : List ℕ) (room : ℕ) where
   -- None of the trials of what is read has these numbers.
@@ -254,44 +253,50 @@ module _ (text : List ℕ) (room : ℕ) where
       back : (length text ≤ 16384) × Smallest (BadLine text) i → RefusedBy (csvTrials text room) (refusal 21 i 0)
       back (h, s) = inr ((λ k l long. omega arith), inl (refl, record { inside = bad-among text i (s .here); first = s; named = alone }))
 
-  -- A text that reads as pads is refused by 4 exactly if it is short, there are 1 to 64 of them and room, and the first out of range is that one.
-  pub csv-4 : (pads : List Pad) → ReadsAs text pads → (i : ℕ) → RefusedBy (csvTrials text room) (refusal 4 i 0)
-      ↔ ((length text ≤ 16384) × (1 ≤ length pads) × (length pads ≤ 64) × (16 * length pads ≤ room) × Smallest (λ i. (i < length pads) × BadRead (padAt pads i)) i)
-  csv-4 pads reads i = (there, back)
-    where
-      there : RefusedBy (csvTrials text room) (refusal 4 i 0)
-          → (length text ≤ 16384) × (1 ≤ length pads) × (length pads ≤ 64) × (16 * length pads ≤ room) × Smallest (λ i. (i < length pads) × BadRead (padAt pads i)) i
-      there (inl (e, _)) = absurd (omega arith)
-      there (inr (_, inl (e, _))) = absurd (omega arith)
-      there (inr (_, inr (_, inl (e, _)))) = absurd (omega arith)
-      there (inr (_, inr (_, inr (_, inl (e, _))))) = absurd (omega arith)
-      there (inr (c20, inr (_, inr (c1, inr (c22, inl (_, f)))))) =
-          let short : ¬ (16384 < length text) = c20 0 (omega arith) in
-          let some : length pads ≢ 0 = λ e. c1 0 (omega arith) (pads, reads, inl e) in
-          let few : ¬ (64 < length pads) = λ h. c1 0 (omega arith) (pads, reads, inr h) in
-          let fits : ¬ (room < 16 * length pads) = λ h. c22 0 (omega arith) (pads, reads, h) in
-          let here = only text pads reads room (λ pads. (i < length pads) × BadRead (padAt pads i)) (f .first .here) in
-          (omega arith, omega arith, omega arith, omega arith, record { here = here; none-below = λ k l x. f .first .none-below k l (pads, reads, x) })
-      there (inr (_, inr (_, inr (_, inr (_, inr (_, inl (e, _))))))) = absurd (omega arith)
-      there (inr (_, inr (_, inr (_, inr (_, inr (_, inr (_, inl (e, _)))))))) = absurd (omega arith)
-      there (inr (_, inr (_, inr (_, inr (_, inr (_, inr (_, inr (_, b)))))))) = absurd b
+-- A text that reads as pads, and is not too long: the trials are those of the pads.
+module _ (text : List ℕ) (pads : List Pad) (room : ℕ) (short : length text ≤ 16384) (reads : ReadsAs text pads) where
+  whole-alike : (s : ℕ) (P : List Pad → Type 0) → Alike (ofWhole s (ReadWith text P)) (ofWhole s (P pads))
+  whole-alike s P =
+      each-alike s 1 1 (λ i. ReadWith text P) (λ i. P pads) (λ i. ((λ (l, x). (l, only text pads reads room P x)), (λ (l, x). (l, (pads, reads, x)))))
 
-      back : (length text ≤ 16384) × (1 ≤ length pads) × (length pads ≤ 64) × (16 * length pads ≤ room) × Smallest (λ i. (i < length pads) × BadRead (padAt pads i)) i
-          → RefusedBy (csvTrials text room) (refusal 4 i 0)
-      back (short, some, few, fits, s) = refused-right (textTrials text) (readTrials text room) (refusal 4 i 0) (text-passed text pads short reads) (inr (
-        (λ k l r. ⊎-elim (λ e. omega arith) (λ e. omega arith) (only text pads reads room (λ pads. (length pads ≡ 0) ⊎ (64 < length pads)) r)),
-        inr (
-          (λ k l r. omega (arith, only text pads reads room (λ pads. room < 16 * length pads) r)),
-          inl (
-            refl,
-            record {
-              inside = omega (arith, s .here .0);
-              first = record {
-                here = (pads, reads, s .here);
-                none-below = λ k l r. s .none-below k l (only text pads reads room (λ pads. (k < length pads) × BadRead (padAt pads k)) r);
-              };
-              named = alone;
-            },
+  pads-alike : length pads ≤ 64 → (s : ℕ) (P : List Pad → ℕ → Type 0) → Alike (ofPads s text P) (ofEach s (length pads) (P pads))
+  pads-alike few s P = each-alike s 64 (length pads) (λ i. ReadWith text (λ pads. (i < length pads) × P pads i)) (P pads) (λ i. (
+    (λ (l, x). only text pads reads room (λ pads. (i < length pads) × P pads i) x),
+    (λ (l, x). (omega arith, (pads, reads, (l, x)))),
+  ))
+
+  all-alike : AllAlike (readTrials text room) (listTrials pads room)
+  all-alike = (
+    whole-alike 1 (λ pads. (length pads ≡ 0) ⊎ (64 < length pads)),
+    λ some.
+        let few = few-told text pads reads room some in (
+          whole-alike 22 (λ pads. room < 16 * length pads),
+          λ _. (
+            pads-alike few 4 (λ pads i. BadRead (padAt pads i)),
+            λ _. (
+              pads-alike few 6 (λ pads. Earlier (λ i j. padAt pads i .name ≡ padAt pads j .name)),
+              λ _. (pads-alike few 7 (λ pads. Earlier (λ i j. padAt pads i .x ≡ padAt pads j .x)), λ _. tt),
+            ),
           ),
         ),
-      ))
+  )
+
+  texts-passed : Passed (textTrials text)
+  texts-passed = text-passed text pads short reads
+
+  -- THEOREM. It is refused as the pads are, and so it is with C's number.
+  refused-as-pads : (r : Refusal) → RefusedBy (csvTrials text room) r → RefusedBy (listTrials pads room) r
+  refused-as-pads r a =
+      ⊎-elim (λ b. absurd (not-both (textTrials text) r texts-passed b)) (λ (_, b). alike-refused (readTrials text room) (listTrials pads room) r all-alike .0 b)
+      (refused-append (textTrials text) (readTrials text room) r a)
+
+  pub csv-as-pads : (m : ℤ) (Unchanged : Type 0) → RefusesBy (csvTrials text room) m Unchanged → RefusesBy (listTrials pads room) m Unchanged
+  csv-as-pads m Unchanged r =
+      let same = alike-passed (readTrials text room) (listTrials pads room) all-alike in
+      record {
+        exactly = (
+          (λ l p. r .exactly .0 l (passed-append (textTrials text) (readTrials text room) texts-passed (same .1 p))),
+          (λ n. r .exactly .1 (λ p. n (same .0 (append-passed (textTrials text) (readTrials text room) p .1)))),
+        );
+        named = λ l. let (given, kept) = r .named l in (refused-as-pads (refusalIn m) given, kept);
+      }

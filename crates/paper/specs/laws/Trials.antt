@@ -1,5 +1,5 @@
 -- Trials in general: an input is passed or refused, in one way; trials put one after the other.
---     not-both, refused-one: an input has one verdict;  passed-append, append-passed, refused-left, refused-right, refused-append: one list of trials after another
+--     not-both, refused-one: an input has one verdict;  alike-refused: trials that say the same;  passed-append, append-passed, refused-left, refused-right, refused-append: one list of trials after another
 --     whole-refused: a fault of the input as a whole;  before-other, after-other, after-whole, not-whole, by-whole: by which of them it is refused
 use mathlib.Core.Path.{_≡_, refl, sym, _∙_}
 use mathlib.Core.Logic.{_≢_, _⊎_, inl, inr, ⊎-elim, _↔_}
@@ -8,7 +8,7 @@ use Prim.Native.Nat.{ℕ, _<_}
 use native.Mathlib.Decide.{decLt}
 use native.Mathlib.Omega.{arith}
 use Rattle.paper.specs.declared.Refusal.{Refusal}
-use Rattle.paper.specs.Refusals.{Trial, Smallest, Passed, RefusedBy, refusal, ofWhole}
+use Rattle.paper.specs.Refusals.{Trial, Smallest, Clean, FirstFault, Passed, RefusedBy, refusal, ofEach, ofWhole}
 
 -- ---- one verdict
 
@@ -44,6 +44,70 @@ alone = record { here = refl; none-below = λ k l. absurd (omega arith) }
 
 pub whole-refused : (r : ℕ) (P : Type 0) (ts : List Trial) → P → RefusedBy (ofWhole r P ∷ ts) (refusal r 0 0)
 whole-refused r P ts x = inl (refl, record { inside = omega arith; first = record { here = x; none-below = λ k l. absurd (omega arith) }; named = alone })
+
+-- ---- trials alike
+
+-- Two trials have one number, and are faulty at the same records, with the same ones named.
+pub record Alike (t u : Trial) : Type 0 where
+  pub reason-same : t .reason ≡ u .reason
+  pub fault-iff : (i : ℕ) → ((i < t .among) × t .fault i) ↔ ((i < u .among) × u .fault i)
+  pub beside-iff : (i j : ℕ) → t .beside i j ↔ u .beside i j
+
+-- Of each of so many records.
+pub each-alike : (r m n : ℕ) (P Q : ℕ → Type 0) → ((i : ℕ) → ((i < m) × P i) ↔ ((i < n) × Q i)) → Alike (ofEach r m P) (ofEach r n Q)
+each-alike r m n P Q says = record { reason-same = refl; fault-iff = says; beside-iff = λ i j. ((λ x. x), λ x. x) }
+
+alike-back : {t u : Trial} → Alike t u → Alike u t
+alike-back a = record {
+  reason-same = sym (a .reason-same);
+  fault-iff = λ i. (a .fault-iff i .1, a .fault-iff i .0);
+  beside-iff = λ i j. (a .beside-iff i j .1, a .beside-iff i j .0);
+}
+
+alike-clean : {t u : Trial} → Alike t u → Clean t → Clean u
+alike-clean a c i l x = let (k, y) = a .fault-iff i .1 (l, x) in c i k y
+
+alike-first : {t u : Trial} (i j : ℕ) → Alike t u → FirstFault t i j → FirstFault u i j
+alike-first {t} {u} i j a f =
+    let (l, here) = a .fault-iff i .0 (f .inside, f .first .here) in
+    record {
+      inside = l;
+      first = record { here = here; none-below = λ k m x. f .first .none-below k m (a .fault-iff k .1 (omega arith, x) .1) };
+      named = record { here = a .beside-iff i j .0 (f .named .here); none-below = λ k m x. f .named .none-below k m (a .beside-iff i k .1 x) };
+    }
+
+-- Lists of such; a later one may go by the earlier being clean.
+abbrev pub AllAlike : List Trial → List Trial → Type 0
+AllAlike [] [] = Unit {0}
+AllAlike [] (u ∷ us) = ⊥
+AllAlike (t ∷ ts) [] = ⊥
+AllAlike (t ∷ ts) (u ∷ us) = Alike t u × (Clean t → AllAlike ts us)
+
+all-back : (ts us : List Trial) → AllAlike ts us → AllAlike us ts
+all-back [] [] a = tt
+all-back [] (u ∷ us) a = a
+all-back (t ∷ ts) [] a = a
+all-back (t ∷ ts) (u ∷ us) (a, k) = (alike-back a, λ c. all-back ts us (k (alike-clean (alike-back a) c)))
+
+alike-there : (ts us : List Trial) (r : Refusal) → AllAlike ts us → RefusedBy ts r → RefusedBy us r
+alike-there [] [] r a b = b
+alike-there [] (u ∷ us) r a b = absurd a
+alike-there (t ∷ ts) [] r a b = absurd a
+alike-there (t ∷ ts) (u ∷ us) r (a, k) (inl (e, f)) = inl (e ∙ a .reason-same, alike-first (r .at) (r .earlier) a f)
+alike-there (t ∷ ts) (u ∷ us) r (a, k) (inr (c, b)) = inr (alike-clean a c, alike-there ts us r (k c) b)
+
+passed-there : (ts us : List Trial) → AllAlike ts us → Passed ts → Passed us
+passed-there [] [] a p = p
+passed-there [] (u ∷ us) a p = absurd a
+passed-there (t ∷ ts) [] a p = absurd a
+passed-there (t ∷ ts) (u ∷ us) (a, k) (c, p) = (alike-clean a c, passed-there ts us (k c) p)
+
+-- They are passed alike, and refuse alike.
+pub alike-passed : (ts us : List Trial) → AllAlike ts us → Passed ts ↔ Passed us
+alike-passed ts us a = (passed-there ts us a, passed-there us ts (all-back ts us a))
+
+pub alike-refused : (ts us : List Trial) (r : Refusal) → AllAlike ts us → RefusedBy ts r ↔ RefusedBy us r
+alike-refused ts us r a = (alike-there ts us r a, alike-there us ts r (all-back ts us a))
 
 -- ---- one list of trials after another
 
