@@ -165,7 +165,8 @@ static const char *text_fault(struct part line) {
     if (begins_with(line, "\xef\xbb\xbf"))
         return "a byte order mark stands before it; save the list without one";
     if (memchr(line.at, '\n', line.length) != NULL)
-        return "lines end with CR LF, and here with LF alone; sed 's/\\r*$/\\r/' puts that right";
+        return "lines end with CR LF, and here with LF alone; "
+               "awk '{ sub(/\\r*$/, \"\\r\") } 1' puts that right";
     return NULL;
 }
 

@@ -115,15 +115,20 @@ refused "${heading}1,2,3\r\n4,5,6\r\n1,x,07\r\n" "21 line 4: x 'x' is not a whol
 refused "${heading}1,2,3\r4,5,6\r\n" "$line it has more fields than name, x and y"
 
 # What other programs write for text. The advice is taken.
-alone="lines end with CR LF, and here with LF alone; sed 's/\\r*\$/\\r/' puts that right"
-put_right() { sed 's/\r*$/\r/' "$list" | import | cmp - "$right"; }
+alone="lines end with CR LF, and here with LF alone; awk '{ sub(/\\r*\$/, \"\\r\") } 1' puts that right"
+put_right() { awk '{ sub(/\r*$/, "\r") } 1' "$list" | import | cmp - "$right"; }
 printf '%s\n' '1 2 3' '4 5 6' | examples/mkjob --pads >"$right"
-refused 'name,x,y\n1,2,3\n4,5,6\n' "21 line 1: $alone"
-check "put right" put_right
-refused "${heading}1,2,3\n4,5,6\r\n" "21 line 2: $alone"
-check "put right" put_right
-refused "${heading}1,2,3\r\n4,5,6\n" "21 line 3: $alone"
-check "put right" put_right
+ends_alone() {
+    refused "$1" "21 line $2: $alone"
+    check "put right" put_right
+}
+ends_alone 'name,x,y\n1,2,3\n4,5,6\n' 1
+ends_alone 'name,x,y\n1,2,3\n4,5,6' 1
+ends_alone "${heading}1,2,3\n4,5,6\r\n" 2
+ends_alone "${heading}1,2,3\n4,5,6" 2
+ends_alone 'name,x,y\n1,2,3\r\n4,5,6\n' 1
+ends_alone 'name,x,y\n1,2,3\r\n4,5,6' 1
+ends_alone "${heading}1,2,3\r\n4,5,6\n" 3
 refused "\357\273\277${heading}1,2,3\r\n" '21 line 1: a byte order mark stands before it; save the list without one'
 refused '\357\273\277name,x,y\n1,2,3\n' '21 line 1: a byte order mark stands before it; save the list without one'
 
