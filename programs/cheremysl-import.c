@@ -162,6 +162,9 @@ static void say_out_of_range(const struct fields *f) {
 
 /* What other programs write for text, and no list may have; NULL if it is not that. */
 static const char *text_fault(struct part line) {
+    int marked = begins_with(line, "\xff\xfe") || begins_with(line, "\xfe\xff");
+    if (marked || memchr(line.at, 0, line.length) != NULL)
+        return "it is no plain text (UTF-16?); save the list as UTF-8 without a byte order mark";
     if (begins_with(line, "\xef\xbb\xbf"))
         return "a byte order mark stands before it; save the list without one";
     if (memchr(line.at, '\n', line.length) != NULL)

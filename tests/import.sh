@@ -79,7 +79,7 @@ refused 'name;x;y\r\n1;2;3\r\n' "$first 'name;x;y'"
 refused 'name,x,y \r\n1,2,3\r\n' "$first 'name,x,y '"
 refused '"name,x,y"\r\n1,2,3\r\n' "$first '\"name,x,y\"'"
 refused '1,2,3\r\n' "$first '1,2,3'"
-refused 'name\t\000\177,x,y,half-side and all the rest of what the tool knows' "$first 'name\\x09\\x00\\x7F,x,y,half-side and all the rest o'.."
+refused 'name\t\001\177,x,y,half-side and all the rest of what the tool knows' "$first 'name\\x09\\x01\\x7F,x,y,half-side and all the rest o'.."
 many 64 | tr -d '\r\n' >"$list"
 refused_list "$first 'name,x,y65535,1000000,-100000065534,9999'.."
 
@@ -129,6 +129,18 @@ ends_alone "${heading}1,2,3\n4,5,6" 2
 ends_alone 'name,x,y\n1,2,3\r\n4,5,6\n' 1
 ends_alone 'name,x,y\n1,2,3\r\n4,5,6' 1
 ends_alone "${heading}1,2,3\r\n4,5,6\n" 3
+unplain='it is no plain text (UTF-16?); save the list as UTF-8 without a byte order mark'
+for coding in UTF-16LE UTF-16BE; do
+    case $coding in *LE) mark='\377\376' ;; *BE) mark='\376\377' ;; esac
+    for end in '\r\n' '\n'; do
+        printf "name,x,y${end}1,2,3$end" | iconv -f ASCII -t $coding >"$list"
+        refused_list "21 line 1: $unplain"
+        { printf "$mark"; printf "name,x,y${end}1,2,3$end" | iconv -f ASCII -t $coding; } >"$list"
+        refused_list "21 line 1: $unplain"
+    done
+    refused "$mark" "21 line 1: $unplain"
+done
+refused "${heading}1,2,3\r\n4,5,6\000\n" "21 line 3: $unplain"
 refused "\357\273\277${heading}1,2,3\r\n" '21 line 1: a byte order mark stands before it; save the list without one'
 refused '\357\273\277name,x,y\n1,2,3\n' '21 line 1: a byte order mark stands before it; save the list without one'
 
