@@ -274,16 +274,19 @@ static void end_misused(const char *what) {
 }
 
 static struct files take_words(int argc, char **argv) {
-    struct files f = {NULL, "-"};
+    struct files f = {NULL, NULL};
     int options = 1;
     for (int k = 1; k < argc; k++) {
         int option = options && argv[k][0] == '-' && argv[k][1] != 0;
+        int output = option && strcmp(argv[k], "-o") == 0;
         if (option && strcmp(argv[k], "--") == 0)
             options = 0;
-        else if (option && strcmp(argv[k], "-o") == 0 && k + 1 < argc)
-            f.pads = argv[++k];
-        else if (option && strcmp(argv[k], "-o") == 0)
+        else if (output && k + 1 == argc)
             end_misused("-o takes a file for the pads");
+        else if (output && f.pads != NULL)
+            end_misused("there is more than one file for the pads");
+        else if (output)
+            f.pads = argv[++k];
         else if (option)
             end_with_option(program, usage, argv[k]);
         else if (f.csv != NULL)
@@ -292,6 +295,7 @@ static struct files take_words(int argc, char **argv) {
             f.csv = argv[k];
     }
     if (f.csv == NULL) f.csv = "-";
+    if (f.pads == NULL) f.pads = "-";
     return f;
 }
 

@@ -194,6 +194,13 @@ ends 2 '' "cheremysl-import: -o takes a file for the pads
 $whole_usage" import "$list" -o
 ends 2 '' "cheremysl-import: there is more than one list
 $whole_usage" import "$list" "$list"
+for other in "$room/other" "$pads" -; do
+    ends 2 '' "cheremysl-import: there is more than one file for the pads
+$whole_usage" import -o "$pads" examples/sensor.csv -o "$other"
+    ends 2 '' "cheremysl-import: there is more than one file for the pads
+$whole_usage" import -o "$other" -o "$pads" examples/sensor.csv
+    check "a file made by neither" [ ! -e "$pads" ]
+done
 in_room() { (cd "$room" && import "$@"); }
 cp examples/sensor.csv "$room/-o"
 sensor_again() { in_room -- -o | cmp - examples/sensor.pads; }
