@@ -107,7 +107,7 @@ prints 1 'refused 1 record 0' $run "$room/sheets" "$share/sheets.c"
 # The trial of 01's worked sheets, and the header's own, with the shared library.
 trial() { $cc -std=c99 "$@" -o "$room/trial" $flags $libs -Wl,-rpath,"$lib" && $run "$room/trial" | tail -n 1 | grep -xE '[1-9][0-9]* passed, 0 failed'; }
 check "the header, with the shared library" trial tests/abi.c
-check "01's sheets, with the shared library" trial tests/sheets.c tests/trial.c tests/questions.c tests/guard.c tests/boards.c tests/plain.c tests/ranked.c
+check "01's sheets, with the shared library" trial tests/sheets.c tests/trial.c tests/questions.c tests/guard.c tests/boards.c tests/plain.c tests/ranked.c tests/values.c
 
 # Page by page, four sheets each: eight sheets end within the second page, five with a full first one.
 ports_of() { $run "$room/sheets" "$1" | awk '/^total/ { printf line; line = "\n" } /to port/ { printf "%d", $5 }'; }
