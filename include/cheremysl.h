@@ -201,9 +201,10 @@
  * REFUSALS
  *
  *      no.  given when                                                       record number
- *       1   job_bytes or pad_bytes is 0, not a multiple of 16, or above      0
- *           1,024; port_bytes is 0, not a multiple of 4, or above 512;
- *           ReadCsv's text has no pads, or more than 64
+ *       1   job_bytes, or in the slots calls pad_bytes, is 0, not a          0
+ *           multiple of 16, or above 1,024; port_bytes is 0, not a
+ *           multiple of 4, or above 512; ReadCsv's text has no pads, or
+ *           more than 64
  *       2   a weight is above 1,000                                          0
  *       3   the layout list has fewer than n entries, or Draw's list         0
  *           fewer than six floats (for a straight leader too); Page's
@@ -481,7 +482,7 @@ extern "C" {
 #define CHEREMYSL_END (-1)
 
 enum cheremysl_refusal {
-    CHEREMYSL_BAD_SIZE = 1,        /* a size that job, pads or ports cannot have */
+    CHEREMYSL_BAD_SIZE = 1,        /* bad size of job, pads or ports; a list of 0 or over 64 pads */
     CHEREMYSL_BAD_WEIGHT = 2,      /* a weight is above 1,000 */
     CHEREMYSL_NO_ROOM = 3,         /* a layout of fewer than n entries, fewer than six floats */
     CHEREMYSL_BAD_FIELD = 4,       /* a field is outside its range */
@@ -715,11 +716,12 @@ int64_t cheremysl_svg(const uint8_t *job, size_t job_bytes, const uint16_t *layo
  *      "802","190","-336"
  *
  * A line ends with CR LF, the bytes 13 and 10, and the last may do without. Every CR LF ends a
- * line, one inside quotes too; a CR or an LF alone is a byte like any other. A line is three fields
- * with a comma between two. A field, in the first line too, may be quoted: then it begins and ends
- * with a quote, every quote between these is doubled, and a comma between them is part of it. A
- * field that is not quoted has no quote. Nothing is skipped: a blank belongs to its field, an empty
- * line is a line, and a byte order mark is part of line 1.
+ * line, one inside quotes too; a CR or an LF alone is a byte like any other, so a list whose lines
+ * end with LF alone is one line, and is refused: 21, line 1. A line is three fields with a comma
+ * between two. A field, in the first line too, may be quoted: then it begins and ends with a quote,
+ * every quote between these is doubled, and a comma between them is part of it. A field that is not
+ * quoted has no quote. Nothing is skipped: a blank belongs to its field, an empty line is a line,
+ * and a byte order mark is part of line 1.
  *
  * A number is digits, without a leading zero but for 0 itself; in y a minus may stand before it,
  * but not before 0. There is no plus sign. So a pad is written in one way, but for quotes. A number
