@@ -321,8 +321,8 @@
  * so many bytes of it at most, whatever it is given, from its return address on:
  *
  *      First 41,944   Next 42,120   Page 42,136   Count 59,032   Place 59,032   Measure 584
- *      Draw 136   Svg 5,496   TableFirst 25,496   TableNext 25,672   TableMeasure 568
- *      SlotsFirst 11,688   SlotsNext 11,832   SlotsMeasure 616
+ *      Draw 136   Svg 5,496   ReadCsv 1,416   TableFirst 25,496   TableNext 25,672
+ *      TableMeasure 568   SlotsFirst 11,688   SlotsNext 11,832   SlotsMeasure 616
  *
  * tests/stack.c measures it at 64 records, and fails if a call takes 48 bytes more.
  *

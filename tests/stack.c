@@ -40,7 +40,7 @@ static const struct {
     function enter;
     size_t stated;
 } calls[CALLS] = {
-    [READ_CSV] = {(function)cheremysl_read_csv, 3000},
+    [READ_CSV] = {(function)cheremysl_read_csv, 1416},
     [MEASURE] = {(function)cheremysl_measure, 584},
     [DRAW] = {(function)cheremysl_draw, 136},
     [SVG] = {(function)cheremysl_svg, 5496},
