@@ -5,8 +5,9 @@
  * each of 256, left out, doubled or swapped with the next; every short text of the bytes that
  * matter; quotes and line ends of every kind, everywhere; texts of the largest size and one byte
  * more; 0 to 65 pads and thousands of lines; rooms of one byte too few, just enough and more, and
- * of more than 32 bits; every set of faults at once; lists written and read back, and laid out;
- * COUNT texts with random damage. With a COUNT below 100,000 about a tenth of the others.
+ * of more than 32 bits; every set of faults at once; each two of 64 pads with one name, and with
+ * one x; lists written and read back, and laid out; COUNT texts with random damage. With a COUNT
+ * below 100,000 about a tenth of the others.
  */
 #include <stdio.h>
 #include <stdlib.h>
@@ -552,6 +553,21 @@ static void every_set_of_faults(void) {
         }
 }
 
+/* Of 64 pads that all differ, one gets the name or the x of an earlier one. */
+static void one_twice(void (*put)(uint8_t *, size_t, int64_t),
+                      int64_t (*get)(const uint8_t *, size_t), int number) {
+    uint8_t pads[16 * PADS];
+    lend_text(&q, 16 * PADS);
+    for (size_t j = 1; j < PADS; j++)
+        for (size_t i = 0; i < j; i++) {
+            any_csv_pads(pads, PADS);
+            put(pads, j, get(pads, i));
+            csv.bytes = 0;
+            add_pads(&csv, pads, PADS);
+            answers(refused(number, (int)j));
+        }
+}
+
 /* Two of 64 pads with the same fault, or one that has what another has: the first such record. */
 static void two_records(size_t i, size_t j, size_t k) {
     static const char *const wrong[] = {"0,", "65536,", "70000,"};
@@ -653,6 +669,8 @@ int main(int argc, char **argv) {
     endless_texts();
     wide_rooms();
     every_set_of_faults();
+    one_twice(put_name, get_name, 6);
+    one_twice(put_x, get_x, 7);
     each_two_records(all ? 1 : 9);
     for (long k = 0; k < count / 100; k++) written(1 + (size_t)k % PADS);
     for (long k = 0; k < count; k++) damaged();
