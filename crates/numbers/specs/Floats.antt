@@ -7,7 +7,7 @@ use Rattle.std.proofs.Common.{sym, ap, ◌∙◌, subst, mul_left_comm, mul_righ
 use Rattle.std.proofs.Math.Nat.{mul-mul-mul_comm, pow-succ', eq_of_mul-eq-mul_right, suc_inj}
 use Rattle.std.proofs.Math.Decide.{dec_lt}
 use Rattle.std.proofs.Math.Pow.{pow-lt}
-use lib.Ieee.{Float, fin, Format, prec, emax, low, up, down, round, mul, fits, unlike}
+use lib.Ieee.{Float, nan, inf, fin, Format, prec, emax, low, up, down, round, mul, fits, unlike}
 use Rattle.std.specs.Float.Ieee.Exact.{HasValue, round_exact}
 use Rattle.std.specs.Float.Ieee.Digits.{back}
 use Rattle.std.specs.Float.Ieee.Fits.{down_pos, up_pos, and_l, and_r, round-fits}
@@ -84,6 +84,12 @@ value_unique f (fin t (suc m) e) (fin u (suc n) g) s a k K p q v w =
     let same = cross (suc m * up e) (suc n * up g) (down e) (down g) a k K v.1 w.1 in
     let r = odd_exp (suc m) (suc n) e g (is_odd f t m e p) (is_odd f u n g q) same in
     λ i. fin ((v.0 ∙ sym w.0) i) (r.0 i) (r.1 i)
+value_unique f nan y s a k K p q v w = elim v [ ]
+value_unique f (inf _) y s a k K p q v w = elim v [ ]
+value_unique f (fin t zero e) nan s a k K p q v w = elim w [ ]
+value_unique f (fin t zero e) (inf _) s a k K p q v w = elim w [ ]
+value_unique f (fin t (suc m) e) nan s a k K p q v w = elim w [ ]
+value_unique f (fin t (suc m) e) (inf _) s a k K p q v w = elim w [ ]
 
 -- ---- a float's own value rounds to it
 
@@ -136,6 +142,8 @@ round_held f (fin t (suc m) e) s a c C p v =
     (leb→le (down e) (2 ^ low f) (and_r (i && j) k q))
     (ltb→lt (suc m * up e) (2 ^ suc (emax f) * down e) (and_r (i && j && k) n p))
     v.1
+round_held f nan s a c C p v = elim v [ ]
+round_held f (inf _) s a c C p v = elim v [ ]
 
 -- and a / c rounded is that float.
 pub round_back : (f : Format) (x : Float) (s : Bool) (a c : ℕ) → 0 < c → T (fits f x) → HasValue x s a c → round f s a c ≡ x
@@ -159,3 +167,5 @@ scaled f (fin t m e) s n c g C a =
     ∙ ap (λ (z : ℕ). z * (up g * down g)) a.1
     ∙ mul-mul-mul_comm n (down e) (up g) (down g))
     ∙ ap (λ (b : Bool). round f b (n * up g) (c * down g)) (unlike_false t ∙ a.0)
+scaled f nan s n c g C a = elim a [ ]
+scaled f (inf _) s n c g C a = elim a [ ]
