@@ -53,18 +53,10 @@ StandsOnce b f q = (i : ℕ) × (i < b.pads) × (f i ≡ q) × ((j : ℕ) → j 
 abbrev pub EachOnce : Board → (ℕ → ℕ) → Type 0
 EachOnce b f = (q : ℕ) → q < b.ports → StandsOnce b f q
 
--- A layout that counts, whichever records touch and whichever port a pad may have: no pad has another port, and no pair touches.
-pub record UntouchingBy (b : Board) (Touch : (ℕ → ℕ) → ℕ → ℕ → Type 0) (May : ℕ → ℕ → Type 0) (f : ℕ → ℕ) : Type 0 where
+-- A layout with no touching pair.
+pub record Untouching (b : Board) (f : ℕ → ℕ) : Type 0 where
   pub layout : Layout b f
-  pub may : (i : ℕ) → i < b.pads → May i (f i)
-  pub apart : (i j : ℕ) → j < i → i < b.pads → ¬ Touch f i j
-
--- 01's, with 02's squares: every pad may have every port.
-abbrev pub AnyPort : ℕ → ℕ → Type 0
-AnyPort i q = Unit {0}
-
-abbrev pub Untouching : Board → (ℕ → ℕ) → Type 0
-Untouching b = UntouchingBy b (Touching b) AnyPort
+  pub apart : (i j : ℕ) → j < i → i < b.pads → ¬ Touching b f i j
 
 -- f and g give every pad the same port.
 abbrev pub Same : Board → (ℕ → ℕ) → (ℕ → ℕ) → Type 0

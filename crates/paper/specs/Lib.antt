@@ -4,7 +4,6 @@ pub mod Leaders
 pub mod Plane
 pub mod Layouts
 pub mod Problem
-pub mod Diagonal
 pub mod Canvas
 pub mod Svg
 pub mod Csv

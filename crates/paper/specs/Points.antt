@@ -4,24 +4,25 @@ use Rattle.std.specs.Prelude.{◌≡◌, List, [], ◌∷◌, ◌++◌, ℕ, ◌
 use Rattle.paper.specs.declared.Work.{Work}
 use Rattle.paper.specs.declared.Work.TheVariants.{Unlent}
 use Rattle.paper.specs.Job.{Job}
-use Rattle.paper.specs.Layouts.{Board, board_of, held, LeadersTouch, UntouchingBy, AnyPort, Badness, cost_of}
-use Rattle.paper.specs.Problem.{Problem, labeling_by}
-use Rattle.paper.specs.Refusals.{Trial, led_trials, best_trial, sound_trials, Calls}
+use Rattle.paper.specs.Layouts.{Board, board_of, held, LeadersTouch, Layout, Badness, cost_of, total}
+use Rattle.paper.specs.Problem.{Problem}
+use Rattle.paper.specs.Refusals.{Trial, pair_trials, best_trial, sound_trials, Calls}
 
 -- All half-sides are 0.
 abbrev pub Points : Board → Type 0
 Points b = (i : ℕ) → i < b.pads → b.half i ≡ 0
 
 -- A layout in which no two leaders touch, and the problem of 01.
-abbrev pub LeadersApart : Board → (ℕ → ℕ) → Type 0
-LeadersApart b = UntouchingBy b (LeadersTouch b) AnyPort
+pub record LeadersApart (b : Board) (f : ℕ → ℕ) : Type 0 where
+  pub layout : Layout b f
+  pub apart : (i j : ℕ) → j < i → i < b.pads → ¬ LeadersTouch b f i j
 
 abbrev pub point_labeling_of : Job → Badness → Problem
-point_labeling_of job bad = labeling_by (board_of job) (LeadersTouch (board_of job)) AnyPort (cost_of (board_of job) bad)
+point_labeling_of job bad = record { board = board_of job; Counts = LeadersApart (board_of job); value = total (board_of job) (cost_of (board_of job) bad) }
 
 -- Its calls: First has no 15, and in 9 only leaders touch.
 abbrev pub point_measure : Job → Badness → Work → List ℕ → List Trial
-point_measure job bad work list = sound_trials job bad work (length list) ++ led_trials (board_of job) [] (LeadersTouch (board_of job) (held list)) list
+point_measure job bad work list = sound_trials job bad work (length list) ++ pair_trials (board_of job) (LeadersTouch (board_of job) (held list)) list
 
 abbrev pub point_calls_of : Job → Badness → Work → Calls
 point_calls_of job bad work = record {

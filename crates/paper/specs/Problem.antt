@@ -1,9 +1,8 @@
--- DEFINITIONS. One problem, of which all calls that seek layouts are instances: a board, which layouts count, and the value of a layout. It is Benkert's one-sided
--- labeling (`labeling_by`): a layout counts if no two records touch and each pad has a port that it may have, and its value is its total. 01's po-leaders, 02's tables,
--- slots and squares, and 02's do-leaders (Diagonal) differ in what touches, in which ports a pad may have, and in the cost.
+-- DEFINITIONS. One problem, of which all calls that seek layouts are instances: a board, which layouts count, and the value of a layout. That of 01, and of
+-- 02's tables, slots and squares, is Benkert's one-sided labeling: a layout counts if no two records touch, and its value is its total.
 use Rattle.std.specs.Prelude.{◌≡◌, ℕ, zero, suc, ◌+◌, ◌≤◌, ◌<◌}
 use Rattle.paper.specs.Job.{Job}
-use Rattle.paper.specs.Layouts.{Board, board_of, Touching, UntouchingBy, AnyPort, Badness, cost_of, total}
+use Rattle.paper.specs.Layouts.{Board, board_of, Untouching, Badness, cost_of, total}
 
 pub record Problem : Type 1 where
   pub board : Board
@@ -48,14 +47,9 @@ pub record CountBest (p : Problem) (c : ℕ) : Type 0 where
   pub end : LastBest p layout
   pub more : c ≡ last + 1
 
--- One-sided labeling, by which records touch, which pad may have which port, and what it costs to lead a pad to a port: a best layout counts, and none that counts
--- has a smaller total.
-abbrev pub labeling_by : Board → ((ℕ → ℕ) → ℕ → ℕ → Type 0) → (ℕ → ℕ → Type 0) → (ℕ → ℕ → ℕ) → Problem
-labeling_by b Touch May cost = record { board = b; Counts = UntouchingBy b Touch May; value = total b cost }
-
--- Of 01's leaders, which are Benkert's po-leaders, and 02's squares.
+-- One-sided labeling, for any cost of leading a pad to a port: a best layout has no touching pair, and no layout without a touching pair has a smaller total.
 abbrev pub labeling : Board → (ℕ → ℕ → ℕ) → Problem
-labeling b = labeling_by b (Touching b) AnyPort
+labeling b cost = record { board = b; Counts = Untouching b; value = total b cost }
 
 -- On the board of a job: 01's by weights, 02's by a table.
 abbrev pub labeling_of : Job → Badness → Problem

@@ -14,7 +14,7 @@ use Rattle.paper.specs.declared.Work.TheVariants.{Unlent}
 use Rattle.paper.specs.Job.{Job, records}
 use Rattle.paper.specs.Layouts.{board_of, held, leader, Badness}
 use Rattle.paper.specs.Problem.{Problem, FirstBest, NextBest, LastBest, PlaceBest, CountBest}
-use Rattle.paper.specs.Refusals.{Trial, Passed, RefusedBy, refusal, draw_trials, Calls, entries, calls_of, diagonal_calls_of, count_trials, place_trials, svg_trials, csv_trials}
+use Rattle.paper.specs.Refusals.{Trial, Passed, RefusedBy, refusal, draw_trials, Calls, entries, calls_of, count_trials, place_trials, svg_trials, csv_trials}
 use Rattle.paper.specs.Canvas.{DrawnStraight, DrawnBent, coordinates}
 use Rattle.paper.specs.Svg.{SheetWritten}
 use Rattle.paper.specs.Csv.{ReadWith, records_of}
@@ -185,25 +185,6 @@ CountPromise job bad = CountReplies (calls_of job bad Unlent)
 
 abbrev pub PlacePromise : Job → Badness → ℕ → ℕ → List ℕ → ℤ → List ℕ → Type 0
 PlacePromise job bad = PlaceReplies (calls_of job bad Unlent)
-
--- Of do-leaders (02): all three answer the sum of d.
-abbrev pub DiagonalFirstAnswers : List ℕ → List ℕ → Answer → List ℕ → Type 0
-DiagonalFirstAnswers job = FirstOver (diagonal_calls_of job)
-
-abbrev pub DiagonalNextAnswers : List ℕ → List ℕ → Answer → List ℕ → Type 0
-DiagonalNextAnswers job = NextOver (diagonal_calls_of job)
-
-abbrev pub DiagonalMeasureAnswers : List ℕ → List ℕ → Answer → Type 0
-DiagonalMeasureAnswers job = MeasureOver (diagonal_calls_of job)
-
-abbrev pub DiagonalFirstPromise : List ℕ → List ℕ → ℤ → List ℕ → Type 0
-DiagonalFirstPromise job = FirstReplies (diagonal_calls_of job)
-
-abbrev pub DiagonalNextPromise : List ℕ → List ℕ → ℤ → List ℕ → Type 0
-DiagonalNextPromise job = NextReplies (diagonal_calls_of job)
-
-abbrev pub DiagonalMeasurePromise : List ℕ → List ℕ → ℤ → Type 0
-DiagonalMeasurePromise job = MeasureReplies (diagonal_calls_of job)
 
 -- DRAW: the leader of the pad of record i to port q.
 abbrev pub DrawAnswers : List ℕ → ℕ → ℕ → List Float → Drawn → List Float → Type 0

@@ -1,4 +1,4 @@
--- DEFINITIONS. 01, "Refusal numbers", and of 02, 12 to 24 and both records of 9: what is at fault for each number, and each call's trials, in their order.
+-- DEFINITIONS. 01, "Refusal numbers", and of 02, 12 to 22, 24 and both records of 9: what is at fault for each number, and each call's trials, in their order.
 use Rattle.std.specs.Prelude.{◌≡◌, ◌≢◌, ◌⊎◌, List, [], ◌∷◌, ◌++◌, ℕ, ◌+◌, ◌*◌, ◌-◌, ◌%◌, ◌≤◌, ◌<◌, length, ℤ, pos, nat_abs, ◌-ℤ◌, ◌≤ℤ◌, ◌<ℤ◌}
 use Rattle.paper.specs.declared.Refusal.{Refusal}
 use Rattle.paper.specs.declared.Form.{Form}
@@ -8,7 +8,6 @@ use Rattle.paper.specs.declared.Work.TheVariants.{Unlent, Lent}
 use Rattle.paper.specs.Job.{Job, records, slots, pads_of, twos, count, name_of, half_of, x_of, y_of, last_of, port_count, port_of}
 use Rattle.paper.specs.Layouts.{Board, board_of, held, Touching, Badness, by_weights, by_table}
 use Rattle.paper.specs.Problem.{Problem, Best, CountBest, labeling_of}
-use Rattle.paper.specs.Diagonal.{slant_of, DiagonalTouching, diagonal_of}
 use Rattle.paper.specs.Svg.{SheetWritten}
 use Rattle.paper.specs.Csv.{Pad, ReadWith, BadLine, pad_at}
 
@@ -148,16 +147,15 @@ board_trials job =
 abbrev pub job_trials : Job → List Trial
 job_trials job = field_trials job ++ board_trials job
 
--- 8 and 9: the layout that the list holds, with such trials between them. 9: a record touches an earlier one; both are named (02)
-abbrev pub led_trials : Board → List Trial → (ℕ → ℕ → Type 0) → List ℕ → List Trial
-led_trials b between Touch list =
-    of_each 8 b.pads (BadEntry b.ports list) ∷ between ++ (
-    of_pairs 9 b.pads Touch ∷
+-- 8 and 9: the layout that the list holds. 9: a record touches an earlier one; both are named (02)
+abbrev pub pair_trials : Board → (ℕ → ℕ → Type 0) → List ℕ → List Trial
+pair_trials b R list =
+    of_each 8 b.pads (BadEntry b.ports list) ∷
+    of_pairs 9 b.pads R ∷
     []
-    )
 
 abbrev pub layout_trials : Board → List ℕ → List Trial
-layout_trials b list = led_trials b [] (Touching b (held list)) list
+layout_trials b list = pair_trials b (Touching b (held list)) list
 
 -- 10: the given layout counts, on a job: it has no touching pair, but isn't best
 abbrev pub best_trial : Problem → List ℕ → Trial
@@ -188,27 +186,17 @@ room_trials job work room = of_whole 3 (room < (board_of job).pads) ∷ enough_t
 abbrev pub sound_trials : Job → Badness → Work → ℕ → List Trial
 sound_trials job bad work room = size_trials job ++ (badness_trial (board_of job) bad ∷ room_trials job work room ++ job_trials job)
 
--- On any problem, by its sound trials, of the input but for the layout, and by those of the layout. First: the sound ones and 15
-abbrev pub first_by : Problem → (ℕ → List Trial) → ℕ → List Trial
-first_by p sound room = sound room ++ (none_trial p ∷ [])
+-- First: these and 15
+abbrev pub first_trials : Job → Badness → Work → ℕ → List Trial
+first_trials job bad work room = sound_trials job bad work room ++ (none_trial (labeling_of job bad) ∷ [])
 
--- Measure: the sound ones and the layout's, in short "8 and 9"
-abbrev pub measure_by : (ℕ → List Trial) → (List ℕ → List Trial) → List ℕ → List Trial
-measure_by sound lay list = sound (length list) ++ lay list
+-- Measure: these, 8 and 9
+abbrev pub measure_trials : Job → Badness → Work → List ℕ → List Trial
+measure_trials job bad work list = sound_trials job bad work (length list) ++ layout_trials (board_of job) list
 
 -- Next: Measure's and 10
-abbrev pub next_by : Problem → (ℕ → List Trial) → (List ℕ → List Trial) → List ℕ → List Trial
-next_by p sound lay list = measure_by sound lay list ++ (best_trial p list ∷ [])
-
--- On a job
-abbrev pub first_trials : Job → Badness → Work → ℕ → List Trial
-first_trials job bad work = first_by (labeling_of job bad) (sound_trials job bad work)
-
-abbrev pub measure_trials : Job → Badness → Work → List ℕ → List Trial
-measure_trials job bad work = measure_by (sound_trials job bad work) (layout_trials (board_of job))
-
 abbrev pub next_trials : Job → Badness → Work → List ℕ → List Trial
-next_trials job bad work = next_by (labeling_of job bad) (sound_trials job bad work) (layout_trials (board_of job))
+next_trials job bad work list = measure_trials job bad work list ++ (best_trial (labeling_of job bad) list ∷ [])
 
 -- Draw, of record i to port q with room for so many floats: 1, 3, the job's and 11. 3: the float list has fewer than six
 abbrev pub draw_trials : List ℕ → ℕ → ℕ → ℕ → List Trial
@@ -227,35 +215,14 @@ pub record Calls : Type 1 where
 abbrev pub entries : Calls → ℕ
 entries c = c.problem.board.pads
 
--- By sound trials, Measure's of which may be others, and the layout's.
-abbrev pub calls_by : Problem → (ℕ → List Trial) → (ℕ → List Trial) → (List ℕ → List Trial) → Calls
-calls_by p sound measured lay = record { problem = p; first = first_by p sound; measure = measure_by measured lay; next = next_by p sound lay }
-
 -- On a job, by weights or a table. First and Next are lent such a work list, or none; Measure never is.
 abbrev pub calls_of : Job → Badness → Work → Calls
-calls_of job bad work = calls_by (labeling_of job bad) (sound_trials job bad work) (sound_trials job bad Unlent) (layout_trials (board_of job))
-
--- ---- do-leaders (02)
-
--- 4: as in every job, and a half-side that is not 0
-abbrev pub BadPoint : List ℕ → ℕ → Type 0
-BadPoint bytes i = BadField Records bytes i ⊎ (half_of bytes i ≢ 0)
-
--- 23: a given d is above x - 1
-abbrev pub TooSteep : Board → (ℕ → ℕ) → ℕ → Type 0
-TooSteep b f i = b.x i ≤ slant_of b i (f i)
-
--- Sound: 1, above 10 records too; 3; 4, 5, 12, 6 and 7. 2 never, as these calls take no weights
-abbrev pub diagonal_sound : List ℕ → ℕ → List Trial
-diagonal_sound bytes room =
-    of_whole 1 (BadSize 16 160 bytes) ∷ of_whole 3 (room < count bytes) ∷ of_each 4 (count bytes) (BadPoint bytes) ∷ board_trials (records bytes)
-
--- The layout's: 8, 23 and 9
-abbrev pub diagonal_layout : Board → List ℕ → List Trial
-diagonal_layout b list = led_trials b (of_each 23 b.pads (TooSteep b (held list)) ∷ []) (DiagonalTouching b (held list)) list
-
-abbrev pub diagonal_calls_of : List ℕ → Calls
-diagonal_calls_of bytes = calls_by (diagonal_of bytes) (diagonal_sound bytes) (diagonal_sound bytes) (diagonal_layout (board_of (records bytes)))
+calls_of job bad work = record {
+  problem = labeling_of job bad;
+  first = first_trials job bad work;
+  measure = measure_trials job bad Unlent;
+  next = next_trials job bad work;
+}
 
 -- ---- counting and placing (02)
 

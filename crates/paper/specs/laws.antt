@@ -11,7 +11,6 @@ pub mod Order
 -- The refusals:
 pub mod Trials
 pub mod Decided
-pub mod ByTrials
 pub mod Accepted
 pub mod Numbers
 pub mod Named

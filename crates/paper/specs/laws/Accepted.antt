@@ -11,13 +11,12 @@ use Rattle.paper.specs.declared.Form.TheVariants.{Records}
 use Rattle.paper.specs.declared.Work.{Work}
 use Rattle.paper.specs.declared.Work.TheVariants.{Unlent, Lent}
 use Rattle.paper.specs.Job.{Job, records, slots, form_of, pads_of, ports_of, last_of, count, name_of, half_of, x_of, y_of, port_count, port_of}
-use Rattle.paper.specs.Layouts.{Board, board_from, board_of, held, Badness, by_weights, by_table, weighted, cost_of, total, Layout, Touching, AnyPort, Untouching}
+use Rattle.paper.specs.Layouts.{Board, board_from, board_of, held, Badness, by_weights, by_table, weighted, cost_of, total, Layout, Untouching}
 use Rattle.paper.specs.Problem.{Best, labeling_of}
 use Rattle.paper.specs.Refusals.{BadSize, BadField, BadEntry, work_needed, Clean, Passed, RefusedBy, refusal}
 use Rattle.paper.specs.Refusals.{size_trials, enough_trials, work_trials, field_trials, board_trials, job_trials, badness_trial, sound_trials, first_trials, measure_trials, next_trials, draw_trials, layout_trials, best_trial, NoLayout, none_trial, number_trial}
 use Rattle.paper.specs.Layouts.{Differ, Rising, Proper}
-use Rattle.paper.specs.laws.Trials.{passed_append, append_passed}
-use Rattle.paper.specs.laws.ByTrials as by
+use Rattle.paper.specs.laws.Trials.{whole_refused, passed_append, append_passed, refused_left, refused_right}
 use Rattle.paper.specs.laws.Decided.{passed_differ, sound_parts}
 use Rattle.paper.specs.laws.Totals.{sum-at_most, weighted_bound, total_bound}
 
@@ -200,30 +199,43 @@ module _ {form : Form} {pads ports : List ℕ} (a : Accepted form pads ports) wh
 
 -- 8 and 9 are passed exactly if the list holds an untouching layout, on any board.
 pub layout_passed : (b : Board) (list : List ℕ) → Passed (layout_trials b list) ↔ Untouching b (held list)
-layout_passed b list = by.led_passed b [] (Touching b) AnyPort list ((λ _ i l. tt), (λ _. tt))
+layout_passed b list = (
+  (λ (c8, (c9, _)). record {
+    layout = record { inside = λ i l. lt_of_not-le (λ h. c8 i l (inl h)); own = λ i j l k e. c8 i k (inr (j, l, e)) };
+    apart = λ i j l k t. c9 i k (j, l, t);
+  }),
+  (λ u. (entries u, ((λ i l (j, k, t). u.apart i j k l t), tt))),
+)
+  where
+    entries : Untouching b (held list) → (i : ℕ) → i < b.pads → ¬ BadEntry b.ports list i
+    entries u i l (inl h) = omega (arith, u.layout.inside i l)
+    entries u i l (inr (j, k, e)) = u.layout.own i j k l e
 
--- On a job, First's trials are 1 to 7, and then 15: it is not so that no layout is untouching.
+-- First's trials are 1 to 7, and then 15: it is not so that no layout is untouching.
 module _ (job : Job) (bad : Badness) (work : Work) (room : ℕ) where
   pub first_sound : Passed (first_trials job bad work room) → Passed (sound_trials job bad work room)
-  first_sound = by.first_sound (labeling_of job bad) (sound_trials job bad work) room
+  first_sound p = (append_passed (sound_trials job bad work room) (none_trial (labeling_of job bad) ∷ []) p).0
 
   pub first_some : Passed (first_trials job bad work room) → ¬ NoLayout (labeling_of job bad)
-  first_some = by.first_some (labeling_of job bad) (sound_trials job bad work) room
+  first_some p = (append_passed (sound_trials job bad work room) (none_trial (labeling_of job bad) ∷ []) p).1.0 0 (omega arith)
 
   pub first_passed : Passed (sound_trials job bad work room) → ¬ NoLayout (labeling_of job bad) → Passed (first_trials job bad work room)
-  first_passed = by.first_passed (labeling_of job bad) (sound_trials job bad work) room
+  first_passed p n = passed_append (sound_trials job bad work room) (none_trial (labeling_of job bad) ∷ []) p ((λ i l none. n none), tt)
 
   pub none_refused : Passed (sound_trials job bad work room) → NoLayout (labeling_of job bad) → RefusedBy (first_trials job bad work room) (refusal 15 0 0)
-  none_refused = by.none_refused (labeling_of job bad) (sound_trials job bad work) room
+  none_refused p none =
+      refused_right (sound_trials job bad work room) (none_trial (labeling_of job bad) ∷ []) (refusal 15 0 0) p (whole_refused 15 (NoLayout (labeling_of job bad)) [] none)
 
   -- What 1 to 7 refuse, First refuses alike.
   pub sound_refused : (r : Refusal) → RefusedBy (sound_trials job bad work room) r → RefusedBy (first_trials job bad work room) r
-  sound_refused = by.sound_refused (labeling_of job bad) (sound_trials job bad work) room
+  sound_refused r = refused_left (sound_trials job bad work room) (none_trial (labeling_of job bad) ∷ []) r
 
 module _ (job : Job) (bad : Badness) (work : Work) (list : List ℕ) where
   -- Measure's are passed: 1 to 7 are, and the list holds an untouching layout.
   pub measure_accepted : Passed (measure_trials job bad work list) → Passed (sound_trials job bad work (length list)) × Untouching (board_of job) (held list)
-  measure_accepted = by.measure_accepted (labeling_of job bad) (sound_trials job bad work) (layout_trials (board_of job)) list (layout_passed (board_of job) list)
+  measure_accepted p =
+      let (passed, rest) = append_passed (sound_trials job bad work (length list)) (layout_trials (board_of job) list) p in
+      (passed, (layout_passed (board_of job) list).0 rest)
 
   -- So then the job is accepted, with weights in range or a table of that length, and room for the layout, and the entries are port numbers.
   pub measure_facts : Passed (measure_trials job bad work list) → AcceptedJob job × Fair (board_of job) bad × ((board_of job).pads ≤ length list)
@@ -234,24 +246,25 @@ module _ (job : Job) (bad : Badness) (work : Work) (list : List ℕ) where
 
   -- And the other way round.
   pub untouching_passed : Passed (sound_trials job bad work (length list)) → Untouching (board_of job) (held list) → Passed (measure_trials job bad work list)
-  untouching_passed = by.counts_passed (labeling_of job bad) (sound_trials job bad work) (layout_trials (board_of job)) list (layout_passed (board_of job) list)
+  untouching_passed p u = passed_append (sound_trials job bad work (length list)) (layout_trials (board_of job) list) p ((layout_passed (board_of job) list).1 u)
 
   -- Next refuses by 10 what passes Measure's trials, if the layout is not a best one;
   pub not_best_refused : Passed (measure_trials job bad work list) → ¬ Best (labeling_of job bad) (held list)
       → RefusedBy (next_trials job bad work list) (refusal 10 0 0)
-  not_best_refused = by.not_best_refused (labeling_of job bad) (sound_trials job bad work) (layout_trials (board_of job)) list (layout_passed (board_of job) list)
+  not_best_refused p n =
+      refused_right (measure_trials job bad work list) (best_trial (labeling_of job bad) list ∷ []) (refusal 10 0 0) p (whole_refused 10 _ [] ((measure_accepted p).1, n))
 
   -- its trials are passed if Measure's are and the list holds a best layout.
   pub best_passed : Passed (measure_trials job bad work list) → Best (labeling_of job bad) (held list) → Passed (next_trials job bad work list)
-  best_passed = by.best_passed (labeling_of job bad) (sound_trials job bad work) (layout_trials (board_of job)) list
+  best_passed p b = passed_append (measure_trials job bad work list) (best_trial (labeling_of job bad) list ∷ []) p ((λ i l (u, n). n b), tt)
 
   -- What Measure refuses, Next refuses alike.
   pub measure_refused : (r : Refusal) → RefusedBy (measure_trials job bad work list) r → RefusedBy (next_trials job bad work list) r
-  measure_refused = by.measure_refused (labeling_of job bad) (sound_trials job bad work) (layout_trials (board_of job)) list
+  measure_refused r = refused_left (measure_trials job bad work list) (best_trial (labeling_of job bad) list ∷ []) r
 
   -- Where Next's trials are passed, so are Measure's, and the x of all pads differ.
   pub next_measured : Passed (next_trials job bad work list) → Passed (measure_trials job bad work list)
-  next_measured = by.next_measured (labeling_of job bad) (sound_trials job bad work) (layout_trials (board_of job)) list
+  next_measured p = (append_passed (measure_trials job bad work list) (best_trial (labeling_of job bad) list ∷ []) p).0
 
   pub next_differ : Passed (next_trials job bad work list) → Differ (board_of job)
   next_differ p = (measure_facts (next_measured p)).0.proper.differ

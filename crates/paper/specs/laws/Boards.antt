@@ -1,10 +1,10 @@
 -- Layouts on a board: which ports count, 01's criterion for all pairs of pads, and each pad's own port.
 --     layout_iff: each port number stands once;  leaders_apart_iff: the criterion;  untouching_of: own ports come by themselves;  equal_costs, zero_weights
 use Rattle.std.specs.Prelude.{◌≡◌, refl, ◌≢◌, ◌⊎◌, ◌↔◌, ℕ, zero, suc, ◌<◌}
-use Rattle.std.proofs.Common.{sym, ap, ◌∙◌, subst, inl, inr, ⊎_elim, arith}
+use Rattle.std.proofs.Common.{sym, ap, ◌∙◌, inl, inr, ⊎_elim, arith}
 use Rattle.std.proofs.Math.Decide.{dec_lt, ℕ_discrete}
 use Rattle.paper.specs.Leaders.{Between}
-use Rattle.paper.specs.Layouts.{Board, leader, LeadersTouch, Touching, Layout, StandsOnce, EachOnce, UntouchingBy, AnyPort, Untouching, weighted, total, Differ, Same}
+use Rattle.paper.specs.Layouts.{Board, leader, LeadersTouch, Touching, Layout, StandsOnce, EachOnce, Untouching, weighted, total, Differ, Same}
 use Rattle.paper.specs.Problem.{Best, labeling}
 use Rattle.paper.specs.laws.Touching.{touch_sym, touch_iff}
 use Rattle.paper.specs.laws.Totals.{sum_same}
@@ -19,17 +19,12 @@ module _ (b : Board) (f g : ℕ → ℕ) (same : Same b f g) where
     own = λ i j l k. omega (arith, s.own i j l k, same i k, same j (omega arith));
   }
 
-  -- and counting, where two records touch by their own ports alone.
-  pub counts_same : (Touch : (ℕ → ℕ) → ℕ → ℕ → Type 0) (May : ℕ → ℕ → Type 0) → ((i j : ℕ) → g i ≡ f i → g j ≡ f j → Touch g i j → Touch f i j)
-      → UntouchingBy b Touch May f → UntouchingBy b Touch May g
-  counts_same Touch May own u = record {
-    layout = layout_same u.layout;
-    may = λ i l. subst (May i) (same i l) (u.may i l);
-    apart = λ i j l k t. u.apart i j l k (own i j (sym (same i k)) (sym (same j (omega arith))) t);
-  }
-
+  -- and being untouching.
   pub untouching_same : Untouching b f → Untouching b g
-  untouching_same = counts_same (Touching b) AnyPort (λ i j d e t. rw (← d, ← e) t)
+  untouching_same u = record {
+    layout = layout_same u.layout;
+    apart = λ i j l k t. u.apart i j l k (rw (same i k, same j (omega arith)) t);
+  }
 
 -- The total depends only on the pads' ports.
 pub total_same : (b : Board) (cost : ℕ → ℕ → ℕ) (f g : ℕ → ℕ) → Same b f g → total b cost f ≡ total b cost g
@@ -79,7 +74,6 @@ pub untouching_of : (b : Board) (f : ℕ → ℕ)
     → ((i : ℕ) → i < b.pads → f i < b.ports) → ((i j : ℕ) → j < i → i < b.pads → ¬ Touching b f i j) → Untouching b f
 untouching_of b f inside apart = record {
   layout = record { inside = inside; own = λ i j l k e. apart i j l k (inl (own_port b f i j e)) };
-  may = λ i l. tt;
   apart = apart;
 }
 

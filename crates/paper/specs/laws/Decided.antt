@@ -281,7 +281,7 @@ sound_parts job bad work room = (
       (given, passed_append (room_trials job work room) (job_trials job) roomy passed)),
 )
 
-pub layout_tests_lem : (b : Board) → Differ b → (list : List ℕ) → TestsOf (layout_tests b list) (layout_trials b list)
+layout_tests_lem : (b : Board) → Differ b → (list : List ℕ) → TestsOf (layout_tests b list) (layout_trials b list)
 unfolding layout_tests
 layout_tests_lem b differ list = (
   each_test 8 _ _ (bad_entry b.ports list) (λ i l. bad_entry_iff b.ports list i),

@@ -57,7 +57,7 @@ module _ (b : Board) (proper : Proper b) where
       → (g : ℕ → ℕ) × LeadersApart b g × (sum b.pads (λ i. length_of (leader b i (g i))) ≤ sum b.pads (λ i. length_of (leader b i (f i))))
   straight_total f l =
       let (g, s, free, less) = straighten b long Clear uncross f l in
-      (g, record { layout = s; may = λ i l. tt; apart = (leaders_apart_iff b g proper.differ).1 free }, less)
+      (g, record { layout = s; apart = (leaders_apart_iff b g proper.differ).1 free }, less)
 
   -- THEOREM: where pads are points an untouching layout exists. It is a straightening of 'pad i on port i'.
   pub points_exist : Points b → (f : ℕ → ℕ) × Untouching b f

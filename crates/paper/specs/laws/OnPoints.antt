@@ -7,7 +7,7 @@ use Rattle.paper.specs.declared.Work.TheVariants.{Unlent}
 use Rattle.paper.specs.Job.{Job}
 use Rattle.paper.specs.Layouts.{Board, board_of, held, LeadersTouch, Touching, Untouching, Badness, cost_of, total}
 use Rattle.paper.specs.Problem.{labeling_of}
-use Rattle.paper.specs.Refusals.{Trial, FirstFault, Passed, of_pairs, led_trials, best_trial, sound_trials, first_trials, measure_trials, next_trials, calls_of}
+use Rattle.paper.specs.Refusals.{Trial, FirstFault, Passed, of_pairs, pair_trials, best_trial, sound_trials, first_trials, measure_trials, next_trials, calls_of}
 use Rattle.paper.specs.Points.{Points, LeadersApart, point_labeling_of, point_measure, point_calls_of}
 use Rattle.paper.specs.Promises.{FirstReplies, NextReplies, PageReplies, MeasureReplies, CountReplies, PlaceReplies}
 use Rattle.paper.specs.laws.Trials.{not_both}
@@ -31,7 +31,7 @@ first_fault_alike n R S same i j a = record {
   };
 }
 
-pairs_follow : (b : Board) (R S : ℕ → ℕ → Type 0) (list : List ℕ) → ((i j : ℕ) → j < i → i < b.pads → R i j ↔ S i j) → Follows (led_trials b [] R list) (led_trials b [] S list)
+pairs_follow : (b : Board) (R S : ℕ → ℕ → Type 0) (list : List ℕ) → ((i j : ℕ) → j < i → i < b.pads → R i j ↔ S i j) → Follows (pair_trials b R list) (pair_trials b S list)
 pairs_follow b R S list same = (
   (λ (c8, (c9, _)). (c8, ((λ i l (j, k, s). c9 i l (j, k, (same i j k l).1 s)), tt))),
   λ r. ⊎_elim inl (λ (c8, a). inr (c8, ⊎_elim (λ (e, f). inl (e, first_fault_alike b.pads R S same r.at r.earlier f)) (λ (c9, none). absurd none) a)),

@@ -219,6 +219,6 @@ module _ (b : Board) (f : ℕ → ℕ) where
 -- THEOREM. Where pads are points, a layout is untouching exactly if no two leaders touch.
 pub points_apart : (b : Board) → Points b → (f : ℕ → ℕ) → Untouching b f ↔ LeadersApart b f
 points_apart b points f = (
-  (λ u. record { layout = u.layout; may = u.may; apart = λ i j l k t. u.apart i j l k (inl t) }),
-  (λ u. record { layout = u.layout; may = u.may; apart = λ i j l k t. u.apart i j l k ((points_iff b f i j (points i k) (points j (omega arith))).0 t) }),
+  (λ u. record { layout = u.layout; apart = λ i j l k t. u.apart i j l k (inl t) }),
+  (λ u. record { layout = u.layout; apart = λ i j l k t. u.apart i j l k ((points_iff b f i j (points i k) (points j (omega arith))).0 t) }),
 )

@@ -1,6 +1,6 @@
 -- The tests that the code computes for each fault of Refusals.antt, that each says what its fault says, and each call's tests in order.
 --     bad_size_iff, bad_weight_iff, bad_table_iff, bad_field_iff, not_above_iff, too_close_iff, same_name_iff, same_x_iff, bad_entry_iff, bad_number_iff
-use Rattle.std.specs.Prelude.{◌≡◌, ◌≢◌, ◌⊎◌, ◌↔◌, Bool, false, cond, not, ◌&&◌, ◌||◌, List, [], ◌∷◌, ◌++◌, ℕ, zero, suc, ◌+◌, ◌*◌, ◌-◌, ◌%◌, ◌≤◌, ◌<◌, T, eqb, leb, ltb, length, ℤ, pos, negsuc, neg_ℤ, ◌+ℤ◌, ◌-ℤ◌, ◌<ℤ◌}
+use Rattle.std.specs.Prelude.{◌≡◌, ◌≢◌, ◌⊎◌, ◌↔◌, Bool, false, not, ◌&&◌, ◌||◌, List, [], ◌∷◌, ◌++◌, ℕ, zero, suc, ◌+◌, ◌*◌, ◌-◌, ◌%◌, ◌≤◌, ◌<◌, T, eqb, leb, ltb, length, ℤ, pos, negsuc, neg_ℤ, ◌+ℤ◌, ◌-ℤ◌, ◌<ℤ◌}
 use Rattle.std.proofs.Common.{subst, inl, inr, ⊎_elim, le_of_suc-le-suc, not-suc-le-zero, eq-or-lt_of_le, arith}
 use Rattle.std.proofs.Math.Logic.{Iff·trans}
 use Rattle.std.proofs.Math.Bool.{or_assoc}
@@ -14,8 +14,7 @@ use Rattle.paper.specs.declared.Work.TheVariants.{Unlent, Lent}
 use Rattle.paper.specs.Job.{twos, count, name_of, half_of, x_of, y_of, last_of, port_count, port_of}
 use Rattle.paper.specs.Leaders.{Leader, Square}
 use Rattle.paper.specs.Layouts.{Board, board_from, held, leader, square, Badness, by_weights, by_table}
-use Rattle.paper.specs.Diagonal.{slant_of}
-use Rattle.paper.specs.Refusals.{work_needed, Earlier, BadSize, BadWeight, Outside, BadLast, BadPad, BadField, BadPoint, TooSteep, NotAbove, TooClose, SameName, SameX, BadEntry}
+use Rattle.paper.specs.Refusals.{work_needed, Earlier, BadSize, BadWeight, Outside, BadLast, BadPad, BadField, NotAbove, TooClose, SameName, SameX, BadEntry}
 
 -- p holds at some number below n; q holds of i and a number below i
 unfoldable pub somewhere : (ℕ → Bool) → ℕ → Bool
@@ -111,39 +110,6 @@ abbrev pub records_touch : Board → (ℕ → ℕ) → ℕ → ℕ → Bool
 records_touch b f i j =
     leaders_touch (leader b i (f i)) (leader b j (f j)) || (meets_large (leader b i (f i)) (square b j) || meets_large (leader b j (f j)) (square b i))
 
--- .. and of do-leaders, whose d is below x. Such a leader has one height at each x, and where two of them both run the difference of their heights never both rises and
--- falls. So the two ends are enough: the label edge, and the x of the pad further left. z is at most w + s; z + s is at most w
-abbrev pub up_to : ℤ → ℤ → ℕ → Bool
-up_to z w s = le_z z (w +ℤ pos s)
-
-abbrev pub down_to : ℤ → ℕ → ℤ → Bool
-down_to z s w = le_z (z +ℤ pos s) w
-
--- the leader of a pad at the height y to a port at the height `port` runs, g left of its pad, at the height z or below; or above
-abbrev pub runs_below : ℤ → ℤ → ℕ → ℤ → Bool
-runs_below y port g z = down_to y g z || le_z port z && up_to y z g
-
-abbrev pub runs_above : ℤ → ℤ → ℕ → ℤ → Bool
-runs_above y port g z = down_to z g y || le_z z port && up_to z y g
-
--- it starts on the one side of another leader and comes to that one's pad, g left of its own, on the other
-unfoldable pub crossing : ℤ → ℤ → ℤ → ℤ → ℕ → Bool
-crossing y port y2 port2 g = le_z port2 port && runs_below y port g y2 || le_z port port2 && runs_above y port g y2
-
-unfoldable pub diagonal_touches : Leader → Leader → Bool
-diagonal_touches l m =
-    cond (leb m.x l.x) (crossing l.y l.port m.y m.port (l.x - m.x)) (crossing m.y m.port l.y l.port (m.x - l.x))
-
-abbrev pub diagonals_touch : Board → (ℕ → ℕ) → ℕ → ℕ → Bool
-diagonals_touch b f i j = diagonal_touches (leader b i (f i)) (leader b j (f j))
-
--- 23, and 4 where half-sides are 0
-abbrev pub too_steep : Board → (ℕ → ℕ) → ℕ → Bool
-too_steep b f i = leb (b.x i) (slant_of b i (f i))
-
-abbrev pub bad_point : List ℕ → ℕ → Bool
-bad_point bytes i = bad_field Records bytes i || not (eqb (half_of bytes i) 0)
-
 -- 11
 abbrev pub bad_number : ℕ → ℕ → ℕ → Bool
 bad_number n i q = leb n i || leb n q
@@ -208,13 +174,6 @@ pub bad_field_iff : (form : Form) (pads : List ℕ) (i : ℕ) → T (bad_field f
 bad_field_iff form pads i =
     or_iff (bad_pad (name_of pads i) (half_of pads i) (x_of pads i) (y_of pads i)) (bad_last form (last_of pads i))
     (bad_pad_iff (name_of pads i) (half_of pads i) (x_of pads i) (y_of pads i)) (bad_last_iff form (last_of pads i))
-
-pub bad_point_iff : (bytes : List ℕ) (i : ℕ) → T (bad_point bytes i) ↔ BadPoint bytes i
-bad_point_iff bytes i = or_iff (bad_field Records bytes i) (not (eqb (half_of bytes i) 0)) (bad_field_iff Records bytes i) (not_iff (eqb (half_of bytes i) 0) (eqb_iff (half_of bytes i) 0))
-
--- 23
-pub too_steep_iff : (b : Board) (f : ℕ → ℕ) (i : ℕ) → T (too_steep b f i) ↔ TooSteep b f i
-too_steep_iff b f i = leb_iff (b.x i) (slant_of b i (f i))
 
 -- 5 and 12
 pub not_above_iff : (form : Form) (ports : List ℕ) (q : ℕ) → T (not_above form ports q) ↔ NotAbove (port_of form ports) q
@@ -302,15 +261,3 @@ measure_tests form pads ports given work list = sound_tests form pads ports give
 unfoldable pub draw_tests : List ℕ → ℕ → ℕ → ℕ → List Test
 draw_tests bytes i q room =
     size_tests Records bytes bytes ++ (at_whole 3 (ltb room 6) ∷ job_tests Records bytes bytes ++ (at_whole 11 (bad_number (count bytes) i q) ∷ []))
-
--- Of do-leaders.
-unfoldable pub diagonal_sound_tests : List ℕ → ℕ → List Test
-diagonal_sound_tests bytes room =
-    at_whole 1 (bad_size 16 160 bytes) ∷ at_whole 3 (ltb room (count bytes)) ∷ at_each 4 (count bytes) (bad_point bytes) ∷ board_tests Records bytes bytes
-
-unfoldable pub diagonal_layout_tests : Board → List ℕ → List Test
-diagonal_layout_tests b list =
-    at_each 8 b.pads (bad_entry b.ports list) ∷ at_each 23 b.pads (too_steep b (held list)) ∷ at_pairs 9 b.pads (diagonals_touch b (held list)) ∷ []
-
-unfoldable pub diagonal_measure_tests : List ℕ → List ℕ → List Test
-diagonal_measure_tests bytes list = diagonal_sound_tests bytes (length list) ++ diagonal_layout_tests (board_from Records bytes bytes) list

@@ -13,8 +13,8 @@ use Rattle.paper.specs.declared.Work.TheVariants.{Unlent}
 use Rattle.paper.specs.Job.{Job, records, twos, name_of, half_of, x_of, y_of, last_of, port_of}
 use Rattle.paper.specs.Layouts.{Board, board_of, held, Badness, by_weights, weighted, cost_of, sum, Same, Differ}
 use Rattle.paper.specs.Problem.{Problem, FirstBest, LastBest, PlaceBest, CountBest, labeling_of}
-use Rattle.paper.specs.Refusals.{Trial, Passed, sound_trials, layout_trials, first_by, measure_by, next_by, first_trials, next_trials, Calls, calls_by, calls_of, number_trials, count_trials, place_trials, svg_trials, text_trials, read_trials, csv_trials, RefusedBy, refusal}
-use Rattle.paper.specs.Promises.{Kept, in_turn, Following, FirstOver, NextOver, MeasureOver, FirstAnswers, PageAnswers, CountAnswers, PlaceAnswers, SvgAnswers, CsvAnswers, overwritten}
+use Rattle.paper.specs.Refusals.{Trial, first_trials, measure_trials, next_trials, Calls, calls_of, number_trials, count_trials, place_trials, svg_trials, text_trials, read_trials, csv_trials, RefusedBy, refusal}
+use Rattle.paper.specs.Promises.{Kept, in_turn, Following, FirstAnswers, NextAnswers, PageAnswers, MeasureAnswers, CountAnswers, PlaceAnswers, SvgAnswers, CsvAnswers, overwritten}
 use Rattle.paper.specs.laws.Totals.{total_of}
 use Rattle.paper.specs.laws.Trials.{passed_append, refused_right}
 use Rattle.paper.specs.Sheets.{copper, sheet, sheets, Each, Call, First, Next, Measure, Sheet, AllowedBy, Allowed, pages, PageSheet, PageAllowed}
@@ -30,10 +30,9 @@ use Rattle.paper.specs.Sheets.{J3plus, CountSheet, PlaceSheet, CountAllowed, Pla
 use Rattle.paper.specs.laws.Tests.{Test, somewhere, outside, between, leaders_touch, reaches, not_right, under_top, over_bottom, meets, meets_large, job_tests, layout_tests, sound_tests, measure_tests}
 use Rattle.paper.specs.Leaders.{length_of, bends_of}
 use Rattle.paper.specs.laws.Order.{below_suc}
-use Rattle.paper.specs.laws.Decided.{passes, refuses, TestsOf, tests_append, tests_pass, tests_refuse, sound_tests_of}
+use Rattle.paper.specs.laws.Decided.{passes, refuses, TestsOf, tests_append, tests_pass, tests_refuse, measure_tests_of, measure_tests_lem}
 use Rattle.paper.specs.laws.Accepted.{first_sound, sound_accepted, next_differ}
-use Rattle.paper.specs.laws.ByTrials as by
-use Rattle.paper.specs.laws.Regular.{Told, told, searchable, first_tests_by, measure_tests_by, next_tests_by, first_tests_lem, measure_tests_lem, next_tests_lem}
+use Rattle.paper.specs.laws.Regular.{first_tests, first_tests_lem, next_tests, next_tests_lem}
 use Rattle.paper.specs.laws.Pages.{Follow}
 use Rattle.paper.specs.laws.Places.{place_same, follow_place, number_tests, number_tests_lem, later_tests, later_trials, later_tests_lem}
 use Rattle.paper.specs.laws.Trying.{best_test, first_test, next_test, last_test, first_iff, next_iff, last_iff, Searchable, labeling_steady, labeling_searchable}
@@ -51,31 +50,25 @@ same_list (x ∷ xs) (y ∷ ys) = eqb x y && same_list xs ys
 abbrev same_rest : ℕ → List ℕ → List ℕ → Bool
 same_rest n l m = eqb (length m) (length l) && same_list (drop n m) (drop n l)
 
--- Of any problem, by a test of which layouts count and the tests of the call.
-abbrev first_holds : Problem → ((ℕ → ℕ) → Bool) → List Test → List ℕ → Answer → List ℕ → Bool
-first_holds p counts ts l (Total t) m = passes ts && (first_test p counts (held m) && (eqb t (p.value (held m)) && same_rest p.board.pads l m))
-first_holds p counts ts l End m = false
-first_holds p counts ts l (Refused r) m = refuses ts r && same_list m l
+abbrev first_holds : Job → Badness → Work → List ℕ → Answer → List ℕ → Bool
+first_holds job bad work l (Total t) m =
+    passes (first_tests job bad work (length l))
+    && (first_test (labeling_of job bad) (untouching_test (board_of job)) (held m) && (eqb t (total_of (board_of job) bad m) && same_rest (board_of job).pads l m))
+first_holds job bad work l End m = false
+first_holds job bad work l (Refused r) m = refuses (first_tests job bad work (length l)) r && same_list m l
 
-abbrev next_holds : Problem → ((ℕ → ℕ) → Bool) → List Test → List ℕ → Answer → List ℕ → Bool
-next_holds p counts ts l (Total t) m = passes ts && (next_test p counts (held l) (held m) && (eqb t (p.value (held m)) && same_rest p.board.pads l m))
-next_holds p counts ts l End m = passes ts && (last_test p counts (held l) && same_list m l)
-next_holds p counts ts l (Refused r) m = refuses ts r && same_list m l
+abbrev next_holds : Job → Badness → Work → List ℕ → Answer → List ℕ → Bool
+next_holds job bad work l (Total t) m =
+    passes (next_tests job bad work l)
+    && (next_test (labeling_of job bad) (untouching_test (board_of job)) (held l) (held m) && (eqb t (total_of (board_of job) bad m) && same_rest (board_of job).pads l m))
+next_holds job bad work l End m =
+    passes (next_tests job bad work l) && (last_test (labeling_of job bad) (untouching_test (board_of job)) (held l) && same_list m l)
+next_holds job bad work l (Refused r) m = refuses (next_tests job bad work l) r && same_list m l
 
-abbrev measure_holds : Problem → List Test → List ℕ → Answer → Bool
-measure_holds p ts l (Total t) = passes ts && eqb t (p.value (held l))
-measure_holds p ts l End = false
-measure_holds p ts l (Refused r) = refuses ts r
-
--- On a job.
-abbrev first_tests : Job → Badness → Work → ℕ → List Test
-first_tests job bad work = first_tests_by (labeling_of job bad) (untouching_test (board_of job)) (sound_tests_of job bad work)
-
-abbrev next_tests : Job → Badness → Work → List ℕ → List Test
-next_tests job bad work = next_tests_by (labeling_of job bad) (untouching_test (board_of job)) (sound_tests_of job bad work) (layout_tests (board_of job))
-
-abbrev job_measure_tests : Job → Badness → List ℕ → List Test
-job_measure_tests job bad = measure_tests_by (sound_tests_of job bad Unlent) (layout_tests (board_of job))
+abbrev measure_holds : Job → Badness → List ℕ → Answer → Bool
+measure_holds job bad l (Total t) = passes (measure_tests_of job bad Unlent l) && eqb t (total_of (board_of job) bad l)
+measure_holds job bad l End = false
+measure_holds job bad l (Refused r) = refuses (measure_tests_of job bad Unlent l) r
 
 -- k layouts that follow f 0
 abbrev follow_test : Problem → ((ℕ → ℕ) → Bool) → (ℕ → ℕ → ℕ) → ℕ → Bool
@@ -132,10 +125,9 @@ place_holds job bad ls numbers place l End m = false
 place_holds job bad ls numbers place l (Refused r) m = refuses (place_tests job bad (length ls) numbers place (length l)) r && same_list m l
 
 abbrev holds_for : Call → Sheet → Bool
-holds_for First s =
-    first_holds (labeling_of s.job s.bad) (untouching_test (board_of s.job)) (first_tests s.job s.bad s.work (length s.before)) s.before s.answer s.after
-holds_for Next s = next_holds (labeling_of s.job s.bad) (untouching_test (board_of s.job)) (next_tests s.job s.bad s.work s.before) s.before s.answer s.after
-holds_for Measure s = measure_holds (labeling_of s.job s.bad) (job_measure_tests s.job s.bad s.before) s.before s.answer && same_list s.after s.before
+holds_for First s = first_holds s.job s.bad s.work s.before s.answer s.after
+holds_for Next s = next_holds s.job s.bad s.work s.before s.answer s.after
+holds_for Measure s = measure_holds s.job s.bad s.before s.answer && same_list s.after s.before
 
 abbrev holds : Sheet → Bool
 holds s = holds_for s.call s
@@ -164,63 +156,6 @@ same_rest_lem n l m t =
     at : (o : List ℕ) (k : ℕ) → n ≤ k → get_or (drop n o) (k - n) 0 ≡ get_or o k 0
     at o k h = let d : n + (k - n) ≡ k = omega arith in rw d at (get_or-drop n o (k - n) 0)
 
--- First's and Next's, by sound trials and the layout's that are told; and Measure's.
-module _ (p : Problem) (sound : ℕ → List Trial) (lay : List ℕ → List Trial) (S : Told p sound lay) (other : ℕ → List Trial) (l : List ℕ) where
-  first_holds_lem : (a : Answer) (m : List ℕ) → T (first_holds p S.test (first_tests_by p S.test S.sound_tests (length l)) l a m) → FirstOver (calls_by p sound other lay) l a m
-  first_holds_lem (Total t) m h =
-      let ts = first_tests_by p S.test S.sound_tests (length l) in
-      let c = eqb t (p.value (held m)) in
-      let d = same_rest p.board.pads l m in
-      let e = first_test p S.test (held m) in
-      let u = (both (passes ts) (e && (c && d))).0 h in
-      let w = (both e (c && d)).0 u.1 in
-      let x = (both c d).0 w.1 in
-      let q = tests_pass ts (first_by p sound (length l)) (first_tests_lem p sound lay S (length l)) u.0 in
-      let s = searchable p sound lay S (length l) (by.first_sound p sound (length l) q) in
-      (q, (first_iff p s (held m)).0 w.0, eqb→eq t (p.value (held m)) x.0, same_rest_lem p.board.pads l m x.1)
-  first_holds_lem End m h = absurd h
-  first_holds_lem (Refused r) m h =
-      let ts = first_tests_by p S.test S.sound_tests (length l) in
-      let u = (both (refuses ts r) (same_list m l)).0 h in
-      (tests_refuse ts (first_by p sound (length l)) r (first_tests_lem p sound lay S (length l)) u.0, same_list_lem m l u.1)
-
-  abbrev next_searchable : Passed (next_by p sound lay l) → Searchable p
-  next_searchable q = searchable p sound lay S (length l) (by.measure_accepted p sound lay l (S.lay_is l) (by.next_measured p sound lay l q)).0
-
-  next_holds_lem : (a : Answer) (m : List ℕ) → T (next_holds p S.test (next_tests_by p S.test S.sound_tests S.lay_tests l) l a m) → NextOver (calls_by p sound other lay) l a m
-  next_holds_lem (Total t) m h =
-      let ts = next_tests_by p S.test S.sound_tests S.lay_tests l in
-      let c = eqb t (p.value (held m)) in
-      let d = same_rest p.board.pads l m in
-      let e = next_test p S.test (held l) (held m) in
-      let u = (both (passes ts) (e && (c && d))).0 h in
-      let w = (both e (c && d)).0 u.1 in
-      let x = (both c d).0 w.1 in
-      let q = tests_pass ts (next_by p sound lay l) (next_tests_lem p sound lay S l) u.0 in
-      (q, (next_iff p (next_searchable q) (held l) (held m)).0 w.0, eqb→eq t (p.value (held m)) x.0, same_rest_lem p.board.pads l m x.1)
-  next_holds_lem End m h =
-      let ts = next_tests_by p S.test S.sound_tests S.lay_tests l in
-      let e = last_test p S.test (held l) in
-      let u = (both (passes ts) (e && same_list m l)).0 h in
-      let w = (both e (same_list m l)).0 u.1 in
-      let q = tests_pass ts (next_by p sound lay l) (next_tests_lem p sound lay S l) u.0 in
-      (q, (last_iff p (next_searchable q) (held l)).0 w.0, same_list_lem m l w.1)
-  next_holds_lem (Refused r) m h =
-      let ts = next_tests_by p S.test S.sound_tests S.lay_tests l in
-      let u = (both (refuses ts r) (same_list m l)).0 h in
-      (tests_refuse ts (next_by p sound lay l) r (next_tests_lem p sound lay S l) u.0, same_list_lem m l u.1)
-
-  measure_holds_lem : (a : Answer) → T (measure_holds p (measure_tests_by S.sound_tests S.lay_tests l) l a) → MeasureOver (calls_by p other sound lay) l a
-  measure_holds_lem (Total t) h =
-      let ts = measure_tests_by S.sound_tests S.lay_tests l in
-      let u = (both (passes ts) (eqb t (p.value (held l)))).0 h in
-      (tests_pass ts (measure_by sound lay l) (measure_tests_lem p sound lay S l) u.0, eqb→eq t (p.value (held l)) u.1)
-  measure_holds_lem End h = absurd h
-  measure_holds_lem (Refused r) h = tests_refuse (measure_tests_by S.sound_tests S.lay_tests l) (measure_by sound lay l) r (measure_tests_lem p sound lay S l) h
-
-job_first_tests : (job : Job) (bad : Badness) (work : Work) (room : ℕ) → TestsOf (first_tests job bad work room) (first_trials job bad work room)
-job_first_tests job bad work = first_tests_lem (labeling_of job bad) (sound_trials job bad work) (layout_trials (board_of job)) (told job bad work)
-
 module _ (job : Job) (bad : Badness) (work : Work) (l : List ℕ) where
   abbrev b : Board
   b = board_of job
@@ -231,18 +166,52 @@ module _ (job : Job) (bad : Badness) (work : Work) (l : List ℕ) where
   abbrev counts : (ℕ → ℕ) → Bool
   counts = untouching_test b
 
-  abbrev searchable_on : Differ b → Searchable p
-  searchable_on = labeling_searchable b (cost_of b bad)
+  abbrev searchable : Differ b → Searchable p
+  searchable = labeling_searchable b (cost_of b bad)
 
-  next_passes : T (passes (next_tests job bad work l)) → Passed (next_trials job bad work l)
-  next_passes = tests_pass (next_tests job bad work l) (next_trials job bad work l) (next_tests_lem p (sound_trials job bad work) (layout_trials b) (told job bad work) l)
+  first_holds_lem : (a : Answer) (m : List ℕ) → T (first_holds job bad work l a m) → FirstAnswers job bad work l a m
+  first_holds_lem (Total t) m h =
+      let c = eqb t (total_of (board_of job) bad m) in
+      let d = same_rest (board_of job).pads l m in
+      let e = first_test p counts (held m) in
+      let u = (both (passes (first_tests job bad work (length l))) (e && (c && d))).0 h in
+      let w = (both e (c && d)).0 u.1 in
+      let x = (both c d).0 w.1 in
+      let q = tests_pass (first_tests job bad work (length l)) (first_trials job bad work (length l)) (first_tests_lem job bad work (length l)) u.0 in
+      let differ = (sound_accepted job bad work (length l) (first_sound job bad work (length l) q)).0.proper.differ in
+      (q, (first_iff p (searchable differ) (held m)).0 w.0, eqb→eq t (total_of (board_of job) bad m) x.0, same_rest_lem (board_of job).pads l m x.1)
+  first_holds_lem End m h = absurd h
+  first_holds_lem (Refused r) m h =
+      let u = (both (refuses (first_tests job bad work (length l)) r) (same_list m l)).0 h in
+      let q = tests_refuse (first_tests job bad work (length l)) (first_trials job bad work (length l)) r (first_tests_lem job bad work (length l)) u.0 in
+      (q, same_list_lem m l u.1)
+
+  next_holds_lem : (a : Answer) (m : List ℕ) → T (next_holds job bad work l a m) → NextAnswers job bad work l a m
+  next_holds_lem (Total t) m h =
+      let c = eqb t (total_of (board_of job) bad m) in
+      let d = same_rest (board_of job).pads l m in
+      let e = next_test p counts (held l) (held m) in
+      let u = (both (passes (next_tests job bad work l)) (e && (c && d))).0 h in
+      let w = (both e (c && d)).0 u.1 in
+      let x = (both c d).0 w.1 in
+      let q = tests_pass (next_tests job bad work l) (next_trials job bad work l) (next_tests_lem job bad work l) u.0 in
+      (q, (next_iff p (searchable (next_differ job bad work l q)) (held l) (held m)).0 w.0, eqb→eq t (total_of (board_of job) bad m) x.0, same_rest_lem (board_of job).pads l m x.1)
+  next_holds_lem End m h =
+      let e = last_test p counts (held l) in
+      let u = (both (passes (next_tests job bad work l)) (e && same_list m l)).0 h in
+      let w = (both e (same_list m l)).0 u.1 in
+      let q = tests_pass (next_tests job bad work l) (next_trials job bad work l) (next_tests_lem job bad work l) u.0 in
+      (q, (last_iff p (searchable (next_differ job bad work l q)) (held l)).0 w.0, same_list_lem m l w.1)
+  next_holds_lem (Refused r) m h =
+      let u = (both (refuses (next_tests job bad work l) r) (same_list m l)).0 h in
+      (tests_refuse (next_tests job bad work l) (next_trials job bad work l) r (next_tests_lem job bad work l) u.0, same_list_lem m l u.1)
 
   module _ (differ : Differ b) where
     follow_told : (f : ℕ → ℕ → ℕ) (k : ℕ) → T (follow_test p counts f k) → Follow p k f
     follow_told f zero h = λ j i. absurd (omega arith)
     follow_told f (suc k) h =
         let u = (both (follow_test p counts f k) (next_test p counts (f k) (f (suc k)))).0 h in
-        below_suc k (follow_told f k u.0) ((next_iff p (searchable_on differ) (f k) (f (suc k))).0 u.1)
+        below_suc k (follow_told f k u.0) ((next_iff p (searchable differ) (f k) (f (suc k))).0 u.1)
 
     page_told : (before : List ℕ) (k : ℕ) (m : List ℕ) → T (page_test p counts l before k m) → Following p l before k m
     page_told before k m h =
@@ -256,18 +225,25 @@ module _ (job : Job) (bad : Badness) (work : Work) (l : List ℕ) where
         record {
           fit = leb→le (k * (board_of job).pads) (length before) w.0;
           follow = follow_told f k w.1;
-          all = (or_iff d (last_test p counts (f k)) (ltb_iff (length before) (suc k * (board_of job).pads)) (last_iff p (searchable_on differ) (f k))).0 x.0;
+          all = (or_iff d (last_test p counts (f k)) (ltb_iff (length before) (suc k * (board_of job).pads)) (last_iff p (searchable differ) (f k))).0 x.0;
           kept = same_rest_lem (k * (board_of job).pads) before m x.1;
         }
 
   page_holds_lem : (before : List ℕ) (a : Counted) (m : List ℕ) → T (page_holds job bad work l before a m) → PageAnswers job bad work l before a m
   page_holds_lem before (Many k) m h =
       let u = (both (passes (next_tests job bad work l)) (page_test p counts l before k m)).0 h in
-      let q = next_passes u.0 in
+      let q = tests_pass (next_tests job bad work l) (next_trials job bad work l) (next_tests_lem job bad work l) u.0 in
       (q, page_told (next_differ job bad work l q) before k m u.1)
   page_holds_lem before (NotCounted r) m h =
       let u = (both (refuses (next_tests job bad work l) r) (same_list m before)).0 h in
-      (tests_refuse (next_tests job bad work l) (next_trials job bad work l) r (next_tests_lem p (sound_trials job bad work) (layout_trials b) (told job bad work) l) u.0, same_list_lem m before u.1)
+      (tests_refuse (next_tests job bad work l) (next_trials job bad work l) r (next_tests_lem job bad work l) u.0, same_list_lem m before u.1)
+
+  measure_holds_lem : (a : Answer) → T (measure_holds job bad l a) → MeasureAnswers job bad l a
+  measure_holds_lem (Total t) h =
+      let u = (both (passes (measure_tests_of job bad Unlent l)) (eqb t (total_of (board_of job) bad l))).0 h in
+      (tests_pass (measure_tests_of job bad Unlent l) (measure_trials job bad Unlent l) (measure_tests_lem job bad Unlent l) u.0, eqb→eq t (total_of (board_of job) bad l) u.1)
+  measure_holds_lem End h = absurd h
+  measure_holds_lem (Refused r) h = tests_refuse (measure_tests_of job bad Unlent l) (measure_trials job bad Unlent l) r (measure_tests_lem job bad Unlent l) h
 
   -- Layouts that pass their test are at their places, and as many as the count.
   module _ (differ : Differ b) (ls : List (List ℕ)) (h : T (run_test p counts l ls)) where
@@ -277,8 +253,8 @@ module _ (job : Job) (bad : Badness) (work : Work) (l : List ℕ) where
         let e = last_test p counts (entry (l ∷ ls) (length ls)) in
         let u = (both (first_test p counts (held l)) (f && e)).0 h in
         let w = (both f e).0 u.1 in
-        let last = (last_iff p (searchable_on differ) (entry (l ∷ ls) (length ls))).0 w.1 in
-        ((first_iff p (searchable_on differ) (held l)).0 u.0, follow_told differ (entry (l ∷ ls)) (length ls) w.0, last)
+        let last = (last_iff p (searchable differ) (entry (l ∷ ls) (length ls))).0 w.1 in
+        ((first_iff p (searchable differ) (held l)).0 u.0, follow_told differ (entry (l ∷ ls)) (length ls) w.0, last)
 
     run_place : (k : ℕ) → k < length (l ∷ ls) → PlaceBest p k (entry (l ∷ ls) k)
     run_place k i = follow_place p (entry (l ∷ ls)) run_parts.0 k (λ j g. run_parts.1 j (omega arith))
@@ -294,23 +270,11 @@ module _ (job : Job) (bad : Badness) (work : Work) (l : List ℕ) where
 
 -- A sheet that passes its test is one that its call's promise allows.
 holds_allowed : (c : Call) (s : Sheet) → T (holds_for c s) → AllowedBy c s
-holds_allowed First s h = (
-  s.answer,
-  first_holds_lem (labeling_of s.job s.bad) (sound_trials s.job s.bad s.work) (layout_trials (board_of s.job)) (told s.job s.bad s.work)
-      (sound_trials s.job s.bad Unlent) s.before s.answer s.after h,
-  refl,
-)
-holds_allowed Next s h = (
-  s.answer,
-  next_holds_lem (labeling_of s.job s.bad) (sound_trials s.job s.bad s.work) (layout_trials (board_of s.job)) (told s.job s.bad s.work)
-      (sound_trials s.job s.bad Unlent) s.before s.answer s.after h,
-  refl,
-)
+holds_allowed First s h = (s.answer, first_holds_lem s.job s.bad s.work s.before s.answer s.after h, refl)
+holds_allowed Next s h = (s.answer, next_holds_lem s.job s.bad s.work s.before s.answer s.after h, refl)
 holds_allowed Measure s h =
-    let sound = sound_trials s.job s.bad Unlent in
-    let u = (both (measure_holds (labeling_of s.job s.bad) (job_measure_tests s.job s.bad s.before) s.before s.answer) (same_list s.after s.before)).0 h in
-    let held-so = measure_holds_lem (labeling_of s.job s.bad) sound (layout_trials (board_of s.job)) (told s.job s.bad Unlent) sound s.before s.answer u.0 in
-    ((s.answer, held-so, refl), same_list_lem s.after s.before u.1)
+    let u = (both (measure_holds s.job s.bad s.before s.answer) (same_list s.after s.before)).0 h in
+    ((s.answer, measure_holds_lem s.job s.bad Unlent s.before s.answer u.0, refl), same_list_lem s.after s.before u.1)
 
 page_allowed : (s : PageSheet) → T (page_sheet_holds s) → PageAllowed s
 page_allowed s h = (s.answer, page_holds_lem s.job s.bad Unlent s.given s.before s.answer s.after h, refl)
@@ -327,7 +291,7 @@ module _ (job : Job) (bad : Badness) (ls : List (List ℕ)) (is : CountBest (lab
   count_tests_lem : TestsOf (count_tests job bad (length ls) numbers) (count_trials calls numbers)
   count_tests_lem =
       tests_append (first_tests job bad Unlent n) (number_tests n numbers (length ls)) (first_trials job bad Unlent n) (number_trials (labeling_of job bad) numbers)
-      (job_first_tests job bad Unlent n) (λ _. number_tests_lem (labeling_of job bad) (length ls) is numbers)
+      (first_tests_lem job bad Unlent n) (λ _. number_tests_lem (labeling_of job bad) (length ls) is numbers)
 
   count-holds : (a : Counted) → T (count_holds job bad (length ls) numbers a) → CountAnswers job bad numbers a
   count-holds (Many j) h =
@@ -346,7 +310,7 @@ module _ (job : Job) (bad : Badness) (ls : List (List ℕ)) (is : CountBest (lab
     place_tests_lem =
         tests_append (first_tests job bad Unlent (length l)) (later_tests n numbers (length ls) place)
         (first_trials job bad Unlent (length l)) (later_trials (labeling_of job bad) numbers place)
-        (job_first_tests job bad Unlent (length l)) (λ _. later_tests_lem (labeling_of job bad) (length ls) is numbers place)
+        (first_tests_lem job bad Unlent (length l)) (λ _. later_tests_lem (labeling_of job bad) (length ls) is numbers place)
 
     place-holds : (a : Answer) (m : List ℕ) → T (place_holds job bad ls numbers place l a m) → PlaceAnswers job bad numbers place l a m
     place-holds (Total t) m h =
@@ -452,16 +416,13 @@ all_hold_lem : T (all_hold holds sheets) × T (all_hold page_sheet_holds pages) 
     × T (all_hold count_sheet_holds count_sheets) × T (all_hold place_sheet_holds place_sheets) × T (all_hold svg_sheet_holds svg_sheets)
     × T (all_hold csv_sheet_holds csv_sheets)
 unfolding heads words any some_word least_test misled untouching_test differ_right decided_at before_test cheaper best_test first_test later_test next_test last_test
-    somewhere outside between leaders_touch reaches not_right under_top over_bottom meets meets_large job_tests layout_tests sound_tests first_tests_by measure_tests_by next_tests_by measure_tests
+    somewhere outside between leaders_touch reaches not_right under_top over_bottom meets meets_large job_tests layout_tests sound_tests first_tests measure_tests next_tests
     twos name_of half_of x_of y_of last_of port_of length_of bends_of sum weighted digits decimal quarters numeral point_text line_text by_bend
     listed list_from line_front field_front word_front digits_front natural_front signed_front cap fitting
 all_hold_lem = (tt, tt, tt, tt, tt, tt, tt, tt, tt)
 
 pub copper-first : FirstAnswers (records (copper 4)) (by_weights 1 0) Unlent (9 ∷ 9 ∷ []) (Total 84) (1 ∷ 0 ∷ [])
-copper-first =
-    let job = records (copper 4) in
-    let bad = by_weights 1 0 in
-    first_holds_lem (labeling_of job bad) (sound_trials job bad Unlent) (layout_trials (board_of job)) (told job bad Unlent) (sound_trials job bad Unlent) (9 ∷ 9 ∷ []) (Total 84) (1 ∷ 0 ∷ []) all_hold_lem.2
+copper-first = first_holds_lem (records (copper 4)) (by_weights 1 0) Unlent (9 ∷ 9 ∷ []) (Total 84) (1 ∷ 0 ∷ []) all_hold_lem.2
 
 -- THEOREM. Every sheet of the list is a reply that its call's promise allows. (It allows no other: laws/Determined.)
 pub worked : Each Allowed sheets
@@ -474,7 +435,7 @@ worked_pages = all_allowed page_sheet_holds PageAllowed page_allowed pages all_h
 -- THEOREM. So is every sheet of Count's list, and of Place's.
 three_differ : Differ (board_of three)
 three_differ =
-    let first = tests_pass (first_tests three even Unlent 3) (first_trials three even Unlent 3) (job_first_tests three even Unlent 3) all_hold_lem.3 in
+    let first = tests_pass (first_tests three even Unlent 3) (first_trials three even Unlent 3) (first_tests_lem three even Unlent 3) all_hold_lem.3 in
     (sound_accepted three even Unlent 3 (first_sound three even Unlent 3 first)).0.proper.differ
 
 three-count : CountBest (labeling_of three even) 3
