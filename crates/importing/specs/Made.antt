@@ -9,8 +9,8 @@ use Rattle.paper.specs.laws.Trials.{passed_append, refused_right}
 use Rattle.paper.specs.laws.Tests.{at_whole}
 use Rattle.paper.specs.laws.Parsing.{Row, listed, good, rows_bytes}
 use Rattle.paper.specs.laws.Imported.{record_tests, row_tests, row_tests_lem, text_passed, csv_bad, csv_made}
-use Rattle.csv.specs.declared.Listed.TheVariants.{Bad}
-use Rattle.csv.specs.Lines.{ListedIs}
+use Rattle.padlist.specs.declared.Listed.TheVariants.{Bad}
+use Rattle.padlist.specs.Lines.{ListedIs}
 use Rattle.checks.specs.declared.Verdict.{Verdict}
 use Rattle.checks.specs.declared.Verdict.TheVariants.{Sound, Refused}
 use Rattle.checks.specs.Verdicts.{and_then, verdict_after}

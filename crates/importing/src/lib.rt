@@ -4,7 +4,7 @@ ghost use Rattle.paper.specs.Promises.{CsvAnswers};
 ghost use Rattle.importing.specs.Made.{MadeIs};
 
 use checks::{Verdict, verdicts};
-use csv::Listed;
+use padlist::Listed;
 use paper::{Counted, Refusal};
 
 // A refusal of the text.
@@ -48,7 +48,7 @@ pub fn read(text: &[u8], pads: &mut [u8]) -> Counted
         return refused(20, 0);
     }
     let mut made = [0u8; 1024];
-    let listed = csv::lines(text, &mut made);
+    let listed = padlist::lines(text, &mut made);
     match listed {
         Listed::Pads(n) => keep(&made, n, pads),
         Listed::Bad(line) => refused(21, line),

@@ -3,7 +3,7 @@
 --     m is the number that C gets, before and after are what the lent list holds at entry and at exit, bad the weights or the table, work the length of the
 --     work list, if one is lent, numbers the length of the buffer that Count and Place are lent; a job is of either form
 use Rattle.std.specs.Prelude.{◌≡◌, refl, ◌≢◌, ◌⊎◌, ◌↔◌, false, List, [], ◌∷◌, ◌++◌, ℕ, suc, ◌+◌, ◌*◌, ◌/◌, ◌%◌, ◌≤◌, ◌<◌, T, eqb, length, get_or, take, ℤ, pos, negsuc, neg_ℤ, nat_abs, ◌+ℤ◌, ◌≤ℤ◌, Float}
-use Rattle.std.proofs.Math.Logic.{Iff·trans}
+use Rattle.std.proofs.Math.Logic.Iff
 use Rattle.std.proofs.Common.{arith}
 use Rattle.std.specs.Float.{binary32, fin}
 use Rattle.std.specs.Float.Ieee.{mul, of_int}
@@ -744,13 +744,13 @@ csv_bound text before k after p = by.Bounds.csv_bound text before k after ((csv_
 -- refuses as the pads are: by 1, 22, 4, 6 or 7. So a number out of range is 4, however long it is.
 pub csv_too_long : (text before : List ℕ) (m : ℤ) (after : List ℕ) → CsvPromise text before m after → (m ≡ refusal_number (refusal 20 0 0)) ↔ (16384 < length text)
 csv_too_long text before m after p =
-    Iff·trans (by.Numbers.refuses_iff (csv_trials text (length before)) (after ≡ before) m (refusal 20 0 0) (omega arith) (csv_refuses text before m after p))
+    Iff.trans (by.Numbers.refuses_iff (csv_trials text (length before)) (after ≡ before) m (refusal 20 0 0) (omega arith) (csv_refuses text before m after p))
     (by.Readable.csv_20 text (length before))
 
 pub csv_bad_line : (text before : List ℕ) (m : ℤ) (after : List ℕ) → CsvPromise text before m after → (i : ℕ) → i < 65536
     → (m ≡ refusal_number (refusal 21 i 0)) ↔ ((length text ≤ 16384) × Smallest (BadLine text) i)
 csv_bad_line text before m after p i h =
-    Iff·trans (by.Numbers.refuses_iff (csv_trials text (length before)) (after ≡ before) m (refusal 21 i 0) (omega arith) (csv_refuses text before m after p))
+    Iff.trans (by.Numbers.refuses_iff (csv_trials text (length before)) (after ≡ before) m (refusal 21 i 0) (omega arith) (csv_refuses text before m after p))
     (by.Readable.csv_21 text (length before) i)
 
 pub csv_as_pads : (text before : List ℕ) (m : ℤ) (after : List ℕ) → CsvPromise text before m after → (pads : List Pad) → ReadsAs text pads → length text ≤ 16384

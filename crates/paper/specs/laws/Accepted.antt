@@ -2,7 +2,7 @@
 --     sound_accepted, draw_accepted: the job's fields, weights or table, and room;  first_sound, first_some, first_passed: First's are these, and some layout counts;  layout_passed: 8 and 9 on any board;  measure_accepted, untouching_passed: Measure's
 use Rattle.std.specs.Prelude.{◌≡◌, ◌≢◌, ◌↔◌, List, [], ◌∷◌, ℕ, zero, suc, ◌*◌, ◌%◌, ◌-◌, ◌≤◌, ◌<◌, length, get_or, pos, nat_abs, ◌+ℤ◌, ◌-ℤ◌, ◌≤ℤ◌}
 use Rattle.std.proofs.Common.{ap, inl, inr, ⊎_elim, lt_of_not-le, le_of_suc-le-suc, not-suc-le-zero, eq-or-lt_of_le, arith}
-use Rattle.std.proofs.Math.Logic.{Dec·not-not}
+use Rattle.std.proofs.Math.Logic.Dec
 use Rattle.std.proofs.Math.Decide.{ℕ_discrete}
 use Rattle.numbers.specs.Whole.{whole, nlt_num, plus_num, less_num}
 use Rattle.paper.specs.declared.Refusal.{Refusal}
@@ -54,7 +54,7 @@ pub record Sized (pads : List ℕ) : Type 0 where
 pub sized : (pads : List ℕ) → ¬ BadSize 16 1024 pads → Sized pads
 sized pads size =
     let none : length pads ≢ 0 = λ e. size (inl e) in
-    let rest = (Dec·not-not (ℕ_discrete (length pads % 16) 0)).0 (λ n. size (inr (inl n))) in
+    let rest = (Dec.not-not (ℕ_discrete (length pads % 16) 0)).0 (λ n. size (inr (inl n))) in
     let long = not_lt (λ l. size (inr (inr l))) in
     record { long = long; some = omega arith; few = omega arith; whole = omega arith }
 
@@ -132,7 +132,7 @@ Fair b (by_table figures) = length figures ≡ b.pads * b.ports
 pub fair_iff : (b : Board) (bad : Badness) → Clean (badness_trial b bad) ↔ Fair b bad
 fair_iff b (by_weights lw bw) =
     ((λ c. (not_lt (λ h. c 0 (omega arith) (inl h)), not_lt (λ h. c 0 (omega arith) (inr h)))), (λ f i l. ⊎_elim (λ h. omega (arith, f.0)) (λ h. omega (arith, f.1))))
-fair_iff b (by_table figures) = ((λ c. (Dec·not-not (ℕ_discrete (length figures) (b.pads * b.ports))).0 (c 0 (omega arith))), (λ f i l n. n f))
+fair_iff b (by_table figures) = ((λ c. (Dec.not-not (ℕ_discrete (length figures) (b.pads * b.ports))).0 (c 0 (omega arith))), (λ f i l n. n f))
 
 -- 1 to 7 are passed: an accepted job, weights in range or a table of that length, and room for the layout.
 pub sound_accepted : (job : Job) (bad : Badness) (work : Work) (room : ℕ) → Passed (sound_trials job bad work room)

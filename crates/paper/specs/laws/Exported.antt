@@ -3,7 +3,7 @@
 --     svg_tests_lem, svg_decided;  svg_fills_one, svg_text: what an answer tells
 use Rattle.std.specs.Prelude.{◌≡◌, refl, ◌↔◌, List, [], ◌∷◌, ◌++◌, ℕ, ◌*◌, ◌≤◌, ◌<◌, ltb, length}
 use Rattle.std.proofs.Common.{ap, sym, subst, ◌∙◌, arith}
-use Rattle.std.proofs.Math.Logic.{Iff·trans}
+use Rattle.std.proofs.Math.Logic.Iff
 use Rattle.numbers.specs.Tests.{ltb_iff}
 use Rattle.paper.specs.declared.Refusal.{Refusal}
 use Rattle.paper.specs.declared.Work.TheVariants.{Unlent}
@@ -88,7 +88,7 @@ module _ (job list : List ℕ) where
         (measure_trials (records job) (by_weights 0 0) Unlent list) (of_whole 19 (TooLong (board_of (records job)) (held list) room) ∷ [])
         (measure_tests_lem (records job) (by_weights 0 0) Unlent list)
         (λ p.
-        let says = Iff·trans (ltb_iff room (length text)) (long_iff (board_of (records job)) (held list) room (all_on_sheet p)) in
+        let says = Iff.trans (ltb_iff room (length text)) (long_iff (board_of (records job)) (held list) room (all_on_sheet p)) in
         (whole_test 19 (TooLong (board_of (records job)) (held list) room) (ltb room (length text)) says, λ _. tt))
 
     -- THEOREM. They are passed, or one of them refuses.

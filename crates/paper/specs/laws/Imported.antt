@@ -3,7 +3,7 @@
 --     csv_large, csv_bad, text_passed: 20 and 21;  csv_decided, csv_filled, csv_fills_one
 use Rattle.std.specs.Prelude.{◌≡◌, refl, ◌≢◌, ◌⊎◌, ◌↔◌, Bool, ◌&&◌, ◌||◌, List, [], ◌∷◌, ◌++◌, map, ℕ, zero, suc, ◌+◌, ◌*◌, ◌-◌, ◌≤◌, ◌<◌, T, eqb, ltb, length, ℤ, pos, negsuc, nat_abs}
 use Rattle.std.proofs.Common.{sym, ap, subst, ◌∙◌, inl, inr, ⊎_elim, arith, lt-ltb, le-ltb}
-use Rattle.std.proofs.Math.Logic.{Iff·trans}
+use Rattle.std.proofs.Math.Logic.Iff
 use Rattle.std.proofs.Math.Decide.{dec_lt}
 use Rattle.std.proofs.lemmas.List.{length-map}
 use Rattle.numbers.specs.Tests.{both, or_iff, ltb_iff, eqb_iff}
@@ -138,7 +138,7 @@ module _ (pads : List Pad) (i : ℕ) (h : i < length pads) where
   field_iff =
       let is = row-at pads i h in
       let rows = map row_of pads in
-      Iff·trans (bad_field_iff Slots (made_of pads) i)
+      Iff.trans (bad_field_iff Slots (made_of pads) i)
       (rw (row_name rows i inside, row_half rows i inside, row_x rows i inside, row_y rows i inside, row_last rows i inside, is) (row_bad_iff (pad_at pads i)))
 
   pub exact_name : ¬ BadRead (pad_at pads i) → name_of (made_of pads) i ≡ (pad_at pads i).name
@@ -181,7 +181,7 @@ module _ (text : List ℕ) (pads : List Pad) (reads : ReadsAs text pads) where
   same_iff : (R : ℕ → ℕ → Bool) (f : Pad → ℕ) (g : ℕ → ℕ) → InRange pads → ((i j : ℕ) → T (R i j) ↔ (g i ≡ g j)) → ((i : ℕ) → i < length pads → g i ≡ f (pad_at pads i)) → (i : ℕ)
       → T (wide (length pads) (with_earlier R) i) ↔ ReadWith text (λ pads. (i < length pads) × Earlier (λ i j. f (pad_at pads i) ≡ f (pad_at pads j)) i)
   same_iff R f g ok says is i =
-      Iff·trans (and_then_iff (ltb i (length pads)) (with_earlier R i) (ltb_iff i (length pads)) (λ h.
+      Iff.trans (and_then_iff (ltb i (length pads)) (with_earlier R i) (ltb_iff i (length pads)) (λ h.
       with_earlier_iff R (λ i j. f (pad_at pads i) ≡ f (pad_at pads j)) i (λ j k. rw (← is i h, ← is j (omega arith)) (says i j))))
       (read_iff (λ pads. (i < length pads) × Earlier (λ i j. f (pad_at pads i) ≡ f (pad_at pads j)) i))
 
@@ -197,12 +197,12 @@ module _ (text : List ℕ) (pads : List Pad) (reads : ReadsAs text pads) where
     pub wide_tests_lem : TestsOf (wide_tests (length pads) (made_of pads) room) (read_trials text room)
     wide_tests_lem = (
       whole_test 1 _ (eqb (length pads) 0 || ltb 64 (length pads))
-          (Iff·trans (or_iff (eqb (length pads) 0) (ltb 64 (length pads)) (eqb_iff (length pads) 0) (ltb_iff 64 (length pads))) (read_iff (λ pads. (length pads ≡ 0) ⊎ (64 < length pads)))),
+          (Iff.trans (or_iff (eqb (length pads) 0) (ltb 64 (length pads)) (eqb_iff (length pads) 0) (ltb_iff 64 (length pads))) (read_iff (λ pads. (length pads ≡ 0) ⊎ (64 < length pads)))),
       λ some. (
-        whole_test 22 _ (ltb room (16 * length pads)) (Iff·trans (ltb_iff room (16 * length pads)) (read_iff (λ pads. room < 16 * length pads))),
+        whole_test 22 _ (ltb room (16 * length pads)) (Iff.trans (ltb_iff room (16 * length pads)) (read_iff (λ pads. room < 16 * length pads))),
         λ _. (
           each_test 4 64 _ (wide (length pads) (bad_field Slots (made_of pads)))
-              (λ i l. Iff·trans (and_then_iff (ltb i (length pads)) (bad_field Slots (made_of pads) i) (ltb_iff i (length pads)) (field_iff pads i)) (read_iff (λ pads. (i < length pads) × BadRead (pad_at pads i)))),
+              (λ i l. Iff.trans (and_then_iff (ltb i (length pads)) (bad_field Slots (made_of pads) i) (ltb_iff i (length pads)) (field_iff pads i)) (read_iff (λ pads. (i < length pads) × BadRead (pad_at pads i)))),
           λ fields.
               let ok = range_told (few_told some) fields in (
                 each_test 6 64 _ (wide (length pads) (with_earlier (same_name (made_of pads))))

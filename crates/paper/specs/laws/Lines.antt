@@ -2,7 +2,7 @@
 --     break_one, lines_one, lines_exist, lines_few;  fields_one;  decimal_injective, signed_injective;  lists_one, reads_one;  reads_good, bad_among, none_bad_reads
 use Rattle.std.specs.Prelude.{◌≡◌, refl, ◌≢◌, ◌⊎◌, Bool, true, false, cond, ℕ, zero, suc, ◌+◌, ◌≤◌, ◌<◌, eqb, length, get_or, ℤ, pos, negsuc}
 use Rattle.std.proofs.Common.{sym, ap, ◌∙◌, subst, inl, inr, arith, ne_eqb, length-append}
-use Rattle.std.proofs.Math.Logic.{Dec·not-not}
+use Rattle.std.proofs.Math.Logic.Dec
 use mathlib.Core.List.{List, [], ◌∷◌, ◌++◌, tail, append_assoc, append-nil, nil≢cons, cons≢nil, head-eq_of_cons-eq, tail-eq_of_cons-eq}
 use Rattle.std.proofs.Math.Nat.{suc_inj}
 use Rattle.std.proofs.Math.Decide.{ℕ_discrete}
@@ -243,7 +243,7 @@ each_lists : (ls : List (List ℕ)) → ((l : List ℕ) → Dec ((p : Pad) × Li
     → (ps : List Pad) × ListEach ls ps
 each_lists [] d fine = ([], tt)
 each_lists (l ∷ ls) d fine =
-    let (p, here) = (Dec·not-not (d l)).0 (fine 0 (omega arith)) in
+    let (p, here) = (Dec.not-not (d l)).0 (fine 0 (omega arith)) in
     let (ps, after) = each_lists ls d (λ k h. fine (suc k) (omega arith)) in
     (p ∷ ps, (here, after))
 
@@ -254,4 +254,4 @@ none_bad_reads text d h none =
     let (first, rest, l) = lines_exist text in
     let fine : (k : ℕ) → k < length (first ∷ rest) → ¬ ¬ GoodLine k (get_or (first ∷ rest) k []) = λ k m bad. none (suc k) (first ∷ rest, k, l, refl, m, bad) in
     let (pads, each) = each_lists rest d (λ k m. fine (suc k) (omega arith)) in
-    (pads, (first, rest, l, (Dec·not-not (h first)).0 (fine 0 (omega arith)), each))
+    (pads, (first, rest, l, (Dec.not-not (h first)).0 (fine 0 (omega arith)), each))

@@ -7,7 +7,7 @@
 --     count-free: neither 3 nor 17;  count_kept, place_kept: neither 16 nor 17
 use Rattle.std.specs.Prelude.{◌≡◌, refl, ◌≢◌, ◌⊎◌, ◌↔◌, List, [], ◌∷◌, ◌++◌, ℕ, ◌+◌, ◌*◌, ◌≤◌, ◌<◌, length, ℤ, pos, neg_ℤ}
 use Rattle.std.proofs.Common.{sym, subst, inl, inr, ⊎_elim, arith}
-use Rattle.std.proofs.Math.Logic.{Iff·trans}
+use Rattle.std.proofs.Math.Logic.Iff
 use Rattle.paper.specs.declared.Refusal.{Refusal}
 use Rattle.paper.specs.declared.Work.{Work}
 use Rattle.paper.specs.declared.Work.TheVariants.{Unlent, Lent}
@@ -209,7 +209,7 @@ module _ (job : Job) (bad : Badness) (work : Work) (before after : List ℕ) whe
   pub first_none : (m : ℤ) → FirstReplies (calls_of job bad work) before m after
       → (m ≡ refusal_number (refusal 15 0 0)) ↔ (Passed (sound_trials job bad work (length before)) × NoLayout (labeling_of job bad))
   first_none m p =
-      Iff·trans (refuses_iff (first_trials job bad work (length before)) (after ≡ before) m (refusal 15 0 0) (omega arith)
+      Iff.trans (refuses_iff (first_trials job bad work (length before)) (after ≡ before) m (refusal 15 0 0) (omega arith)
       (first-refuses (calls_of job bad work) (numbered job bad work) before after m p)) (by_none job bad work (length before))
 
 -- ---- Count and Place
@@ -262,7 +262,7 @@ module _ (job : Job) (bad : Badness) (room numbers : ℕ) where
       ↔ (Passed (sound_trials job bad Unlent room) × NoLayout p)
   by_none_still us none =
       let other = not_whole 16 (TooMany p) us (refusal 15 0 0) (omega arith) none in
-      Iff·trans (before_other first (counting us) (refusal 15 0 0) (not_whole 18 (numbers < needed) (of_whole 16 (TooMany p) ∷ us) (refusal 15 0 0) (omega arith) other))
+      Iff.trans (before_other first (counting us) (refusal 15 0 0) (not_whole 18 (numbers < needed) (of_whole 16 (TooMany p) ∷ us) (refusal 15 0 0) (omega arith) other))
       (by_none job bad Unlent room)
 
   -- 18 exactly if First's are passed and the buffer is too short;
@@ -341,13 +341,13 @@ module _ (job : Job) (bad : Badness) (numbers : ℕ) where
     count_is r small = refuses_iff (count_trials on numbers) (Unit {0}) m r small (count-refuses on (numbered job bad Unlent) numbers m c)
 
     pub count_none : (m ≡ refusal_number (refusal 15 0 0)) ↔ (Passed (sound_trials job bad Unlent n) × NoLayout problem)
-    count_none = Iff·trans (count_is (refusal 15 0 0) (omega arith)) count_15
+    count_none = Iff.trans (count_is (refusal 15 0 0) (omega arith)) count_15
 
     pub count_too_short : (m ≡ refusal_number (refusal 18 0 0)) ↔ (Passed (first_trials job bad Unlent n) × (numbers < buffer_needed n))
-    count_too_short = Iff·trans (count_is (refusal 18 0 0) (omega arith)) count_18
+    count_too_short = Iff.trans (count_is (refusal 18 0 0) (omega arith)) count_18
 
     pub count_too_many : (m ≡ refusal_number (refusal 16 0 0)) ↔ (Passed (first_trials job bad Unlent n) × (buffer_needed n ≤ numbers) × TooMany problem)
-    count_too_many = Iff·trans (count_is (refusal 16 0 0) (omega arith)) count_16
+    count_too_many = Iff.trans (count_is (refusal 16 0 0) (omega arith)) count_16
 
   -- THEOREM. Place's, and its numbers 15, 18, 16 and 17.
   module _ (place room : ℕ) where
@@ -383,17 +383,17 @@ module _ (job : Job) (bad : Badness) (numbers : ℕ) where
         refuses_iff (place_trials on numbers place (length before)) (after ≡ before) m r small (place-refuses on (numbered job bad Unlent) numbers place before after m c)
 
     pub place_none : (m ≡ refusal_number (refusal 15 0 0)) ↔ (Passed (sound_trials job bad Unlent (length before)) × NoLayout problem)
-    place_none = Iff·trans (place_is (refusal 15 0 0) (omega arith)) (place_15 place (length before))
+    place_none = Iff.trans (place_is (refusal 15 0 0) (omega arith)) (place_15 place (length before))
 
     pub place_too_short : (m ≡ refusal_number (refusal 18 0 0)) ↔ (Passed (first_trials job bad Unlent (length before)) × (numbers < buffer_needed n))
-    place_too_short = Iff·trans (place_is (refusal 18 0 0) (omega arith)) (place_18 place (length before))
+    place_too_short = Iff.trans (place_is (refusal 18 0 0) (omega arith)) (place_18 place (length before))
 
     pub place_too_many : (m ≡ refusal_number (refusal 16 0 0)) ↔ (Passed (first_trials job bad Unlent (length before)) × (buffer_needed n ≤ numbers) × TooMany problem)
-    place_too_many = Iff·trans (place_is (refusal 16 0 0) (omega arith)) (place_16 place (length before))
+    place_too_many = Iff.trans (place_is (refusal 16 0 0) (omega arith)) (place_16 place (length before))
 
     pub place_past_count : (m ≡ refusal_number (refusal 17 0 0))
         ↔ (Passed (first_trials job bad Unlent (length before)) × (buffer_needed n ≤ numbers) × (¬ TooMany problem) × PastCount problem place)
-    place_past_count = Iff·trans (place_is (refusal 17 0 0) (omega arith)) (place_17 place (length before))
+    place_past_count = Iff.trans (place_is (refusal 17 0 0) (omega arith)) (place_17 place (length before))
 
 -- ---- Svg
 
@@ -473,7 +473,7 @@ module _ (job list : List ℕ) (room : ℕ) where
 pub svg_too_long : (job list before after : List ℕ) (m : ℤ) → SvgPromise job list before m after
     → (m ≡ refusal_number (refusal 19 0 0)) ↔ (Passed (measure_trials (records job) (by_weights 0 0) Unlent list) × TooLong (board_of (records job)) (held list) (length before))
 svg_too_long job list before after m p =
-    Iff·trans (refuses_iff (svg_trials job list (length before)) (after ≡ before) m (refusal 19 0 0) (omega arith)
+    Iff.trans (refuses_iff (svg_trials job list (length before)) (after ≡ before) m (refusal 19 0 0) (omega arith)
     (fill_refuses (svg_trials job list (length before)) (svg_small job list (length before)) (SvgFills job list) before after m p))
     (svg_19 job list (length before))
 

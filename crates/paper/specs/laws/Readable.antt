@@ -3,7 +3,7 @@
 --     csv_20, csv_21: when these are given;  csv_as_pads: what else
 use Rattle.std.specs.Prelude.{◌≡◌, refl, ◌≢◌, ◌⊎◌, ◌↔◌, List, [], map, ℕ, suc, ◌+◌, ◌*◌, ◌≤◌, ◌<◌, length, take, ℤ, nat_abs}
 use Rattle.std.proofs.Common.{sym, ap, subst, ◌∙◌, inl, inr, ⊎_elim, arith, take_at}
-use Rattle.std.proofs.Math.Logic.{Dec·not-not}
+use Rattle.std.proofs.Math.Logic.Dec
 use Rattle.std.proofs.Math.Decide.{ℕ_discrete}
 use Rattle.std.proofs.lemmas.List.{length-map}
 use Rattle.paper.specs.declared.Form.TheVariants.{Slots}
@@ -209,7 +209,7 @@ list_valid l room bytes (size, (fields, (names, (places, _)))) points fits =
     ranges i h (inr b) = fields i h (inl (rw (points i h) b))
 
     last : (i : ℕ) → i < count l → last_of l i ≡ 0
-    last i h = (Dec·not-not (ℕ_discrete (last_of l i) 0)).0 (λ n. fields i h (inr n))
+    last i h = (Dec.not-not (ℕ_discrete (last_of l i) 0)).0 (λ n. fields i h (inr n))
 
 -- THEOREM. So those records go round.
 pub records_trip : (l before : List ℕ) → Bytes l → Passed (pad_trials l) → ((i : ℕ) → i < count l → half_of l i ≡ 0) → length l ≤ length before

@@ -3,7 +3,7 @@
 --     open_iff: untouching is leaders apart, and each leader open;  points_apart: where pads are points, leaders apart
 use Rattle.std.specs.Prelude.{◌≡◌, refl, ◌≢◌, ◌⊎◌, ◌↔◌, ◌&&◌, ◌||◌, ℕ, ◌+◌, ◌≤◌, ◌<◌, min, T, ltb, ℤ, pos, ◌+ℤ◌, ◌-ℤ◌}
 use Rattle.std.proofs.Common.{inl, inr, ⊎_elim, arith}
-use Rattle.std.proofs.Math.Logic.{Iff·trans}
+use Rattle.std.proofs.Math.Logic.Iff
 use Rattle.std.proofs.Math.Decide.{dec_lt, dec_le}
 use Rattle.std.proofs.Math.Dec.{leb}
 use Rattle.std.specs.Int.Signed.{le_z}
@@ -22,10 +22,10 @@ abbrev pub UpTo : ℤ → ℤ → ℕ → Type 0
 UpTo z w n = up z + dn w ≤ up w + n + dn z
 
 top_iff : (z w : ℤ) (n : ℕ) → T (le_z z (w +ℤ pos n)) ↔ UpTo z w n
-top_iff z w n = Iff·trans (le_iff z (w +ℤ pos n)) ((λ h. omega (whole, plus_num w n)), (λ h. omega (whole, plus_num w n)))
+top_iff z w n = Iff.trans (le_iff z (w +ℤ pos n)) ((λ h. omega (whole, plus_num w n)), (λ h. omega (whole, plus_num w n)))
 
 bottom_iff : (z w : ℤ) (n : ℕ) → T (le_z (z -ℤ pos n) w) ↔ UpTo z w n
-bottom_iff z w n = Iff·trans (le_iff (z -ℤ pos n) w) ((λ h. omega (whole, minus_num z n)), (λ h. omega (whole, minus_num z n)))
+bottom_iff z w n = Iff.trans (le_iff (z -ℤ pos n) w) ((λ h. omega (whole, minus_num z n)), (λ h. omega (whole, minus_num z n)))
 
 -- The leader comes as far right as the square; its hand is not right of it.
 abbrev pub Reaches : Leader → Square → Type 0

@@ -2,7 +2,7 @@
 --     bad_size_iff, bad_weight_iff, bad_table_iff, bad_field_iff, not_above_iff, too_close_iff, same_name_iff, same_x_iff, bad_entry_iff, bad_number_iff
 use Rattle.std.specs.Prelude.{◌≡◌, ◌≢◌, ◌⊎◌, ◌↔◌, Bool, false, not, ◌&&◌, ◌||◌, List, [], ◌∷◌, ◌++◌, ℕ, zero, suc, ◌+◌, ◌*◌, ◌-◌, ◌%◌, ◌≤◌, ◌<◌, T, eqb, leb, ltb, length, ℤ, pos, negsuc, neg_ℤ, ◌+ℤ◌, ◌-ℤ◌, ◌<ℤ◌}
 use Rattle.std.proofs.Common.{subst, inl, inr, ⊎_elim, le_of_suc-le-suc, not-suc-le-zero, eq-or-lt_of_le, arith}
-use Rattle.std.proofs.Math.Logic.{Iff·trans}
+use Rattle.std.proofs.Math.Logic.Iff
 use Rattle.std.proofs.Math.Bool.{or_assoc}
 use Rattle.std.specs.Int.Signed.{le_z, lt_z}
 use Rattle.numbers.specs.Whole.{whole}
@@ -120,7 +120,7 @@ pub somewhere_iff : (p : ℕ → Bool) (P : ℕ → Type 0) (n : ℕ) → ((j : 
 unfolding somewhere
 somewhere_iff p P zero says = ((λ t. absurd t), (λ (j, l, x). absurd (not-suc-le-zero l)))
 somewhere_iff p P (suc n) says =
-    Iff·trans (or_iff (somewhere p n) (p n) (somewhere_iff p P n (λ j l. says j (omega arith))) (says n (omega arith))) (
+    Iff.trans (or_iff (somewhere p n) (p n) (somewhere_iff p P n (λ j l. says j (omega arith))) (says n (omega arith))) (
       ⊎_elim (λ (j, l, x). (j, omega arith, x)) (λ x. (n, omega arith, x)),
       λ (j, l, x). ⊎_elim (λ e. inr (subst P e x)) (λ k. inl (j, k, x)) (eq-or-lt_of_le (le_of_suc-le-suc l)),
     )
@@ -146,7 +146,7 @@ bad_table_iff n p figures = not_iff (eqb figures (n * p)) (eqb_iff figures (n * 
 pub outside_iff : (h : ℤ) → T (outside h) ↔ Outside h
 unfolding outside
 outside_iff h =
-    Iff·trans (or_iff (lt_z h (neg_ℤ (pos 1000000))) (lt_z (pos 1000000) h) (lt_iff h (neg_ℤ (pos 1000000))) (lt_iff (pos 1000000) h)) (there h, back h)
+    Iff.trans (or_iff (lt_z h (neg_ℤ (pos 1000000))) (lt_z (pos 1000000) h) (lt_iff h (neg_ℤ (pos 1000000))) (lt_iff (pos 1000000) h)) (there h, back h)
   where
     there : (h : ℤ) → (h <ℤ neg_ℤ (pos 1000000)) ⊎ (pos 1000000 <ℤ h) → Outside h
     there (pos n) (inl l) = omega whole

@@ -5,7 +5,7 @@ ghost use Rattle.paper.specs.Job.{bytes4};
 ghost use Rattle.paper.specs.laws.Parsing.{line_front, row_bytes};
 ghost use Rattle.paper.specs.laws.Parsing.{fitting as fitting-of};
 ghost use Rattle.fields.specs.Cursor.{content_of};
-ghost use Rattle.csv.specs.Lines.{row_of, LineIs, ListedIs};
+ghost use Rattle.padlist.specs.Lines.{row_of, LineIs, ListedIs};
 
 use fields::{Kind, Number, Step};
 

@@ -1,4 +1,4 @@
--- `csv::lines` meets its contract: the lines up to the place were read. Assumes nothing.
+-- `padlist::lines` meets its contract: the lines up to the place were read. Assumes nothing.
 use borrow.Author.Rules.{rules}
 use Prim.Native.Nat.{◌-◌, ◌≤◌}
 use mathlib.Core.Path.{refl}
@@ -6,11 +6,11 @@ use mathlib.Core.Logic.{⊎_elim}
 use native.Mathlib.Omega.{arith}
 use lib.ListN.{length, drop}
 use Rattle.paper.specs.laws.Parsing.{head_front, pad_front, listed}
-use Rattle.csv.specs.declared.Columns.TheVariants.{Got}
-use Rattle.csv.specs.Lines.{LineIs}
-use Rattle.csv.specs.Laws.{Reading, reading_none, filled_rows, reading_next, reading_bad, reading_end}
-use Rattle.csv.proofs.lines.Statement.{statement}
-use Rattle.csv.proofs.lines.Tie as tie
+use Rattle.padlist.specs.declared.Columns.TheVariants.{Got}
+use Rattle.padlist.specs.Lines.{LineIs}
+use Rattle.padlist.specs.Laws.{Reading, reading_none, filled_rows, reading_next, reading_bad, reading_end}
+use Rattle.padlist.proofs.lines.Statement.{statement}
+use Rattle.padlist.proofs.lines.Tie as tie
 
 abbrev invariant-loop : tie.invariant-loop
 invariant-loop text made₀ start at₀ n₀ filled₀ made at n filled = Reading text made₀ start made at n filled

@@ -1,8 +1,8 @@
--- `csv::fitting` meets its contract. Assumes nothing.
+-- `padlist::fitting` meets its contract. Assumes nothing.
 use borrow.Author.Tests.{lt-ltb, le-ltb}
 use Rattle.paper.specs.laws.Parsing.{fitting}
-use Rattle.csv.proofs.fitting.Statement.{statement}
-use Rattle.csv.proofs.fitting.Tie as tie
+use Rattle.padlist.proofs.fitting.Statement.{statement}
+use Rattle.padlist.proofs.fitting.Tie as tie
 
 returns : tie.Need-returns
 unfolding fitting

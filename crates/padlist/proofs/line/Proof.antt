@@ -1,4 +1,4 @@
--- `csv::line` meets its contract. Assumes nothing.
+-- `padlist::line` meets its contract. Assumes nothing.
 use borrow.Author.Rules.{rules}
 use Prim.Native.Nat.{ℕ, ◌+◌}
 use mathlib.Core.List.{List}
@@ -8,8 +8,8 @@ use Rattle.paper.specs.laws.Parsing.{skip, field_front, line_front}
 use Rattle.fields.specs.declared.Step.TheVariants.{At}
 use Rattle.fields.specs.declared.Number.TheVariants.{Got}
 use Rattle.fields.specs.Cursor.{content_of, Steps, Numbers}
-use Rattle.csv.proofs.line.Statement.{statement}
-use Rattle.csv.proofs.line.Tie as tie
+use Rattle.padlist.proofs.line.Statement.{statement}
+use Rattle.padlist.proofs.line.Tie as tie
 
 abbrev text_of : tie.Start → List ℕ
 text_of s = s.args.text.now

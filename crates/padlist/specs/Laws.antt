@@ -9,8 +9,8 @@ use Rattle.paper.specs.Job.{bytes4}
 use Rattle.paper.specs.laws.Parsing.{Row, fitting, row_bytes, rows_bytes, got, none, Listed, good, bad, before, head_front, pad_front, list_from, listed}
 use Rattle.paper.specs.laws.Written.{rows_length}
 use Rattle.fields.specs.Laws.{from_here}
-use Rattle.csv.specs.declared.Listed.TheVariants.{Pads, Bad}
-use Rattle.csv.specs.Lines.{ListedIs}
+use Rattle.padlist.specs.declared.Listed.TheVariants.{Pads, Bad}
+use Rattle.padlist.specs.Lines.{ListedIs}
 
 -- ---- rows in bytes
 

@@ -1,11 +1,11 @@
--- `csv::four` meets its contract. Assumes nothing.
+-- `padlist::four` meets its contract. Assumes nothing.
 use borrow.Author.Rules.{rules}
 use mathlib.Core.Path.{refl}
 use native.Mathlib.Omega.{arith}
 use native.Mathlib.Numerals.{towards_suc}
 use lib.ListN.{length-set}
-use Rattle.csv.proofs.four.Statement.{statement}
-use Rattle.csv.proofs.four.Tie as tie
+use Rattle.padlist.proofs.four.Statement.{statement}
+use Rattle.padlist.proofs.four.Tie as tie
 
 cast-out : tie.Need-overflow-cast-out
 cast-out c = search rules

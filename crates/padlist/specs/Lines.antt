@@ -2,11 +2,11 @@
 use Rattle.std.specs.Prelude.{◌≡◌, List, ℕ, suc, ◌*◌, ◌≤◌, ◌<◌, length, take, drop}
 use Rattle.paper.specs.laws.Parsing.{Front, got, none, listed, good, bad, rows_bytes}
 use Rattle.paper.specs.laws.Parsing.{Row as RowOf}
-use Rattle.csv.specs.declared.Row.{Row}
-use Rattle.csv.specs.declared.Columns.{Columns}
-use Rattle.csv.specs.declared.Columns.TheVariants.{Got, Bad as BadColumns}
-use Rattle.csv.specs.declared.Listed.{Listed}
-use Rattle.csv.specs.declared.Listed.TheVariants.{Pads, Bad}
+use Rattle.padlist.specs.declared.Row.{Row}
+use Rattle.padlist.specs.declared.Columns.{Columns}
+use Rattle.padlist.specs.declared.Columns.TheVariants.{Got, Bad as BadColumns}
+use Rattle.padlist.specs.declared.Listed.{Listed}
+use Rattle.padlist.specs.declared.Listed.TheVariants.{Pads, Bad}
 
 abbrev pub row_of : Row → RowOf
 row_of r = record { name = r.name; x = r.x; y = r.y }

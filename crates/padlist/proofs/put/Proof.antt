@@ -1,8 +1,8 @@
--- `csv::put` meets its contract. Assumes nothing.
+-- `padlist::put` meets its contract. Assumes nothing.
 use borrow.Author.Rules.{rules}
-use Rattle.csv.specs.Laws.{row_written}
-use Rattle.csv.proofs.put.Statement.{statement}
-use Rattle.csv.proofs.put.Tie as tie
+use Rattle.padlist.specs.Laws.{row_written}
+use Rattle.padlist.proofs.put.Statement.{statement}
+use Rattle.padlist.proofs.put.Tie as tie
 
 fitting-requires : tie.Need-fitting-requires
 fitting-requires c κs = search rules
