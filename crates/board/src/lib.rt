@@ -1,5 +1,7 @@
 // The lists of a job's board: its pads from right to left, and their sides among the ports; in `bars` the ports that squares
 // bar. Every number of the job is read from its bytes.
+#![tactic(auto)]
+
 pub mod bars;
 
 ghost use Rattle.std.specs.Prelude.{◌≡◌, ◌≤◌, length};

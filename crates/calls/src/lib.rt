@@ -1,5 +1,7 @@
 // The calls as Rattle functions that answer an enum: here by weights, in `table` by a table, in `slots` where ports may stay free. Each keeps the
 // promise of its name in paper's Promises.antt, for every input.
+#![tactic(auto)]
+
 mod search;
 pub mod slots;
 pub mod table;

@@ -1,4 +1,6 @@
 // The entry checks of the calls: what is wrong with an input, if anything, by refusal number.
+#![tactic(auto)]
+
 pub mod verdicts;
 
 use paper::Refusal;

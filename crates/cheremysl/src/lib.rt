@@ -1,5 +1,7 @@
 // The calls for C. A slice is a pointer and a count of elements. include/cheremysl.h is the manual; what each call promises, for every
 // input, is the promise of its name in paper's Promises.antt.
+#![tactic(auto)]
+
 ghost use Rattle.std.specs.Prelude.{◌≡◌, length};
 ghost use Rattle.paper.specs.Job.{records, slots};
 ghost use Rattle.paper.specs.Layouts.{by_weights, by_table};

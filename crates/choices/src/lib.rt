@@ -5,6 +5,8 @@
 // has figures and totals, and `cost` and `bars` play no part.
 // `known` is a walk's memory: of place k it has at k and 64 + k the strip, its first port and the port after its last,
 // and at 128 + k and 192 + k 1 + the smallest and 1 + the largest locally best port of that strip, or 0: not known.
+#![tactic(auto)]
+
 ghost use Rattle.std.specs.Prelude.{◌≡◌, ◌≤◌, ◌<◌, max, length};
 ghost use Rattle.pads.specs.Pads.{Pads};
 ghost use Rattle.totals.specs.Cell.{Leads, NextPort};

@@ -5,6 +5,8 @@
 // set: binary digit q for port q. After these it has a number for each strip, in the same order: how many best layouts the
 // strip's pads have in it, or NOT_YET. A number above 10^18 is told by MOST, the first of them.
 // `cost` and `bars`, n × n entries by pad and port, are in the contracts alone: the sets say all that is read of them.
+#![tactic(auto)]
+
 ghost use Rattle.std.specs.Prelude.{◌≡◌, ℕ, ◌+◌, ◌*◌, ◌≤◌, ◌<◌, length};
 ghost use Rattle.strips.specs.ByPlace.{sum_to};
 ghost use Rattle.totals.specs.Cell.{grid_of, corner_of, FullFrom};

@@ -1,4 +1,6 @@
 // One leader for the canvas, in 32-bit floats, and its points in the list that a C program lends.
+#![tactic(auto)]
+
 ghost use Rattle.std.specs.Prelude.{◌≡◌, ◌≤◌, length, neg_ℤ, nat_abs};
 ghost use Rattle.paper.specs.Canvas.{coordinates};
 ghost use Rattle.paper.specs.Promises.{overwritten};

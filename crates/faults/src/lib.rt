@@ -1,5 +1,7 @@
 // The tests of the refusals at one record, or at two: each computes the test of its name in paper's laws/Tests.antt. Pads are read from their
 // records; ports from the bytes in which they stand, by the job's form.
+#![tactic(auto)]
+
 ghost use Rattle.std.specs.Prelude.{◌≡◌, ◌≤◌, ◌<◌, ltb, length};
 ghost use Rattle.std.specs.Int.Signed.{mag};
 ghost use Rattle.paper.specs.Job.{count, last_of, port_count};

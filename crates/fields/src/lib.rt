@@ -1,5 +1,7 @@
 // What stands in a line of a list: a byte, a word, a number, a field, the end. Each function does the step of its name in paper's laws/Parsing.antt
 // at the text from its place on.
+#![tactic(auto)]
+
 ghost use Rattle.std.specs.Prelude.{◌≡◌, ◌+◌, ◌*◌, ◌-◌, ◌≤◌, length, drop};
 ghost use Rattle.paper.specs.laws.Parsing.{skip, is_digit, cap, word_front, digits_front, natural_front, signed_front, field_front, end_front};
 ghost use Rattle.fields.specs.Cursor.{content_of, Steps, Numbers};

@@ -1,4 +1,6 @@
 // The first record at fault: one loop for all checks of the job's records and ports, and one below it for those on two. `layout` has those of a layout.
+#![tactic(auto)]
+
 pub mod layout;
 
 ghost use Rattle.std.specs.Prelude.{◌≡◌, ◌≤◌, ◌<◌, length};

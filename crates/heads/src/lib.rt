@@ -3,6 +3,8 @@
 // A strip is a run of ports a .. b - 1. Its head is 1 more than the place in `order` of its rightmost pad, or 0 where the
 // strip has too few pads. From the strips that start at a + 1 to those that start at a, three lists have for each b a
 // place `at`, how many of the strip's pads stand there or after it, `seen`, and how many the strip has, `all`.
+#![tactic(auto)]
+
 ghost use Rattle.std.specs.Prelude.{◌≡◌, ◌+◌, ◌-◌, ◌≤◌, ◌<◌, leb, length, get_or, drop};
 ghost use Rattle.pads.specs.Pads.{spans, fits, bit, pads_in, sides_of, Pads, Head};
 ghost use Rattle.heads.specs.Heads.{Tallies, EnteringAll, Rooms, Top};

@@ -1,4 +1,6 @@
 // The call ReadCsv: a list of pads as text is read into room of its own, checked there, and copied to the lent bytes if nothing is refused.
+#![tactic(auto)]
+
 ghost use Rattle.std.specs.Prelude.{◌≡◌, ◌≤◌, length};
 ghost use Rattle.paper.specs.Promises.{CsvAnswers};
 ghost use Rattle.importing.specs.Made.{MadeIs};

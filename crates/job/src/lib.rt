@@ -1,4 +1,6 @@
 // A job's bytes, read as numbers. The fields are those of paper's Job.antt; record numbers and port numbers are 16 bits wide.
+#![tactic(auto)]
+
 ghost use Rattle.std.specs.Prelude.{◌≡◌, ◌+◌, ◌*◌, ◌<◌, ◌≤◌, length, pos, nat_abs, ◌+ℤ◌, ◌-ℤ◌};
 ghost use Rattle.std.specs.Int.Signed.{mag};
 ghost use Rattle.paper.specs.Job.{u16_at, u32_at, twos, count, name_of, half_of, x_of, y_of, last_of, stride_of, offset_of, port_count, port_of};

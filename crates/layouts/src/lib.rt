@@ -1,5 +1,7 @@
 // First, Next and Page on a job that has passed the checks, by a table of what each pad costs with each port: each is a walk over the
 // lists of the job's board, with its own room. The table is read where it is lent. `slotted` has First and Next where ports may stay free.
+#![tactic(auto)]
+
 pub mod slotted;
 
 ghost use Rattle.std.specs.Prelude.{◌≡◌, ◌*◌, ◌≤◌, length};

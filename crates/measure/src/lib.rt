@@ -1,4 +1,6 @@
 // What a leader measures, and the total of a layout. Pads are read from their records; ports from the bytes in which they stand, by the job's form.
+#![tactic(auto)]
+
 ghost use Rattle.std.specs.Prelude.{◌≡◌, ◌<◌, ◌≤◌};
 ghost use Rattle.paper.specs.Job.{count, y_of, port_count, port_of};
 ghost use Rattle.paper.specs.Leaders.{distance, length_of, bends_of};

@@ -1,5 +1,7 @@
 // How many best layouts a job that has passed the checks has, and the layout at a place of their order, by a table of what each pad costs with
 // each port. The buffer that is lent has the ports that lead each strip, and the strips' counts: nothing that it held is read.
+#![tactic(auto)]
+
 ghost use Rattle.std.specs.Prelude.{◌≡◌, ◌*◌, ◌≤◌, length};
 ghost use Rattle.paper.specs.Job.{records, count};
 ghost use Rattle.paper.specs.Layouts.{board_of, by_table};

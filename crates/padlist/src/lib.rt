@@ -1,4 +1,6 @@
 // A list of pads, read from text: one pass, with a place in the text that goes on. Rows are made in the caller's bytes, 16 for each of the first 64.
+#![tactic(auto)]
+
 ghost use Rattle.std.specs.Prelude.{◌≡◌, ◌+◌, ◌≤◌, length, drop};
 ghost use Rattle.text.specs.Text.{Writes};
 ghost use Rattle.paper.specs.Job.{bytes4};

@@ -1,4 +1,5 @@
 // A job's forms, the work list, and the types of the calls' answers. What they mean is in specs/: start at docs/READING.md.
+#![tactic(auto)]
 
 // The two forms of a job: records that bring a pad and a port each; or pad records, and ports in a list of their own.
 #[derive(Drop)]

@@ -1,5 +1,7 @@
 // Which ports the pads at the first places have, and the strip of ports that they leave to the next pad. `order` has the record
 // numbers, rightmost pad first; `at` has for each of 128 ports the place of its pad.
+#![tactic(auto)]
+
 ghost use Rattle.std.specs.Prelude.{◌≡◌, ◌≤◌, ◌<◌, length};
 ghost use Rattle.places.specs.Places.{Entered, Placeable, Lowest, Highest};
 

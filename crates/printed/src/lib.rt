@@ -1,5 +1,7 @@
 // The printed sheet of a job: 01, "The printing program". It is made in lent bytes; a program writes them out.
 // A field has at most 21 bytes. So 5,424 are enough: 64 lines of four fields, and the last of two and a word.
+#![tactic(auto)]
+
 ghost use Rattle.std.specs.Prelude.{◌≡◌, ◌+◌, ◌≤◌, ◌<◌, length, take};
 ghost use Rattle.paper.specs.Job.{records, count};
 ghost use Rattle.paper.specs.Layouts.{by_weights};

@@ -1,4 +1,6 @@
 // The printing program of 01: a job from standard input, and its sheet, or its refusal, on standard output.
+#![tactic(auto)]
+
 use libc::{STDIN_FILENO, STDOUT_FILENO};
 
 fn main() {

@@ -3,6 +3,8 @@
 // a .. b - 1 stands at place a of column b, with the least total of those pads from place k of `order` on that lie in the
 // strip, or NONE. Then n × p open figures, by place and port, NONE where the port is not for that pad; then the figures
 // that the caller wrote, n × p, by pad and port: one of 2^32 or more says that the pad may not use the port.
+#![tactic(auto)]
+
 ghost use Rattle.std.specs.Prelude.{◌≡◌, ◌+◌, ◌-◌, ◌*◌, ◌^◌, ◌≤◌, ◌<◌, min, length, get_or, drop};
 ghost use Rattle.numbers.specs.Kept.{KeptFrom};
 ghost use Rattle.pads.specs.Pads.{sides_of, Pads};

@@ -1,5 +1,7 @@
 // The earliest best layout, the step to the next one, and whether a layout is best, over plain numbers: the lists are those
 // of the crate `choices`, `known` the walk's memory.
+#![tactic(auto)]
+
 ghost use Rattle.std.specs.Prelude.{◌≡◌, true, ◌^◌, ◌≤◌, ◌<◌, length};
 ghost use Rattle.choices.specs.Source.{source, grid_on, Right};
 ghost use Rattle.choices.specs.Choices.{Working, Begun};

@@ -1,5 +1,7 @@
 // A sheet as SVG: one line of text for each leader, made in room of its own and then copied to the lent bytes if it fits.
 // A line has at most 76 bytes with its newline, so 4,864 are enough for 64. The numbers are whole ones, quarters of a canvas unit: no float is formatted.
+#![tactic(auto)]
+
 ghost use Rattle.std.specs.Prelude.{◌++◌, ◌+◌, ◌≤◌, length, nat_abs};
 ghost use Rattle.text.specs.Text.{bytes, Writes};
 ghost use Rattle.paper.specs.declared.Work.TheVariants.{Unlent};

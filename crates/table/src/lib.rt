@@ -1,6 +1,8 @@
 // The table of best totals of all strips, for as many ports as pads (at most 64): `heads` and `totals`, as the crate `totals`
 // reads them. At a strip's place `ports` gets the ports that lead its rightmost pad in a best layout, binary digit q for port q, as
 // far as that list goes: it may have any length, and a caller that needs no ports lends one of no length.
+#![tactic(auto)]
+
 ghost use Rattle.std.specs.Prelude.{◌≡◌, ◌+◌, ◌*◌, ◌≤◌, length};
 ghost use Rattle.pads.specs.Pads.{sides_of, Pads};
 ghost use Rattle.heads.specs.Heads.{Tallies, Rooms};

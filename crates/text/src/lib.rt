@@ -1,4 +1,6 @@
 // Text in lent bytes. Each function writes from a place on, answers the place after what it wrote, and keeps every other byte.
+#![tactic(auto)]
+
 ghost use Rattle.std.specs.Prelude.{◌+◌, ◌≤◌, [], ◌∷◌, ◌++◌, length};
 ghost use Rattle.text.specs.Text.{Writes};
 ghost use Rattle.text.specs.Text.{decimal as in-decimal};

@@ -5,6 +5,8 @@
 // no layout, and `totals` the best total of the strip's pads, or NONE. While row a is filled, two short lists, `lows`
 // and `sums`, have the cells of its strips at b: the parts below a port are read there. `cost` and `bars` have n × n
 // entries, pad by pad, ports rising: figures, and bytes of which any but 0 says that the pad may not use the port.
+#![tactic(auto)]
+
 ghost use Rattle.std.specs.Prelude.{◌≡◌, cond, ◌+◌, ◌-◌, ◌*◌, ◌^◌, ◌≤◌, ◌<◌, min, eqb, length, get_or};
 ghost use Rattle.pads.specs.Pads.{sides_of, Pads, Head};
 ghost use Rattle.totals.specs.Cell.{no_total, figures, grid_of, choice, Sizes, Strip, FullFrom, laid_of, Leads, Says, NextPort};

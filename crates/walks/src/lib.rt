@@ -1,4 +1,6 @@
 // A walk from best layout to best layout, over plain lists: those of the crate `choices`, and their least total.
+#![tactic(auto)]
+
 ghost use Rattle.std.specs.Prelude.{◌+◌, ◌≤◌, ◌<◌, length};
 ghost use Rattle.choices.specs.Source.{source};
 ghost use Rattle.choices.specs.Choices.{Working};

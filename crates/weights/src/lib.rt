@@ -1,5 +1,7 @@
 // The table of weighted lengths and bends: what the calls by weights hand to the search. Pads are read from their records; ports from the bytes
 // in which they stand, by the job's form.
+#![tactic(auto)]
+
 ghost use Rattle.std.specs.Prelude.{◌+◌, ◌*◌, ◌≤◌, ◌<◌, ◌≡◌, length};
 ghost use Rattle.paper.specs.Job.{count, port_count};
 ghost use Rattle.paper.specs.Layouts.{board_from, weighted, TableOf};

@@ -5,6 +5,8 @@
 // record A to port B, with eight numbers lent, each 99; or Print, the job's sheet. SIZE is the job's size in bytes where it is not 16 for each record.
 // With a small letter, first, next or measure is by a table, whose figures stand in place of A, B and SIZE; and slots, then and untouching are First,
 // Next and Measure on slots, whose heights stand in place of SIZE.
+#![tactic(auto)]
+
 ghost use Rattle.std.specs.Prelude.{◌≡◌, ◌*◌, ◌<◌, ◌≤◌, length, take};
 
 use libc::{STDIN_FILENO, STDOUT_FILENO};
