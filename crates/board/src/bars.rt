@@ -12,7 +12,7 @@ use paper::Form;
 
 // A square in numbers: its x and half-side, the heights of its bottom and its top, how many ports are below the bottom, and how many
 // at the top or below.
-#[derive(Drop)]
+#[derive(Clone, Copy)]
 struct Square {
     x: u32,
     half: u16,

@@ -6,14 +6,14 @@ pub mod verdicts;
 use paper::Refusal;
 
 // The check of what a leader costs by, weights or a table: its refusal number, and whether they are at fault.
-#[derive(Drop)]
+#[derive(Clone, Copy)]
 pub struct Given {
     reason: u16,
     fault: bool,
 }
 
 // What the checks come to.
-#[derive(Drop)]
+#[derive(Clone, Copy)]
 pub enum Verdict {
     Sound,
     Refused(Refusal),

@@ -15,7 +15,7 @@ ghost use Rattle.counting.specs.Counting.{limit, capped, ProperBoard, Solvable, 
 ghost use Rattle.counting.specs.Counting.{number_with, ways_from, Begun, PickedIs, ChosenIs, Walkable, WalkIs, PlaceIs};
 
 // A port, how many layouts have it after the ports chosen before, and the place among these.
-#[derive(Drop)]
+#[derive(Clone, Copy)]
 pub struct Picked {
     pub port: usize,
     pub rest: u64,
@@ -23,7 +23,7 @@ pub struct Picked {
 }
 
 // What comes of asking for a place: its layout; or it is not below the count; or the count is above the limit.
-#[derive(Drop)]
+#[derive(Clone, Copy)]
 pub enum Reply {
     Found,
     Past,

@@ -7,21 +7,21 @@ ghost use Rattle.paper.specs.laws.Parsing.{skip, is_digit, cap, word_front, digi
 ghost use Rattle.fields.specs.Cursor.{content_of, Steps, Numbers};
 
 // The place after a byte, or after the end of a line.
-#[derive(Drop)]
+#[derive(Clone, Copy)]
 pub enum Step {
     At(usize),
     Nothing,
 }
 
 // What a field says, and the place after it: a number, or for a word 0. A number below 0 is in 32 bits, two's complement.
-#[derive(Drop)]
+#[derive(Clone, Copy)]
 pub enum Number {
     Got(u32, usize),
     Nothing,
 }
 
 // What a field has to be: a word of the first line, or a number without a sign or with one.
-#[derive(Drop)]
+#[derive(Clone, Copy)]
 pub enum Kind {
     Name,
     X,

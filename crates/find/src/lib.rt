@@ -12,14 +12,14 @@ ghost use Rattle.find.specs.Dispatch.{pair_of, test_of, number_of};
 use paper::Form;
 
 // What a search for a record finds: the record, and the earlier one found with it (0 where none is looked for).
-#[derive(Drop)]
+#[derive(Clone, Copy)]
 pub enum Found {
     At(u16, u16),
     Nowhere,
 }
 
 // The checks of a record or of a port, alone or with those before it. What each stands for is in specs/Dispatch.antt.
-#[derive(Drop)]
+#[derive(Clone, Copy)]
 pub enum Check {
     Field, // 4, of a record
     Height, // 4, of a port
@@ -30,7 +30,7 @@ pub enum Check {
 }
 
 // What no two records share.
-#[derive(Drop)]
+#[derive(Clone, Copy)]
 enum Own {
     Name,
     Place,

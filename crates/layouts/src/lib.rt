@@ -18,7 +18,7 @@ use paper::Form;
 use walks::{Start, Walked};
 
 // What First replies: a total, or that no layout is untouching; and what Next replies of an untouching layout.
-#[derive(Drop)]
+#[derive(Clone, Copy)]
 pub enum Step {
     Total(u64),
     End,

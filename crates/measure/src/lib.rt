@@ -48,7 +48,7 @@ pub fn weighted(form: Form, job: &[u8], ports: &[u8], lw: u32, bw: u32, i: u16, 
 }
 
 // What a leader costs by: these weights, length before bend, or the table lent beside.
-#[derive(Drop)]
+#[derive(Clone, Copy)]
 pub enum Badness {
     Weights(u32, u32),
     Table,

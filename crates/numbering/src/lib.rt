@@ -21,7 +21,7 @@ const NONE: u64 = 4611686018427387904;
 const LIMIT: u64 = 1000000000000000000;
 
 // What is asked for: how many best layouts there are, or the one at a place.
-#[derive(Drop)]
+#[derive(Clone, Copy)]
 pub enum Asked {
     Count,
     Place(u64),
@@ -29,7 +29,7 @@ pub enum Asked {
 
 // Why nothing is told: no layout is untouching; the buffer is too short; there are more layouts than LIMIT; the place is past
 // them.
-#[derive(Drop)]
+#[derive(Clone, Copy)]
 pub enum Why {
     NoLayout,
     Short,
@@ -38,7 +38,7 @@ pub enum Why {
 }
 
 // What comes of it: the number of layouts, or the total of the one at the place; or why there is none to tell.
-#[derive(Drop)]
+#[derive(Clone, Copy)]
 pub enum Outcome {
     Told(u64),
     Not(Why),

@@ -11,7 +11,7 @@ ghost use Rattle.padlist.specs.Lines.{row_of, LineIs, ListedIs};
 
 use fields::{Kind, Number, Step};
 
-#[derive(Drop)]
+#[derive(Clone, Copy)]
 struct Row {
     name: u32,
     x: u32,
@@ -19,14 +19,14 @@ struct Row {
 }
 
 // The numbers of a line, and the place after its end.
-#[derive(Drop)]
+#[derive(Clone, Copy)]
 enum Columns {
     Got(Row, usize),
     Bad,
 }
 
 // How many lines after the first there are; or the first bad line, counted from 1.
-#[derive(Drop)]
+#[derive(Clone, Copy)]
 pub enum Listed {
     Pads(u16),
     Bad(u16),

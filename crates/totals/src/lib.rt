@@ -13,7 +13,7 @@ ghost use Rattle.totals.specs.Cell.{no_total, figures, grid_of, choice, Sizes, S
 ghost use Rattle.totals.specs.Cell.{PartsOf, Table, corner_of, place, Port, opens, sum_at, port_total, joined, BestOf, Valued, CopiedRow, Marks};
 
 // A strip a .. b - 1, the place r of its rightmost pad, where the pad's row of figures starts, and the strip's best total, or NONE.
-#[derive(Drop)]
+#[derive(Clone, Copy)]
 struct Laid {
     pub r: usize,
     pub a: usize,
@@ -23,7 +23,7 @@ struct Laid {
 }
 
 // The least total so far, and the ports that have it: binary digit q for port q.
-#[derive(Drop)]
+#[derive(Clone, Copy)]
 pub struct Best {
     pub total: u64,
     pub ports: u64,

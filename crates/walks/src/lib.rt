@@ -12,7 +12,7 @@ ghost use Rattle.walks.specs.Walks.{list_rules, Startable, Begins, Turned, Walks
 const NONE: u64 = 4611686018427387904;
 
 // A walk starts at the earliest best layout, or at the one that is given.
-#[derive(Drop)]
+#[derive(Clone, Copy)]
 pub enum Start {
     First,
     Given,
@@ -20,7 +20,7 @@ pub enum Start {
 
 // What a walk comes to: whether it starts at a best layout (if not, there is no layout, or the given one is not best), how
 // many it put on its page, and the least total.
-#[derive(Drop)]
+#[derive(Clone, Copy)]
 pub struct Walked {
     pub best: bool,
     pub count: u64,

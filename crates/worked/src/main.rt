@@ -13,14 +13,14 @@ use libc::{STDIN_FILENO, STDOUT_FILENO};
 use paper::{Answer, Counted, Drawn, Refusal};
 
 // A number of 32 bits, in two's complement if negative, and the place after it.
-#[derive(Drop)]
+#[derive(Clone, Copy)]
 struct Number {
     value: u32,
     next: usize,
 }
 
 // How many numbers a part of a case has, and the place after its mark.
-#[derive(Drop)]
+#[derive(Clone, Copy)]
 struct Part {
     count: usize,
     next: usize,
