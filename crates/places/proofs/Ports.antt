@@ -25,6 +25,7 @@ module _ (f : ℕ → ℕ) (l : ℕ) where
       go true k = rw e (omega (arith, floor_le f l is (max c (f x + 1))))
       go false k = absurd (let u = rw e at h in omega (arith, ltb-false (f x) l k))
   floor_above (x ∷ is) c i (Memᴰ.tail m) h = floor_above is (cond (ltb (f x) l) (max c (f x + 1)) c) i m h
+  floor_above [] c i x'' h = elim x'' [ ]
 
   ceil-below : (is : List ℕ) (c i : ℕ) → Memᴰ i is → l ≤ f i → ceil f l is c ≤ f i
   unfolding ceil
@@ -34,6 +35,7 @@ module _ (f : ℕ → ℕ) (l : ℕ) where
       go true k = rw e (omega (arith, ceil_le f l is (min c (f x))))
       go false k = absurd (let u = rw e at h in omega (arith, leb-false l (f x) k))
   ceil-below (x ∷ is) c i (Memᴰ.tail m) h = ceil-below is (cond (leb l (f x)) (min c (f x)) c) i m h
+  ceil-below [] c i x'' h = elim x'' [ ]
 
 -- ---- .. and by the list
 
