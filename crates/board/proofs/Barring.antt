@@ -12,9 +12,9 @@ use lib.Dec.{T, leb}
 use lib.ListN.{length, get_or}
 use lib.IntN.{ℤ}
 use lib.Signed.{le_z, ◌≤ℤ◌}
-use Rattle.numbers.specs.Whole.{whole, plus_num, minus_num, nlt_num}
-use Rattle.numbers.specs.Tests.{and_iff, le_iff, leb_iff}
-use Rattle.numbers.specs.Filled.{place_in}
+use Rattle.numbers.proofs.Whole.{whole, plus_num, minus_num, nlt_num}
+use Rattle.numbers.proofs.Tests.{and_iff, le_iff, leb_iff}
+use Rattle.numbers.proofs.Filled.{place_in}
 use Rattle.pads.specs.Counts.{le_or_lt}
 use Rattle.paper.specs.Leaders.{Meets}
 use Rattle.paper.specs.Layouts.{Board, leader, square}

@@ -6,7 +6,8 @@ use native.Mathlib.Decide.{dec_lt}
 use native.Mathlib.Omega.{arith}
 use lib.IntN.{ℤ}
 use lib.Signed.{◌≤ℤ◌, ◌<ℤ◌}
-use Rattle.numbers.specs.Whole.{whole, up, dn, num_lt, num_eq, nlt_num}
+use Rattle.numbers.specs.Whole.{up, dn}
+use Rattle.numbers.proofs.Whole.{whole, num_lt, num_eq, nlt_num}
 use Rattle.board.specs.Lists.{Rises, Under, Upto}
 
 -- While they are counted: the ports before s are below h, those from t on are not.

@@ -7,9 +7,11 @@ use Rattle.std.proofs.Math.ListN.{get_or-eq_default}
 use Rattle.strips.specs.Least.{none, some}
 use Rattle.strips.specs.Grid.{Grid, Sol, Misses}
 use Rattle.strips.specs.Grid as strips
-use Rattle.strips.specs.Order.{SameOn, EarlierOn, EarliestOn, earlier_not_same, earlier_asym}
+use Rattle.strips.specs.Order.{SameOn, EarlierOn, EarliestOn}
+use Rattle.strips.proofs.Order.{earlier_not_same, earlier_asym}
 use Rattle.strips.specs.FirstNext.{Optimal, Later}
-use Rattle.strips.specs.ByPlace.{mem_at, place_mem, free_places, places_free, earlier_differ, differ_earlier, sum_to, sum_order}
+use Rattle.strips.specs.ByPlace.{sum_to}
+use Rattle.strips.proofs.ByPlace.{mem_at, place_mem, free_places, places_free, earlier_differ, differ_earlier, sum_order}
 use Rattle.numbers.specs.Arrangement.{Arrangement}
 use Rattle.pads.specs.Pads.{Pads}
 use Rattle.totals.specs.Strip.{given, value}

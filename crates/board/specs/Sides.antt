@@ -2,7 +2,7 @@
 use Rattle.std.specs.Prelude.{◌≡◌, ◌⊎◌, ◌↔◌, ℕ, ◌+◌, ◌≤◌, ◌<◌, ℤ, ◌<ℤ◌}
 use Rattle.std.proofs.Common.{inl, inr, arith}
 use Rattle.std.proofs.Math.Decide.{dec_lt, dec_le}
-use Rattle.numbers.specs.Whole.{whole, nlt_num}
+use Rattle.numbers.proofs.Whole.{whole, nlt_num}
 use Rattle.paper.specs.Leaders.{Between}
 use Rattle.paper.specs.laws.Touching.{between_end}
 use Rattle.board.specs.Lists.{Rises, Under, Upto}

@@ -3,7 +3,7 @@ use Rattle.std.specs.Prelude.{◌≡◌, refl, ◌↔◌, Bool, true, false, ◌
 use Rattle.std.proofs.Common.{sym, ap, subst, ◌∙◌, inl, add-one, arith, lt-ltb, le-ltb, ltb→lt, lt→ltb}
 use Rattle.std.proofs.Math.Bool.{or-true}
 use Rattle.std.proofs.Math.Decide.{dec_lt}
-use Rattle.numbers.specs.Tests.{both, true_iff}
+use Rattle.numbers.proofs.Tests.{both, true_iff}
 use Rattle.paper.specs.declared.Form.TheVariants.{Slots}
 use Rattle.paper.specs.declared.Refusal.{Refusal}
 use Rattle.paper.specs.declared.Work.{Work}

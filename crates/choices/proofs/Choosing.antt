@@ -5,8 +5,9 @@ use native.Mathlib.Omega.{arith}
 use native.Mathlib.Decide.{dec_lt}
 use lib.ListN.{length, get_or, take}
 use Rattle.strips.specs.Grid.{Grid}
-use Rattle.strips.specs.Prefix.{floor_most, ceil-least, ceil_le}
-use Rattle.strips.specs.FirstNext.{At, extends_choice, extends_full}
+use Rattle.strips.proofs.Prefix.{floor_most, ceil-least, ceil_le}
+use Rattle.strips.specs.FirstNext.{At}
+use Rattle.strips.proofs.FirstNext.{extends_choice, extends_full}
 use Rattle.pads.specs.Pads.{Pads}
 use Rattle.totals.specs.Cell.{Leads, NextPort}
 use Rattle.places.specs.Places.{port_in}

@@ -6,7 +6,7 @@ use native.Mathlib.Omega.{arith}
 use native.Mathlib.Decide.{dec_lt, ℕ_discrete}
 use lib.ListN.{length, get_or, take, set, length-set}
 use lib.Seq.{get_or-set_same, get_or-set_other}
-use Rattle.strips.specs.Prefix.{floor_cong, ceil_cong, ceil_le}
+use Rattle.strips.proofs.Prefix.{floor_cong, ceil_cong, ceil_le}
 use Rattle.strips.specs.FirstNext.{At}
 use Rattle.places.specs.Places.{port_in}
 use Rattle.choices.specs.Source.{Source, grid_on}

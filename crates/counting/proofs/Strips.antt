@@ -9,12 +9,14 @@ use lib.Dec.{leb, ltb}
 use lib.ListN.{length, get_or, drop, take, length-append, length-drop}
 use borrow.Author.Tests.{leb-true, ltb-true, le-leb, lt-ltb}
 use Rattle.strips.specs.Least.{Least, none, some}
-use Rattle.strips.specs.Lists.{keep, keep_yes, keep_no, keep-length, keep_append, keep_and, keep_cong, both, same_test}
+use Rattle.strips.specs.Lists.{keep}
+use Rattle.strips.proofs.Lists.{keep_yes, keep_no, keep-length, keep_append, keep_and, keep_cong, both, same_test}
 use Rattle.strips.specs.Grid.{Grid, Lawful, LocalBest, below, above}
 use Rattle.strips.specs.Grid as strip
-use Rattle.strips.specs.Strips.{local_parts}
-use Rattle.strips.specs.Prefix.{lies, lies_yes, yes_lies}
-use Rattle.strips.specs.Room.{full_parts}
+use Rattle.strips.proofs.Strips.{local_parts}
+use Rattle.strips.specs.Prefix.{lies}
+use Rattle.strips.proofs.Prefix.{lies_yes, yes_lies}
+use Rattle.strips.proofs.Room.{full_parts}
 use Rattle.strips.specs.FirstNext.{Listed}
 use Rattle.pads.specs.Pads.{spans, pads_in, sides_of}
 use Rattle.pads.specs.Counts.{drop_at, drop_split}

@@ -8,15 +8,19 @@ use native.Mathlib.Decide.{dec_le, dec_lt}
 use lib.Bits.{bit_and}
 use lib.Count.{count_trailing_zeros}
 use native.Mathlib.Nat.{le-mul_of_pos_right, mul_comm, mul-zero}
-use Rattle.numbers.specs.Sets.{set_of, set_none, NextIn, set_gone, set_next}
+use Rattle.numbers.specs.Sets.{set_of, NextIn}
+use Rattle.numbers.proofs.Sets.{set_none, set_gone, set_next}
 use lib.ListN.{length, get_or, drop}
-use Rattle.strips.specs.Lists.{All, keep, Distinct, keep_distinct, kept_mem}
+use Rattle.strips.specs.Lists.{All, keep, Distinct}
+use Rattle.strips.proofs.Lists.{keep_distinct, kept_mem}
 use Rattle.strips.specs.Grid.{Grid, below, above}
-use Rattle.strips.specs.Prefix.{lies, Lies, yes_lies}
+use Rattle.strips.specs.Prefix.{lies, Lies}
+use Rattle.strips.proofs.Prefix.{yes_lies}
 use Rattle.strips.specs.FirstNext.{Listed}
 use Rattle.strips.specs.ByPlace.{sum_to}
-use Rattle.ways.specs.Tree.{ways_nil, sum_mono, sum-skip, sum_none, sum_more}
-use Rattle.ways.specs.Count.{may_take, many, is_choice, choice_yes, yes_choice, many_cons}
+use Rattle.ways.proofs.Tree.{ways_nil, sum_mono, sum-skip, sum_none, sum_more}
+use Rattle.ways.specs.Count.{may_take, many, is_choice}
+use Rattle.ways.proofs.Count.{choice_yes, yes_choice, many_cons}
 use Rattle.totals.specs.Cell.{FullFrom, Leads, Marks}
 use Rattle.counting.specs.Counting.{limit, capped, pads_from, number_at, StripCount}
 use Rattle.counting.proofs.Strips.{nil_of, full_length, full_whole, below_strip, above_strip, full_below, full_above}

@@ -11,20 +11,29 @@ use lib.Bits.{bit_and}
 use lib.Count.{count_trailing_zeros}
 use lib.ListN.{length, get_or, take, drop, set, drop_of_length-le}
 use lib.Seq.{take_all}
-use Rattle.numbers.specs.Kept.{KeptFrom, kept_all}
-use Rattle.numbers.specs.Sets.{set_of, set_none, NextIn, set_gone, set_next}
-use Rattle.strips.specs.Lists.{nil_all, keep, Distinct}
+use Rattle.numbers.specs.Kept.{KeptFrom}
+use Rattle.numbers.proofs.Kept.{kept_all}
+use Rattle.numbers.specs.Sets.{set_of, NextIn}
+use Rattle.numbers.proofs.Sets.{set_none, set_gone, set_next}
+use Rattle.strips.specs.Lists.{keep, Distinct}
+use Rattle.strips.proofs.Lists.{nil_all}
 use Rattle.strips.specs.Least.{some}
 use Rattle.strips.specs.Grid.{Grid, best, BestIn}
-use Rattle.strips.specs.Strips.{best_cong}
-use Rattle.strips.specs.Prefix.{floor, ceil, lies, strip-same, floor_most, ceil-least, ceil_le}
+use Rattle.strips.proofs.Strips.{best_cong}
+use Rattle.strips.specs.Prefix.{floor, ceil, lies}
+use Rattle.strips.proofs.Prefix.{strip-same, floor_most, ceil-least, ceil_le}
 use Rattle.strips.specs.Order.{SameOn}
-use Rattle.strips.specs.FirstNext.{Listed, Optimal, around, take_more, extends_start, extends_choice, extends_more, extends_full, best_optimal}
-use Rattle.strips.specs.ByPlace.{sum_to, place_mem}
-use Rattle.ways.specs.Tree.{sum_cong, sum_mono, sum-skip, sum_none, sum_more, ways, ways_nil, ways_cons, ways_cong}
-use Rattle.ways.specs.Tree.{ways_at, ways_at_cong, ways_at_self, rank, rank_nil, rank_cons}
-use Rattle.ways.specs.Count.{may_take, looks, many, many_at, choice_yes, share, Share}
-use Rattle.ways.specs.Ranks.{rank-place}
+use Rattle.strips.specs.FirstNext.{Listed, Optimal}
+use Rattle.strips.proofs.FirstNext.{around, take_more, extends_start, extends_choice, extends_more, extends_full, best_optimal}
+use Rattle.strips.specs.ByPlace.{sum_to}
+use Rattle.strips.proofs.ByPlace.{place_mem}
+use Rattle.ways.specs.Tree.{ways}
+use Rattle.ways.proofs.Tree.{sum_cong, sum_mono, sum-skip, sum_none, sum_more, ways_nil, ways_cons, ways_cong}
+use Rattle.ways.specs.Tree.{ways_at, rank}
+use Rattle.ways.proofs.Tree.{ways_at_cong, ways_at_self, rank_nil, rank_cons}
+use Rattle.ways.specs.Count.{may_take, many, many_at, Share}
+use Rattle.ways.proofs.Count.{looks, choice_yes, share}
+use Rattle.ways.proofs.Ranks.{rank-place}
 use Rattle.pads.specs.Counts.{drop_at}
 use Rattle.totals.specs.Cell.{FullFrom, Leads, Marks}
 use Rattle.places.specs.Places.{port_in, Entered}

@@ -4,14 +4,16 @@ use mathlib.Core.List.{List}
 use Prim.Native.Nat.{ℕ, ◌+◌, ◌-◌, ◌≤◌, ◌<◌, zero-le}
 use native.Mathlib.Omega.{arith}
 use lib.ListN.{length}
-use Rattle.strips.specs.Lists.{keep_same}
-use Rattle.strips.specs.Least.{some, at_most_is}
+use Rattle.strips.proofs.Lists.{keep_same}
+use Rattle.strips.specs.Least.{some}
+use Rattle.strips.proofs.Least.{at_most_is}
 use Rattle.strips.specs.Grid.{Grid, best}
-use Rattle.strips.specs.Strips.{sound}
-use Rattle.strips.specs.Prefix.{lies, lies_yes}
+use Rattle.strips.proofs.Strips.{sound}
+use Rattle.strips.specs.Prefix.{lies}
+use Rattle.strips.proofs.Prefix.{lies_yes}
 use Rattle.strips.specs.FirstNext.{Listed}
 use Rattle.ways.specs.Count.{many}
-use Rattle.ways.specs.Ranks.{count_is, count_one}
+use Rattle.ways.proofs.Ranks.{count_is, count_one}
 use Rattle.totals.specs.Cell.{grid_of}
 use Rattle.choices.specs.Lists.{distinct}
 use Rattle.counting.specs.Counting.{limit, capped, ProperBoard, Solvable, pads_from, Solved, StripCount, CountIs, Walkable, WalkIs, FoundIs, PastIs, AboveIs}

@@ -8,7 +8,7 @@ use lib.Ieee.{binary32, in_float}
 use mir.Syntax.{Width}
 use mir.Val.{SFits, to_z, of_z, hbits}
 use mir.Facts.{to_z_pos}
-use Rattle.numbers.specs.Bits.{fits, back}
+use Rattle.numbers.proofs.Bits.{fits, back}
 
 -- A width whose signed numbers go beyond 1,000,000 has each of the sheet.
 pub height_fits : (w : Width) → 1000000 < 2 ^ hbits w → (z : ℤ) → nat_abs z ≤ 1000000 → SFits w z

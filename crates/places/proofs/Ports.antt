@@ -10,7 +10,8 @@ use lib.Dec.{leb, ltb}
 use lib.ListN.{length, get_or, take, set, replicate, length-set, get_or-replicate}
 use lib.Seq.{get_or-set_same, get_or-set_other}
 use borrow.Author.Tests.{leb-false, ltb-false}
-use Rattle.strips.specs.Prefix.{floor, ceil, floor_le, ceil_le, floor_most, ceil-least}
+use Rattle.strips.specs.Prefix.{floor, ceil}
+use Rattle.strips.proofs.Prefix.{floor_le, ceil_le, floor_most, ceil-least}
 use Rattle.places.specs.Places.{port_in, Placed, Entered, Lowest, Highest}
 use Rattle.places.proofs.Taken.{take_mem, mem_take}
 

@@ -5,7 +5,7 @@ use Prim.Native.Nat.{ℕ, ◌≤◌, ◌<◌}
 use native.Mathlib.Omega.{arith}
 use lib.ListN.{length, get_or, take, length-take}
 use lib.Seq.{get_or-take}
-use Rattle.strips.specs.ByPlace.{mem_at, place_mem}
+use Rattle.strips.proofs.ByPlace.{mem_at, place_mem}
 
 -- A member of the first k entries stands before place k.
 pub take_mem : (xs : List ℕ) (k x : ℕ) → Memᴰ x (take k xs) → (i : ℕ) × (i < k) × (get_or xs i 0 ≡ x)

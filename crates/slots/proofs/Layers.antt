@@ -7,9 +7,10 @@ use Prim.Native.Nat.{ℕ, suc, ◌+◌, ◌-◌, ◌*◌, ◌^◌, ◌≤◌, �
 use native.Mathlib.Omega.{arith}
 use lib.ListN.{length, get_or, drop, length-drop}
 use lib.Seq.{drop-length}
-use Rattle.numbers.specs.Kept.{KeptFrom, kept_later, kept_twice}
+use Rattle.numbers.specs.Kept.{KeptFrom}
+use Rattle.numbers.proofs.Kept.{kept_later, kept_twice}
 use Rattle.strips.specs.Least.{Least, none}
-use Rattle.strips.specs.Lists.{keep_same}
+use Rattle.strips.proofs.Lists.{keep_same}
 use Rattle.strips.specs.Grid as strip
 use Rattle.pads.specs.Pads.{Sides, fits, pads_in, sides_of}
 use Rattle.totals.specs.Strip.{grid, best_within, local_within}

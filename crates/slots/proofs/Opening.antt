@@ -9,7 +9,8 @@ use native.Mathlib.Nat.{mul-le-mul_right}
 use lib.Dec.{leb, ltb}
 use lib.ListN.{length, get_or, drop, replicate, get_or-replicate}
 use lib.Seq.{drop-length}
-use Rattle.numbers.specs.Kept.{KeptFrom, kept_all, kept_later, kept_twice}
+use Rattle.numbers.specs.Kept.{KeptFrom}
+use Rattle.numbers.proofs.Kept.{kept_all, kept_later, kept_twice}
 use Rattle.strips.specs.Least.{Least, none}
 use Rattle.pads.specs.Pads.{Sides, bit}
 use Rattle.pads.specs.Counts.{le_or_lt, drop_at}

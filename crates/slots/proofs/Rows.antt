@@ -6,7 +6,8 @@ use Prim.Native.Nat.{ℕ, ◌+◌, ◌-◌, ◌≤◌, ◌<◌, min}
 use native.Mathlib.Omega.{arith}
 use lib.ListN.{length, get_or, set, length-set}
 use lib.Seq.{get_or-set_same, get_or-set_other}
-use Rattle.numbers.specs.Kept.{KeptFrom, kept_all, kept_set}
+use Rattle.numbers.specs.Kept.{KeptFrom}
+use Rattle.numbers.proofs.Kept.{kept_all, kept_set}
 use Rattle.pads.specs.Counts.{le_or_lt}
 use Rattle.slots.specs.Slots.{no_sum, layer_of, cell_at, port_sum, lowest, Sums, Readable, Fillable, FilledStrips}
 use Rattle.slots.proofs.Spots.{cell_in, cell_apart}

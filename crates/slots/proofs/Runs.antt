@@ -6,7 +6,7 @@ use Prim.Native.Nat.{ℕ, ◌+◌, ◌≤◌, ◌<◌}
 use native.Mathlib.Omega.{arith}
 use lib.ListN.{length, get_or, set}
 use lib.Seq.{get_or-set_same, get_or-set_other}
-use Rattle.numbers.specs.Kept.{kept_all, kept_set}
+use Rattle.numbers.proofs.Kept.{kept_all, kept_set}
 use Rattle.pads.specs.Counts.{le_or_lt}
 use Rattle.slots.specs.Slots.{Written}
 

@@ -2,7 +2,7 @@
 use Rattle.std.specs.Prelude.{◌≡◌, List, ℕ, ◌^◌, ◌≤◌, length}
 use Rattle.std.proofs.Common.{sym, ap, ◌∙◌, arith}
 use Rattle.strips.specs.Grid.{Grid, best}
-use Rattle.strips.specs.FirstNext.{optimal_best}
+use Rattle.strips.proofs.FirstNext.{optimal_best}
 use Rattle.totals.specs.Cell.{grid_of, coded_by, no_total, coded, least_of}
 use Rattle.slots.specs.Slots.{no_sum, stored, TellsLeast}
 use Rattle.places.specs.Places.{port_in}

@@ -10,7 +10,7 @@ use lib.Dec.{eqb}
 use lib.ListN.{length, get_or, set, length-set}
 use lib.Seq.{get_or-set_same, get_or-set_other}
 use borrow.Author.Tests.{eqb-false}
-use Rattle.strips.specs.Lists.{keep_same}
+use Rattle.strips.proofs.Lists.{keep_same}
 use Rattle.strips.specs.Grid.{Grid}
 use Rattle.strips.specs.Grid as strip
 use Rattle.pads.specs.Pads.{Sides, fits, bit, pads_in, sides_of, Pads}

@@ -11,7 +11,7 @@ use lib.Dec.{ltb, eqb}
 use lib.ListN.{length, drop, get_or}
 use lib.Seq.{drop-cons}
 use borrow.Author.Tests.{ltb-true, ltb-false, eqb-true, eqb-false}
-use Rattle.numbers.specs.Filled.{place_in}
+use Rattle.numbers.proofs.Filled.{place_in}
 use Rattle.pads.specs.Pads.{Sides, fits, bit, pads_in, sides_of, Pads, Head}
 use Rattle.totals.specs.Strip.{parted_within, best_within, local_within}
 use Rattle.totals.specs.Cell.{no_total, figures, choice, place, coded, Sizes, Strip, Valued, Cell, Parts, Port, sum_at, port_total}

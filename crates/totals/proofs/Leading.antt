@@ -8,7 +8,8 @@ use lib.ListN.{length, get_or, drop}
 use lib.Dec.{eqb}
 use borrow.Author.Tests.{eqb-true, eqb-false}
 use Rattle.strips.specs.Least.{Least}
-use Rattle.strips.specs.Lists.{keep, keep_if}
+use Rattle.strips.specs.Lists.{keep}
+use Rattle.strips.proofs.Lists.{keep_if}
 use Rattle.pads.specs.Pads.{Sides, fits, bit, pads_in, sides_of, Pads}
 use Rattle.totals.specs.Strip.{best_within}
 use Rattle.totals.specs.Cell.{no_total, figures, grid_of, choice, place, coded, Strip, FullFrom, Table, Leads, Says, Parts, Port, port_total}

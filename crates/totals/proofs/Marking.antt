@@ -10,9 +10,9 @@ use lib.Pow.{shl_exact}
 use lib.Dec.{leb, ltb, eqb}
 use lib.ListN.{length, get_or}
 use borrow.Author.Tests.{ltb-true, ltb-false, leb-true, eqb-true, lt-ltb, le-ltb, le-leb, eq-eqb}
-use Rattle.numbers.specs.Sets.{set_with, set_without, set_none, set_small}
+use Rattle.numbers.proofs.Sets.{set_with, set_without, set_none, set_small}
 use Rattle.strips.specs.Least.{Least, least}
-use Rattle.strips.specs.Lists.{both}
+use Rattle.strips.proofs.Lists.{both}
 use Rattle.strips.specs.Prefix.{Lies}
 use Rattle.pads.specs.Pads.{Sides, fits, sides_of, Pads}
 use Rattle.pads.specs.Counts.{le_or_lt, bit_true}

@@ -8,7 +8,7 @@ use native.Mathlib.Nat.{mul-le-mul}
 use lib.Dec.{ltb, eqb}
 use lib.ListN.{length, get_or}
 use borrow.Author.Tests.{ltb-true, eqb-true, eqb-false, eq-eqb, ne_eqb}
-use Rattle.strips.specs.Lists.{both}
+use Rattle.strips.proofs.Lists.{both}
 use Rattle.totals.specs.Cell.{no_total, place, Sizes, CopiedRow, Port, opens, sum_at, port_total}
 use Rattle.totals.proofs.Corners.{corner_top, place-listed}
 

@@ -4,7 +4,8 @@ use Rattle.std.proofs.Math.Path.{refl, ap}
 use Rattle.std.proofs.Common.{sym, ◌∙◌, subst, arith}
 use mathlib.Core.List.{List, ◌∷◌}
 use Rattle.strips.specs.Least.{Least, some}
-use Rattle.strips.specs.Lists.{keep, keep_yes}
+use Rattle.strips.specs.Lists.{keep}
+use Rattle.strips.proofs.Lists.{keep_yes}
 use Rattle.strips.specs.Grid as strip
 use Rattle.strips.specs.Prefix.{lies, Lies}
 use Rattle.pads.specs.Pads.{Sides, spans, fits}

@@ -6,7 +6,8 @@ use Rattle.std.proofs.Math.Bool.{true, false}
 use mathlib.Core.List.{List, [], ◌∷◌}
 use Rattle.strips.specs.Least.{Least, none, some, least}
 use Rattle.strips.specs.Least as totals
-use Rattle.strips.specs.Lists.{keep, every, keep_yes, keep_no, keep_and, keep_cong, both, same_test}
+use Rattle.strips.specs.Lists.{keep, every}
+use Rattle.strips.proofs.Lists.{keep_yes, keep_no, keep_and, keep_cong, both, same_test}
 use Rattle.strips.specs.Grid as strip
 use Rattle.strips.specs.Strips as laws
 use Rattle.pads.specs.Pads.{Sides, spans, fits}

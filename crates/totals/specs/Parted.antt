@@ -7,7 +7,7 @@ use Rattle.std.proofs.lemmas.Bool.{false≢true}
 use mathlib.Core.List.{List, [], ◌∷◌}
 use Prim.Native.Nat.{ℕ, ◌+◌, ◌≤◌, ◌<◌, zero-le}
 use native.Mathlib.Omega.{arith}
-use Rattle.strips.specs.Lists.{both}
+use Rattle.strips.proofs.Lists.{both}
 use Rattle.pads.specs.Pads.{Sides, spans, fits, bit, pads_in}
 use Rattle.pads.specs.Counts.{spans_by}
 use Rattle.totals.specs.Strip.{cut, parted_within}

@@ -1,6 +1,4 @@
--- Place: the definitions. Tree and Count: how many layouts there are, and where each stands. Ranks: that these are the places and the count.
-pub mod Compare
+-- The definitions. Tree and Count: how many layouts there are. Place: the place of a best layout, and how many there are.
 pub mod Tree
 pub mod Count
 pub mod Place
-pub mod Ranks

@@ -7,7 +7,7 @@ use native.Mathlib.Numerals.{add-one}
 use native.Mathlib.Omega.{arith}
 use lib.Arith.{digits_div, digits_mod}
 use lib.ListN.{length, get_or, set}
-use Rattle.numbers.specs.Filled.{filled_more, filled_to, place_in}
+use Rattle.numbers.proofs.Filled.{filled_more, filled_to, place_in}
 use Rattle.paper.specs.Layouts.{Board, TableOf}
 use Rattle.weights.specs.Rows.{placed, FilledTo, lent_figure, FilledFrom, FiguresFrom}
 

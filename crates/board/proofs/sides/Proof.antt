@@ -4,8 +4,8 @@ use Prim.Native.Nat.{◌-◌, ◌≤◌, ◌<◌}
 use native.Mathlib.Omega.{arith}
 use mir.Syntax.{w64}
 use mir.Val.{to_z, of_z}
-use Rattle.numbers.specs.Bits.{read_back}
-use Rattle.numbers.specs.Filled.{filled_none, filled_more, filled_done}
+use Rattle.numbers.proofs.Bits.{read_back}
+use Rattle.numbers.proofs.Filled.{filled_none, filled_more, filled_done}
 use Rattle.paper.specs.Job.{count, y_of}
 use Rattle.paper.specs.Layouts.{board_from}
 use Rattle.board.specs.Lists.{Lows, Highs}

@@ -7,7 +7,7 @@ use mir.Val.{to_z, of_z}
 use mathlib.Core.Bool.{true, false}
 use lib.IntN.{ℤ}
 use lib.Signed.{lt_z, lt_z_yes, lt_z_no}
-use Rattle.numbers.specs.Bits.{read_back}
+use Rattle.numbers.proofs.Bits.{read_back}
 use Rattle.paper.specs.Job.{port_count, port_of}
 use Rattle.board.proofs.Counts.{Halved, halved_none, halved_up, halved_down, halved_done}
 use Rattle.board.proofs.under.Statement.{statement}

@@ -4,7 +4,7 @@ use native.Mathlib.Omega.{arith}
 use borrow.Author.Rules.{rules}
 use mir.Syntax.{w64}
 use mir.Val.{of_z}
-use Rattle.numbers.specs.Bits.{same_bits}
+use Rattle.numbers.proofs.Bits.{same_bits}
 use Rattle.paper.specs.Job.{port_count, port_of}
 use Rattle.board.proofs.Counts.{upto_same, upto_more}
 use Rattle.board.proofs.upto.Statement.{statement}

@@ -4,7 +4,7 @@ use Prim.Native.Nat.{◌+◌, ◌*◌, ◌^◌, ◌<◌}
 use native.Mathlib.Omega.{arith}
 use lib.IntN.{ℤ, pos, nat_abs}
 use mir.Syntax.{w64}
-use Rattle.numbers.specs.Bits.{minus_fits, minus_back}
+use Rattle.numbers.proofs.Bits.{minus_fits, minus_back}
 use Rattle.cheremysl.proofs.of_refusal.Statement.{statement}
 use Rattle.cheremysl.proofs.of_refusal.Tie as tie
 

@@ -3,8 +3,8 @@ use native.Mathlib.Omega.{arith}
 use mathlib.Core.Path.{ap, ◌∙◌}
 use lib.IntN.{nat_abs}
 use mir.Syntax.{w32}
-use Rattle.numbers.specs.Signs.{nat_abs_neg}
-use Rattle.numbers.specs.Bits.{minus_fits, minus_back}
+use Rattle.numbers.proofs.Signs.{nat_abs_neg}
+use Rattle.numbers.proofs.Bits.{minus_fits, minus_back}
 use Rattle.draw.proofs.downward.Statement.{statement}
 use Rattle.draw.proofs.downward.Tie as tie
 

@@ -8,7 +8,7 @@ use mir.Syntax.{w32, w64}
 use mir.Val.{to_z, of_z}
 use Rattle.paper.specs.declared.Drawn.TheVariants.{Straight, Bent}
 use Rattle.paper.specs.laws.Drawn.{canvas, level_drawn, bend_drawn}
-use Rattle.numbers.specs.Bits.{same_bits}
+use Rattle.numbers.proofs.Bits.{same_bits}
 use Rattle.draw.proofs.Bits.{height_back}
 use Rattle.draw.proofs.lead.Statement.{statement}
 use Rattle.draw.proofs.lead.Tie as tie

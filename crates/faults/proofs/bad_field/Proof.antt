@@ -1,5 +1,5 @@
 -- `faults::bad_field` meets its contract. Assumes nothing.
-use Rattle.numbers.specs.Bits.{read_back}
+use Rattle.numbers.proofs.Bits.{read_back}
 use borrow.Author.Rules.{rules}
 use Rattle.faults.proofs.bad_field.Statement.{statement}
 use Rattle.faults.proofs.bad_field.Tie as tie

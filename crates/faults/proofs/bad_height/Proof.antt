@@ -1,5 +1,5 @@
 -- `faults::bad_height` meets its contract. Assumes nothing.
-use Rattle.numbers.specs.Bits.{read_back}
+use Rattle.numbers.proofs.Bits.{read_back}
 use borrow.Author.Rules.{rules}
 use Rattle.faults.proofs.bad_height.Statement.{statement}
 use Rattle.faults.proofs.bad_height.Tie as tie

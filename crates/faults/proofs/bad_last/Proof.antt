@@ -1,6 +1,6 @@
 -- `faults::bad_last` meets its contract. Assumes nothing.
 use Rattle.paper.specs.Job.{last_of, port_of}
-use Rattle.numbers.specs.Bits.{read_back}
+use Rattle.numbers.proofs.Bits.{read_back}
 use borrow.Author.Rules.{rules}
 use Rattle.faults.proofs.bad_last.Statement.{statement}
 use Rattle.faults.proofs.bad_last.Tie as tie

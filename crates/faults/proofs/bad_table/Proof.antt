@@ -8,7 +8,7 @@ use native.Mathlib.Decide.{ℕ_discrete}
 use native.Mathlib.Omega.{arith}
 use lib.Arith.{digits_div, digits_mod}
 use lib.Dec.{T, eqb}
-use Rattle.numbers.specs.Tests.{or_iff, not_iff, eqb_iff}
+use Rattle.numbers.proofs.Tests.{or_iff, not_iff, eqb_iff}
 use Rattle.paper.specs.Job.{count}
 use borrow.Author.Rules.{rules}
 use Rattle.faults.proofs.bad_table.Statement.{statement}

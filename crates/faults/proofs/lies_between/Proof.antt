@@ -7,9 +7,9 @@ use lib.IntN.{ℤ}
 use lib.Signed.{le_z, lt_z, lt_z_yes, lt_z_no, ◌≤ℤ◌, ◌<ℤ◌}
 use mir.Syntax.{w64}
 use mir.Val.{to_z, of_z}
-use Rattle.numbers.specs.Bits.{read_back}
-use Rattle.numbers.specs.Tests.{le_iff, true_iff, not_iff}
-use Rattle.numbers.specs.Whole.{whole, le_or_le}
+use Rattle.numbers.proofs.Bits.{read_back}
+use Rattle.numbers.proofs.Tests.{le_iff, true_iff, not_iff}
+use Rattle.numbers.proofs.Whole.{whole, le_or_le}
 use Rattle.paper.specs.laws.Tests.{between}
 use Rattle.faults.proofs.lies_between.Statement.{statement}
 use Rattle.faults.proofs.lies_between.Tie as tie

@@ -6,7 +6,7 @@ use lib.IntN.{pos, ◌+ℤ◌, ◌-ℤ◌}
 use lib.Signed.{le_z}
 use borrow.Author.Rules.{rules}
 use borrow.Author.Tests.{lt-leb, le-leb}
-use Rattle.numbers.specs.Bits.{read_back}
+use Rattle.numbers.proofs.Bits.{read_back}
 use Rattle.paper.specs.laws.Tests.{reaches, not_right, under_top, over_bottom, meets}
 use Rattle.faults.proofs.meets.Statement.{statement}
 use Rattle.faults.proofs.meets.Tie as tie

@@ -1,7 +1,7 @@
 -- `faults::meets_large` meets its contract. Assumes nothing.
 use native.Mathlib.Omega.{arith}
 use borrow.Author.Tests.{lt-ltb, le-ltb}
-use Rattle.numbers.specs.Bits.{read_back}
+use Rattle.numbers.proofs.Bits.{read_back}
 use Rattle.paper.specs.laws.Tests.{meets_large}
 use borrow.Author.Rules.{rules}
 use Rattle.faults.proofs.meets_large.Statement.{statement}

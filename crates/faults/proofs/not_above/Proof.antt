@@ -1,6 +1,6 @@
 -- `faults::not_above` meets its contract. Assumes nothing.
 use borrow.Author.Tests.{lt-ltb}
-use Rattle.numbers.specs.Bits.{read_back}
+use Rattle.numbers.proofs.Bits.{read_back}
 use borrow.Author.Rules.{rules}
 use Rattle.faults.proofs.not_above.Statement.{statement}
 use Rattle.faults.proofs.not_above.Tie as tie

@@ -1,5 +1,5 @@
 -- `faults::out_of_range` meets its contract. Assumes nothing.
-use Rattle.numbers.specs.Bits.{read_back}
+use Rattle.numbers.proofs.Bits.{read_back}
 use Rattle.paper.specs.laws.Tests.{outside}
 use Rattle.faults.proofs.out_of_range.Statement.{statement}
 use Rattle.faults.proofs.out_of_range.Tie as tie

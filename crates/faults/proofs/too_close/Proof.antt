@@ -3,7 +3,7 @@ use Prim.Native.Nat.{◌<◌, ◌^◌}
 use borrow.Author.Tests.{lt-ltb}
 use lib.IntN.{◌-ℤ◌}
 use lib.Signed.{mag}
-use Rattle.numbers.specs.Bits.{read_back, difference_fits}
+use Rattle.numbers.proofs.Bits.{read_back, difference_fits}
 use borrow.Author.Rules.{rules}
 use Rattle.faults.proofs.too_close.Statement.{statement}
 use Rattle.faults.proofs.too_close.Tie as tie

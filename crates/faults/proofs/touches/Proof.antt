@@ -1,6 +1,6 @@
 -- `faults::touches` meets its contract: each return is a case of `records_touch`. Assumes nothing.
 use mathlib.Core.Path.{◌≡◌, sym, ◌∙◌, refl}
-use Rattle.numbers.specs.Bits.{read_back}
+use Rattle.numbers.proofs.Bits.{read_back}
 use Rattle.paper.specs.Layouts.{Board, board_from, held, leader, square}
 use Rattle.paper.specs.laws.Tests.{leaders_touch, meets_large}
 use Prim.Native.Nat.{ℕ}

@@ -2,7 +2,7 @@
 use Prim.Native.Nat.{◌<◌, ◌^◌}
 use lib.IntN.{nat_abs, ◌-ℤ◌}
 use lib.Signed.{mag}
-use Rattle.numbers.specs.Bits.{read_back, difference_small, difference_fits}
+use Rattle.numbers.proofs.Bits.{read_back, difference_small, difference_fits}
 use Rattle.job.proofs.distance.Statement.{statement}
 use Rattle.job.proofs.distance.Tie as tie
 

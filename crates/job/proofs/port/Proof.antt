@@ -2,7 +2,7 @@
 use mathlib.Core.Path.{◌∙◌, ap}
 use borrow.Author.Rules.{rules}
 use Rattle.paper.specs.Job.{port_of, twos, u32_at}
-use Rattle.numbers.specs.Bits.{read_back}
+use Rattle.numbers.proofs.Bits.{read_back}
 use Rattle.job.proofs.Heights.{port_inside}
 use Rattle.job.proofs.port.Statement.{statement}
 use Rattle.job.proofs.port.Tie as tie

@@ -5,7 +5,7 @@ use native.Mathlib.Omega.{arith}
 use lib.IntN.{pos, ◌+ℤ◌}
 use lib.Signed.{mag}
 use borrow.Author.Rules.{rules}
-use Rattle.numbers.specs.Bits.{read_back, word_back, sum_small}
+use Rattle.numbers.proofs.Bits.{read_back, word_back, sum_small}
 use Rattle.job.proofs.raised.Statement.{statement}
 use Rattle.job.proofs.raised.Tie as tie
 

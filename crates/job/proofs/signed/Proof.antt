@@ -10,8 +10,8 @@ use lib.Signed.{mag}
 use mir.Syntax.{w64}
 use mir.Val.{to_z}
 use mir.ValLaws.{to_z_pos}
-use Rattle.numbers.specs.Bits.{read_back}
-use Rattle.numbers.specs.Whole.{whole, minus_num}
+use Rattle.numbers.proofs.Bits.{read_back}
+use Rattle.numbers.proofs.Whole.{whole, minus_num}
 use Rattle.paper.specs.Job.{twos}
 use Rattle.paper.specs.laws.Written.{wrapped}
 use Rattle.job.proofs.signed.Statement.{statement}

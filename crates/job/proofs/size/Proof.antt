@@ -6,7 +6,7 @@ use lib.IntN.{pos, ◌-ℤ◌}
 use lib.Signed.{mag}
 use mir.Syntax.{w64}
 use mir.Val.{to_z, of_z}
-use Rattle.numbers.specs.Bits.{read_back, mag_le}
+use Rattle.numbers.proofs.Bits.{read_back, mag_le}
 use Rattle.job.proofs.Heights.{Negated, negated, not_below_zero}
 use Rattle.job.proofs.size.Statement.{statement}
 use Rattle.job.proofs.size.Tie as tie

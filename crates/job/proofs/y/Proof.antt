@@ -2,7 +2,7 @@
 use borrow.Author.Rules.{rules}
 use mathlib.Core.Path.{◌∙◌, ap}
 use Rattle.paper.specs.Job.{y_of, twos}
-use Rattle.numbers.specs.Bits.{read_back}
+use Rattle.numbers.proofs.Bits.{read_back}
 use Rattle.job.proofs.y.Statement.{statement}
 use Rattle.job.proofs.y.Tie as tie
 

@@ -2,7 +2,7 @@
 use Prim.Native.Nat.{◌*◌, ◌≤◌}
 use native.Mathlib.Omega.{arith}
 use native.Mathlib.Nat.{mul-le-mul}
-use Rattle.numbers.specs.Filled.{place_in}
+use Rattle.numbers.proofs.Filled.{place_in}
 use Rattle.paper.specs.Job.{count, port_count}
 use borrow.Author.Rules.{rules}
 use Rattle.measure.proofs.cost.Statement.{statement}

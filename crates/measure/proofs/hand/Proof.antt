@@ -1,5 +1,5 @@
 -- `measure::hand` meets its contract. Assumes nothing.
-use Rattle.numbers.specs.Bits.{read_back}
+use Rattle.numbers.proofs.Bits.{read_back}
 use borrow.Author.Rules.{rules}
 use Rattle.measure.proofs.hand.Statement.{statement}
 use Rattle.measure.proofs.hand.Tie as tie

@@ -4,7 +4,7 @@ use Prim.Native.Nat.{◌*◌}
 use native.Mathlib.Nat.{mul-le-mul}
 use lib.Seq.{length-take-le}
 use borrow.Author.Rules.{rules}
-use Rattle.numbers.specs.Filled.{zeros_front}
+use Rattle.numbers.proofs.Filled.{zeros_front}
 use Rattle.paper.specs.Job.{count}
 use Rattle.numbering.proofs.ask.Statement.{statement}
 use Rattle.numbering.proofs.ask.Tie as tie

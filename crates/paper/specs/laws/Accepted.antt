@@ -4,7 +4,7 @@ use Rattle.std.specs.Prelude.{◌≡◌, ◌≢◌, ◌↔◌, List, [], ◌∷�
 use Rattle.std.proofs.Common.{ap, inl, inr, ⊎_elim, lt_of_not-le, le_of_suc-le-suc, not-suc-le-zero, eq-or-lt_of_le, arith}
 use Rattle.std.proofs.Math.Logic.Dec
 use Rattle.std.proofs.Math.Decide.{ℕ_discrete}
-use Rattle.numbers.specs.Whole.{whole, nlt_num, plus_num, less_num}
+use Rattle.numbers.proofs.Whole.{whole, nlt_num, plus_num, less_num}
 use Rattle.paper.specs.declared.Refusal.{Refusal}
 use Rattle.paper.specs.declared.Form.{Form}
 use Rattle.paper.specs.declared.Form.TheVariants.{Records}

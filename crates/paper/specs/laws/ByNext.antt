@@ -4,7 +4,7 @@
 --     page_by_next, paged_on;  place_by_next, run_place, run_count
 use Rattle.std.specs.Prelude.{◌≡◌, refl, ◌⊎◌, ◌↔◌, List, [], ◌∷◌, ℕ, zero, suc, ◌+◌, ◌*◌, ◌-◌, ◌≤◌, ◌<◌, length, get_or, ℤ, pos, negsuc}
 use Rattle.std.proofs.Common.{sym, ap, ◌∙◌, inl, inr, arith}
-use Rattle.numbers.specs.Whole.{whole, neg_nums}
+use Rattle.numbers.proofs.Whole.{whole, neg_nums}
 use Rattle.paper.specs.declared.Answer.TheVariants.{Total, End, Refused}
 use Rattle.paper.specs.declared.Counted.TheVariants.{Many, Refused as NotCounted}
 use Rattle.paper.specs.Layouts.{Board, held, Same}

@@ -2,7 +2,7 @@
 --     measure_decided, draw_decided;  decided_append;  tests_decide: of any trials whose tests say what they say;  tests_pass, tests_refuse: computed
 use Rattle.std.specs.Prelude.{◌≡◌, refl, ◌≢◌, ◌⊎◌, ◌↔◌, Bool, true, false, not, ◌&&◌, ◌||◌, List, [], ◌∷◌, ◌++◌, ℕ, zero, suc, ◌*◌, ◌≤◌, ◌<◌, T, eqb, ltb, length}
 use Rattle.std.proofs.Common.{inl, inr, ⊎_elim, le_of_suc-le-suc, not-suc-le-zero, eq-or-lt_of_le, arith, eqb→eq, ltb→lt}
-use Rattle.numbers.specs.Tests.{both, either, dec_iff, not_iff, ltb_iff, eqb_iff}
+use Rattle.numbers.proofs.Tests.{both, either, dec_iff, not_iff, ltb_iff, eqb_iff}
 use Rattle.paper.specs.declared.Refusal.{Refusal}
 use Rattle.paper.specs.declared.Form.TheVariants.{Records, Slots}
 use Rattle.paper.specs.declared.Work.{Work}

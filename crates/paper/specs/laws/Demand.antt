@@ -4,7 +4,7 @@
 use Rattle.std.specs.Prelude.{◌≡◌, refl, ◌⊎◌, List, [], ◌∷◌, ◌++◌, ℕ, zero, suc, ◌<◌, length, get_or, pos, negsuc}
 use Rattle.std.proofs.Common.{inl, inr, arith}
 use Rattle.std.proofs.Math.Decide.{dec_lt}
-use Rattle.numbers.specs.Whole.{whole, eq_num}
+use Rattle.numbers.proofs.Whole.{whole, eq_num}
 use Rattle.paper.specs.declared.Answer.TheVariants.{Total, End}
 use Rattle.paper.specs.Layouts.{Board, held, Same}
 use Rattle.paper.specs.Problem.{Best, Before, FirstBest, NextBest}

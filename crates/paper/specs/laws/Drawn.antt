@@ -8,7 +8,7 @@ use Rattle.std.proofs.Math.ListN.{get_or-append}
 use Rattle.std.proofs.Math.IntN.{ℤ_discrete}
 use Rattle.std.specs.Float.{fin}
 use Rattle.std.specs.Float.Ieee.{round}
-use Rattle.numbers.specs.Signs.{nat_abs_neg, apart_zero, zero_apart}
+use Rattle.numbers.proofs.Signs.{nat_abs_neg, apart_zero, zero_apart}
 use Rattle.paper.specs.declared.Point.{Point}
 use Rattle.paper.specs.declared.Two.{Two}
 use Rattle.paper.specs.declared.Three.{Three}

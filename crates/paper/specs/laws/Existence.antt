@@ -4,8 +4,8 @@ use Rattle.std.specs.Prelude.{◌≡◌, ◌≢◌, ◌⊎◌, ℕ, ◌+◌, ◌
 use Rattle.std.proofs.Math.Logic.{inl, inr}
 use Rattle.std.proofs.Math.Decide.{dec_lt}
 use Rattle.std.proofs.Common.{arith}
-use Rattle.numbers.specs.Whole.{whole, apart_num}
-use Rattle.numbers.specs.Tests.{dec_iff}
+use Rattle.numbers.proofs.Whole.{whole, apart_num}
+use Rattle.numbers.proofs.Tests.{dec_iff}
 use Rattle.paper.specs.Leaders.{Between, distance, length_of}
 use Rattle.paper.specs.Layouts.{Board, leader, Layout, Untouching, sum}
 use Rattle.paper.specs.Points.{Points, LeadersApart}

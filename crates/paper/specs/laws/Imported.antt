@@ -6,7 +6,7 @@ use Rattle.std.proofs.Common.{sym, ap, subst, ◌∙◌, inl, inr, ⊎_elim, ari
 use Rattle.std.proofs.Math.Logic.Iff
 use Rattle.std.proofs.Math.Decide.{dec_lt}
 use Rattle.std.proofs.lemmas.List.{length-map}
-use Rattle.numbers.specs.Tests.{both, or_iff, ltb_iff, eqb_iff}
+use Rattle.numbers.proofs.Tests.{both, or_iff, ltb_iff, eqb_iff}
 use Rattle.paper.specs.declared.Form.TheVariants.{Slots}
 use Rattle.paper.specs.Job.{twos, count, name_of, x_of, square_and_port, bits}
 use Rattle.paper.specs.Csv.{Pad, ReadsAs, ReadWith, BadLine, pad_at, records_of}

@@ -4,7 +4,7 @@
 --     first_work, next_work, buffer_open, buffer_many, buffer_past, buffer_kept: what it tells of what is lent for work
 use Rattle.std.specs.Prelude.{◌≡◌, refl, ◌≢◌, ◌⊎◌, ◌↔◌, List, [], ◌∷◌, ◌++◌, ℕ, zero, suc, ◌+◌, ◌*◌, ◌/◌, ◌%◌, ◌≤◌, ◌<◌, length, ℤ, pos, negsuc, neg_ℤ, nat_abs, ◌≤ℤ◌, Float}
 use Rattle.std.proofs.Common.{sym, ap, subst, ◌∙◌, inl, inr, ⊎_elim, arith}
-use Rattle.numbers.specs.Whole.{whole, eq_num, neg_nums}
+use Rattle.numbers.proofs.Whole.{whole, eq_num, neg_nums}
 use Rattle.paper.specs.declared.Refusal.{Refusal}
 use Rattle.paper.specs.declared.Answer.{Answer}
 use Rattle.paper.specs.declared.Answer.TheVariants.{Total, End, Refused}

@@ -3,7 +3,8 @@
 use Rattle.std.specs.Prelude.{◌≡◌, refl, ◌⊎◌, List, ℕ, zero, suc, ◌+◌, ◌*◌, ◌/◌, ◌%◌, ◌≤◌, ◌<◌, length, get_or}
 use Rattle.std.proofs.Common.{sym, ◌∙◌, inl, inr, ⊎_elim, suc-mul, mul-le-mul_right, div-add-mod', mod-lt, div-lt_iff_lt-mul, arith}
 use Rattle.std.proofs.Math.Decide.{dec_lt}
-use Rattle.numbers.specs.Copies.{Copied, copied}
+use Rattle.numbers.specs.Copies.{Copied}
+use Rattle.numbers.proofs.Copies.{copied}
 use Rattle.paper.specs.Layouts.{held, Same}
 use Rattle.paper.specs.Problem.{Problem, Best, NextBest, LastBest}
 use Rattle.paper.specs.Promises.{Kept, in_turn, Following}

@@ -7,7 +7,7 @@
 use Rattle.std.specs.Prelude.{◌≡◌, refl, ◌⊎◌, ◌↔◌, Bool, List, [], ◌∷◌, ◌++◌, ℕ, zero, suc, ◌+◌, ◌≤◌, ◌<◌, T, leb, ltb}
 use Rattle.std.proofs.Common.{sym, subst, inl, inr, ⊎_elim, le_of_suc-le-suc, eq-or-lt_of_le, lt_of_not-le, arith}
 use Rattle.std.proofs.Math.Decide.{dec_lt}
-use Rattle.numbers.specs.Tests.{leb_iff, ltb_iff}
+use Rattle.numbers.proofs.Tests.{leb_iff, ltb_iff}
 use Rattle.paper.specs.declared.Refusal.{Refusal}
 use Rattle.paper.specs.declared.Work.TheVariants.{Unlent}
 use Rattle.paper.specs.Job.{Job}

@@ -7,7 +7,8 @@ use Rattle.std.proofs.Common.{sym, ◌∙◌, subst, inl, inr, mul-le-mul_left, 
 use Rattle.std.proofs.Math.Decide.{dec_lt}
 use Rattle.std.proofs.Math.Nat.{le_of_mul-le-mul_left}
 use Rattle.std.specs.Int.Signed.{≤ℤ_refl}
-use Rattle.numbers.specs.Whole.{whole, up, dn, plus_num, minus_num, apart_num, antisym, ≤ℤ-trans, times_up, times_dn}
+use Rattle.numbers.specs.Whole.{up, dn}
+use Rattle.numbers.proofs.Whole.{whole, plus_num, minus_num, apart_num, antisym, ≤ℤ-trans, times_up, times_dn}
 use Rattle.paper.specs.Leaders.{Spot, Leader, Square, Between, On, Touch, Meets, distance}
 use Rattle.paper.specs.Plane.{Line, BetweenIn, OnIn, TouchIn, Near, MeetsIn}
 use Rattle.paper.specs.laws.Touching.{between_end, touch_sym, touch_iff}

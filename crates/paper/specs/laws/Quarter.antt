@@ -8,7 +8,7 @@ use Rattle.std.specs.Float.Ieee.Exact.{HasValue, round_exact}
 use Rattle.std.specs.Float.Ieee.Back.{round_whole}
 use Rattle.std.specs.Float.Ieee.Fits.{round-fits, down_pos}
 use Rattle.std.specs.Float.Ieee.Scale.{round_same}
-use Rattle.numbers.specs.Floats.{value_unique, scaled}
+use Rattle.numbers.proofs.Floats.{value_unique, scaled}
 use Rattle.paper.specs.Canvas.{negative, FourTimesIs}
 
 -- The 32-bit float nearest to v / 4. It is negative only where v is, so that of 0 is +0.

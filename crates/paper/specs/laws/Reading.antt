@@ -9,7 +9,7 @@ use Rattle.std.proofs.lemmas.List.{get_or_at}
 use Rattle.std.specs.Float.{binary32}
 use Rattle.std.specs.Float.Ieee.{round}
 use Rattle.std.specs.Float.Ieee.Scale.{round_same}
-use Rattle.numbers.specs.Floats.{round_back}
+use Rattle.numbers.proofs.Floats.{round_back}
 use Rattle.text.specs.Text.{bytes, digits, decimal, joined, Begins, read_digits}
 use Rattle.text.specs.Digits.{read-append, decimal_reads, decimal-digits, free, free-append, decimal-free, begins_append, decimal-first}
 use Rattle.paper.specs.declared.Point.{Point}

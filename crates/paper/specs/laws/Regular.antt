@@ -3,7 +3,7 @@
 --     regular   the calls on every job, by weights and by tables
 use Rattle.std.specs.Prelude.{◌↔◌, not, List, [], ◌∷◌, ◌++◌, ℕ, ◌≤◌, ◌<◌, length}
 use Rattle.std.proofs.Math.Dec.{T}
-use Rattle.numbers.specs.Tests.{not_iff}
+use Rattle.numbers.proofs.Tests.{not_iff}
 use Rattle.paper.specs.declared.Work.{Work}
 use Rattle.paper.specs.declared.Work.TheVariants.{Unlent}
 use Rattle.paper.specs.Job.{Job}

@@ -5,7 +5,7 @@
 use Rattle.std.specs.Prelude.{◌≡◌, refl, ◌≢◌, List, [], ◌∷◌, ℕ, zero, suc, ◌+◌, ◌*◌, ◌<◌, length, pos}
 use Rattle.std.proofs.Common.{sym, ap, ◌∙◌, inl, inr, mul-le-mul_left, arith}
 use Rattle.std.proofs.Math.Decide.{ℕ_discrete}
-use Rattle.numbers.specs.Whole.{whole}
+use Rattle.numbers.proofs.Whole.{whole}
 use Rattle.paper.specs.declared.Answer.TheVariants.{Total}
 use Rattle.paper.specs.declared.Work.{Work}
 use Rattle.paper.specs.declared.Work.TheVariants.{Unlent}

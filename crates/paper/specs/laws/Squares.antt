@@ -7,8 +7,9 @@ use Rattle.std.proofs.Math.Logic.Iff
 use Rattle.std.proofs.Math.Decide.{dec_lt, dec_le}
 use Rattle.std.proofs.Math.Dec.{leb}
 use Rattle.std.specs.Int.Signed.{le_z}
-use Rattle.numbers.specs.Whole.{whole, up, dn, plus_num, minus_num, apart_num}
-use Rattle.numbers.specs.Tests.{le_iff, leb_iff, ltb_iff, and_iff, or_iff}
+use Rattle.numbers.specs.Whole.{up, dn}
+use Rattle.numbers.proofs.Whole.{whole, plus_num, minus_num, apart_num}
+use Rattle.numbers.proofs.Tests.{le_iff, leb_iff, ltb_iff, and_iff, or_iff}
 use Rattle.paper.specs.Leaders.{Leader, Square, Between, Touch, Meets, distance}
 use Rattle.paper.specs.Layouts.{Board, leader, square, LeadersTouch, Touching, Untouching}
 use Rattle.paper.specs.Points.{Points, LeadersApart}

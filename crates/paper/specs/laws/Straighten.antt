@@ -5,7 +5,8 @@
 use Rattle.std.specs.Prelude.{◌≡◌, ◌≢◌, ◌⊎◌, ℕ, zero, suc, ◌+◌, ◌*◌, ◌-◌, ◌≤◌, ◌<◌}
 use Rattle.std.proofs.Common.{ap, inl, inr, ⊎_elim, mul-le-mul_left, le_of_lt, arith}
 use Rattle.std.proofs.Math.Decide.{dec_lt}
-use Rattle.numbers.specs.Trade.{trade, trade_left, trade_right, trade_other, trade_own, trade-below}
+use Rattle.numbers.specs.Trade.{trade}
+use Rattle.numbers.proofs.Trade.{trade_left, trade_right, trade_other, trade_own, trade-below}
 use Rattle.paper.specs.Layouts.{Board, Layout, sum, total}
 use Rattle.paper.specs.laws.Totals.{term_le, sum_but_two}
 use Rattle.paper.specs.laws.Boards.{own_pad}

@@ -5,8 +5,8 @@ use Rattle.std.proofs.Common.{subst, inl, inr, ⊎_elim, le_of_suc-le-suc, not-s
 use Rattle.std.proofs.Math.Logic.Iff
 use Rattle.std.proofs.Math.Bool.{or_assoc}
 use Rattle.std.specs.Int.Signed.{le_z, lt_z}
-use Rattle.numbers.specs.Whole.{whole}
-use Rattle.numbers.specs.Tests.{and_iff, or_iff, not_iff, leb_iff, ltb_iff, le_iff, eqb_iff, lt_iff}
+use Rattle.numbers.proofs.Whole.{whole}
+use Rattle.numbers.proofs.Tests.{and_iff, or_iff, not_iff, leb_iff, ltb_iff, le_iff, eqb_iff, lt_iff}
 use Rattle.paper.specs.declared.Form.{Form}
 use Rattle.paper.specs.declared.Form.TheVariants.{Records, Slots}
 use Rattle.paper.specs.declared.Work.{Work}

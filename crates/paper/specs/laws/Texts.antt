@@ -9,7 +9,7 @@ use Rattle.std.specs.Float.{fin}
 use Rattle.std.specs.Float.Ieee.{down}
 use Rattle.std.specs.Float.Ieee.Exact.{HasValue}
 use Rattle.std.specs.Float.Ieee.Fits.{down_pos}
-use Rattle.numbers.specs.Signs.{nat_abs_neg}
+use Rattle.numbers.proofs.Signs.{nat_abs_neg}
 use Rattle.text.specs.Text.{bytes, joined}
 use Rattle.text.specs.Digits.{decimal_few}
 use Rattle.paper.specs.declared.Point.{Point}

@@ -5,7 +5,7 @@ use Rattle.std.proofs.Common.{sym, ap, add-one, arith, eqb→eq}
 use Rattle.std.proofs.Math.Logic.{ite, if_pos, if_neg}
 use Rattle.std.proofs.Math.Decide.{ℕ_discrete}
 use Rattle.std.proofs.Math.Nat.{mul-le-mul}
-use Rattle.numbers.specs.Whole.{whole, abs_num, apart_num}
+use Rattle.numbers.proofs.Whole.{whole, abs_num, apart_num}
 use Rattle.paper.specs.Leaders.{Leader, distance, length_of, bends_of}
 use Rattle.paper.specs.Layouts.{Board, held, leader, sum, weighted, Badness, cost_of, total}
 

@@ -4,8 +4,8 @@ use Rattle.std.specs.Prelude.{refl, ◌≢◌, ◌⊎◌, ◌↔◌, ◌&&◌, �
 use Rattle.std.proofs.Common.{sym, ◌∙◌, subst, inl, inr, ⊎_elim, arith}
 use Rattle.std.proofs.Math.Decide.{dec_lt}
 use Rattle.std.specs.Int.Signed.{le_z, ≤ℤ_refl}
-use Rattle.numbers.specs.Whole.{le_or_le}
-use Rattle.numbers.specs.Tests.{le_iff, ltb_iff, and_iff, or_iff}
+use Rattle.numbers.proofs.Whole.{le_or_le}
+use Rattle.numbers.proofs.Tests.{le_iff, ltb_iff, and_iff, or_iff}
 use Rattle.paper.specs.Leaders.{Leader, Between, Touch}
 use Rattle.paper.specs.laws.Tests.{between, leaders_touch}
 

@@ -8,7 +8,7 @@ use mathlib.Core.List.{List, [], ◌∷◌, ◌++◌, map}
 use mathlib.Core.List.{Memᴰ}
 use Prim.Native.Nat.{ℕ, zero, suc, ◌<◌, ◌≤◌, suc-le-suc}
 use Rattle.std.proofs.Math.Decide.{dec_lt, ℕ_discrete}
-use Rattle.numbers.specs.Tests.{either, dec_iff, and_iff, or_iff, not_iff, leb_iff, ltb_iff, eqb_iff}
+use Rattle.numbers.proofs.Tests.{either, dec_iff, and_iff, or_iff, not_iff, leb_iff, ltb_iff, eqb_iff}
 use Rattle.paper.specs.Layouts.{Board, held, Touching, Untouching, Differ, Same}
 use Rattle.paper.specs.Problem.{Problem, Best, Before, FirstBest, NextBest, LastBest, labeling}
 use Rattle.paper.specs.Refusals.{Earlier}

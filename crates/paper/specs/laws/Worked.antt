@@ -3,7 +3,7 @@
 --     worked, worked_pages, worked_counts, worked_places, worked_svg, worked_csv
 use Rattle.std.specs.Prelude.{◌≡◌, refl, Bool, true, false, ◌&&◌, ◌||◌, List, [], ◌∷◌, ◌++◌, ℕ, zero, suc, ◌+◌, ◌*◌, ◌-◌, ◌≤◌, ◌<◌, T, eqb, leb, ltb, length, get_or, take, drop}
 use Rattle.std.proofs.Common.{sym, ap, subst, ◌∙◌, arith, eqb→eq, leb→le, get_or-take, get_or-drop}
-use Rattle.numbers.specs.Tests.{both, or_iff, ltb_iff}
+use Rattle.numbers.proofs.Tests.{both, or_iff, ltb_iff}
 use Rattle.paper.specs.declared.Answer.{Answer}
 use Rattle.paper.specs.declared.Answer.TheVariants.{Total, End, Refused}
 use Rattle.paper.specs.declared.Counted.{Counted}

@@ -3,7 +3,8 @@ use mathlib.Core.Path.{◌≡◌, refl, sym, ap, ◌∙◌, subst}
 use Prim.Native.Nat.{ℕ, ◌+◌, ◌*◌, ◌-◌, ◌≤◌, ◌<◌}
 use native.Mathlib.Omega.{arith}
 use lib.ListN.{length, drop}
-use Rattle.numbers.specs.Kept.{KeptFrom, kept_later, kept_twice}
+use Rattle.numbers.specs.Kept.{KeptFrom}
+use Rattle.numbers.proofs.Kept.{kept_later, kept_twice}
 use Rattle.strips.specs.Least.{Least}
 use Rattle.strips.specs.Grid as strip
 use Rattle.pads.specs.Pads.{sides_of}

@@ -3,7 +3,7 @@ use mathlib.Core.Path.{refl, sym, subst}
 use Prim.Native.Nat.{ℕ, ◌+◌}
 use native.Mathlib.Omega.{arith}
 use lib.ListN.{length, drop}
-use Rattle.numbers.specs.Kept.{kept_later, kept_twice}
+use Rattle.numbers.proofs.Kept.{kept_later, kept_twice}
 use Rattle.strips.specs.Least.{Least}
 use Rattle.pads.specs.Pads.{sides_of}
 use Rattle.slots.specs.Slots.{layer_of, figures_at, figures_in, Written, follows, Opens, Layer, LayerTo, figures_same}

@@ -5,7 +5,7 @@ use Prim.Native.Nat.{ℕ, ◌-◌, ◌*◌, ◌^◌, ◌≤◌, ◌<◌}
 use native.Mathlib.Omega.{arith}
 use lib.ListN.{length, get_or, drop}
 use Rattle.strips.specs.Grid.{cost_sum}
-use Rattle.strips.specs.ByPlace.{place_mem}
+use Rattle.strips.proofs.ByPlace.{place_mem}
 use Rattle.places.specs.Places.{port_in}
 use Rattle.choices.specs.Source.{Source, source, grid_on}
 use Rattle.steps.proofs.Whole.{sum_none, sum_step}

@@ -4,7 +4,7 @@ use mathlib.Core.Path.{◌≡◌}
 use native.Mathlib.Omega.{arith}
 use mir.Syntax.{w64}
 use mir.Val.{to_z, of_z}
-use Rattle.numbers.specs.Bits.{read_back}
+use Rattle.numbers.proofs.Bits.{read_back}
 use Rattle.text.specs.Writing.{writes_then}
 use Rattle.svg.proofs.further.Statement.{statement}
 use Rattle.svg.proofs.further.Tie as tie

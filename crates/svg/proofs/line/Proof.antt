@@ -6,7 +6,7 @@ use native.Mathlib.Omega.{arith}
 use lib.ListN.{length}
 use mir.Syntax.{w64}
 use mir.Val.{to_z, of_z}
-use Rattle.numbers.specs.Bits.{read_back, same_bits}
+use Rattle.numbers.proofs.Bits.{read_back, same_bits}
 use Rattle.paper.specs.Leaders.{Leader}
 use Rattle.paper.specs.laws.Texts.{point_text}
 use Rattle.svg.proofs.Parts.{straight_written, bent_written, straight_length, bent_length, line_long}

@@ -5,7 +5,7 @@ use native.Mathlib.Omega.{arith}
 use lib.IntN.{nat_abs}
 use mir.Syntax.{w64}
 use mir.Val.{to_z, of_z}
-use Rattle.numbers.specs.Bits.{read_back}
+use Rattle.numbers.proofs.Bits.{read_back}
 use Rattle.svg.proofs.Parts.{below_written, below_length, above_written, above_length}
 use Rattle.svg.proofs.numeral.Statement.{statement}
 use Rattle.svg.proofs.numeral.Tie as tie

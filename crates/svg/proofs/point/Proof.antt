@@ -5,8 +5,8 @@ use native.Mathlib.Omega.{arith}
 use lib.IntN.{pos, neg_ℤ, ◌-ℤ◌}
 use mir.Syntax.{w64}
 use mir.Val.{to_z, of_z}
-use Rattle.numbers.specs.Signs.{nat_abs_neg}
-use Rattle.numbers.specs.Bits.{minus_fits, minus_back}
+use Rattle.numbers.proofs.Signs.{nat_abs_neg}
+use Rattle.numbers.proofs.Bits.{minus_fits, minus_back}
 use Rattle.svg.proofs.Parts.{point_written, point_length}
 use Rattle.svg.proofs.point.Statement.{statement}
 use Rattle.svg.proofs.point.Tie as tie

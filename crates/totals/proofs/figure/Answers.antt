@@ -4,7 +4,7 @@ use Prim.Native.Nat.{◌+◌, ◌*◌, ◌^◌, ◌<◌}
 use native.Mathlib.Omega.{arith}
 use native.Mathlib.Nat.{mul-le-mul}
 use lib.ListN.{get_or}
-use Rattle.numbers.specs.Filled.{place_in}
+use Rattle.numbers.proofs.Filled.{place_in}
 use Rattle.totals.proofs.figure.Goals as goal
 
 pub overflow_mul-result : goal.overflow_mul-result

@@ -3,7 +3,8 @@ use mathlib.Core.Path.{◌≡◌}
 use Prim.Native.Nat.{◌-◌, ◌≤◌, zero-le}
 use native.Mathlib.Numerals.{add-one}
 use native.Mathlib.Omega.{arith}
-use Rattle.numbers.specs.Copies.{Copied, copied_none, copied_more}
+use Rattle.numbers.specs.Copies.{Copied}
+use Rattle.numbers.proofs.Copies.{copied_none, copied_more}
 use Rattle.walks.proofs.copy.Statement.{statement}
 use Rattle.walks.proofs.copy.Tie as tie
 

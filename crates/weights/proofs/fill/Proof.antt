@@ -2,7 +2,7 @@
 use mathlib.Core.Path.{◌≡◌, ◌∙◌, sym, ap}
 use Prim.Native.Nat.{ℕ, ◌-◌, ◌*◌, ◌≤◌}
 use native.Mathlib.Omega.{arith}
-use Rattle.numbers.specs.Filled.{filled_none, filled_to}
+use Rattle.numbers.proofs.Filled.{filled_none, filled_to}
 use Rattle.paper.specs.Layouts.{board_from, weighted}
 use Rattle.weights.specs.Rows.{FilledTo}
 use Rattle.weights.proofs.Rows.{table_filled}

@@ -3,7 +3,7 @@ use Prim.Native.Nat.{◌+◌, ◌-◌, ◌*◌, ◌≤◌, ◌<◌}
 use mathlib.Core.Path.{◌≡◌, ◌∙◌, sym, ap}
 use native.Mathlib.Nat.{mul-le-mul}
 use native.Mathlib.Omega.{arith}
-use Rattle.numbers.specs.Filled.{filled_to, place_in}
+use Rattle.numbers.proofs.Filled.{filled_to, place_in}
 use Rattle.paper.specs.Layouts.{Board, board_from, weighted}
 use Rattle.weights.specs.Rows.{FilledTo}
 use Rattle.weights.proofs.Rows.{filled_place, row_end}

@@ -6,7 +6,7 @@ use native.Mathlib.Omega.{arith}
 use borrow.Author.Rules.{rules}
 use mir.Syntax.{w64}
 use mir.Val.{to_z, of_z}
-use Rattle.numbers.specs.Bits.{read_back}
+use Rattle.numbers.proofs.Bits.{read_back}
 use Rattle.paper.specs.Layouts.{Board, board_from, leader, square}
 use Rattle.paper.specs.laws.Squares.{meets_cases}
 use Rattle.board.proofs.Barring.{Run, row_in, run_is, bars_skip, bars_pad}

@@ -4,7 +4,7 @@ use mathlib.Core.Bool.{true, false, ◌&&◌}
 use lib.Signed.{le_z}
 use mir.Syntax.{w64}
 use mir.Val.{to_z, of_z}
-use Rattle.numbers.specs.Bits.{read_back}
+use Rattle.numbers.proofs.Bits.{read_back}
 use Rattle.board.proofs.bars.first_barred.Statement.{statement}
 use Rattle.board.proofs.bars.first_barred.Tie as tie
 

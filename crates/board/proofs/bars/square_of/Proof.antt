@@ -3,7 +3,7 @@ use mathlib.Core.Path.{◌≡◌, ◌∙◌}
 use borrow.Author.Rules.{rules}
 use mir.Syntax.{w64}
 use mir.Val.{to_z, of_z}
-use Rattle.numbers.specs.Bits.{read_back}
+use Rattle.numbers.proofs.Bits.{read_back}
 use Rattle.paper.specs.Job.{y_of}
 use Rattle.board.proofs.bars.square_of.Statement.{statement}
 use Rattle.board.proofs.bars.square_of.Tie as tie

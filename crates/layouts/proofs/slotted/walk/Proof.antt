@@ -5,7 +5,7 @@ use native.Mathlib.Nat.{mul-le-mul}
 use native.Mathlib.Omega.{arith}
 use lib.Seq.{length-take-le}
 use borrow.Author.Rules.{rules}
-use Rattle.numbers.specs.Filled.{zeros_front}
+use Rattle.numbers.proofs.Filled.{zeros_front}
 use Rattle.paper.specs.Job.{count}
 use Rattle.layouts.proofs.slotted.walk.Statement.{statement}
 use Rattle.layouts.proofs.slotted.walk.Tie as tie

@@ -8,8 +8,9 @@ use Rattle.std.specs.Int.Signed.{mag}
 use Rattle.std.specs.Int.{Width, w64}
 use mir.Val.{SFits, to_z, of_z, hbits}
 use Rattle.std.proofs.lemmas.Int.{to_z_pos}
-use Rattle.numbers.specs.Whole.{up, dn, plus_num, minus_num, apart_num}
-use Rattle.numbers.specs.Signs.{nat_abs_neg}
+use Rattle.numbers.specs.Whole.{up, dn}
+use Rattle.numbers.proofs.Whole.{plus_num, minus_num, apart_num}
+use Rattle.numbers.proofs.Signs.{nat_abs_neg}
 
 pub mag_le : (z : ℤ) → mag z ≤ nat_abs z
 mag_le (pos n) = le_refl n

@@ -1,6 +1,7 @@
 -- Sizes of integers. Assumes nothing.
 use Rattle.std.specs.Prelude.{◌≡◌, refl, zero, suc, ℤ, pos, negsuc, neg_ℤ, nat_abs}
-use Rattle.numbers.specs.Whole.{apart, whole, apart_num}
+use Rattle.numbers.specs.Whole.{apart}
+use Rattle.numbers.proofs.Whole.{whole, apart_num}
 
 -- A number and its negative have one size.
 pub nat_abs_neg : (z : ℤ) → nat_abs (neg_ℤ z) ≡ nat_abs z

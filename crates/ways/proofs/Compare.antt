@@ -6,9 +6,11 @@ use mathlib.Core.List.{List, [], ◌∷◌, ◌++◌, append_assoc}
 use Rattle.std.proofs.Math.Logic.{inl, inr}
 use native.Mathlib.Omega.{arith}
 use Rattle.std.proofs.Math.Decide.{dec_lt}
-use Rattle.strips.specs.Lists.{All, nil_all, cons_all}
+use Rattle.strips.specs.Lists.{All}
+use Rattle.strips.proofs.Lists.{nil_all, cons_all}
 use Rattle.strips.specs.Grid.{Grid, Lawful, BestIn}
-use Rattle.strips.specs.Prefix.{Lies, chosen}
+use Rattle.strips.specs.Prefix.{Lies}
+use Rattle.strips.proofs.Prefix.{chosen}
 use Rattle.strips.specs.Order.{SameOn, EarlierOn}
 use Rattle.strips.specs.Following.{EachPad, EachBest}
 

@@ -4,15 +4,18 @@ use Rattle.std.specs.Prelude.{◌≡◌, List, [], ◌⊎◌}
 use Rattle.std.proofs.Common.{◌∙◌, inl, inr, arith}
 use Prim.Native.Nat.{ℕ, zero, suc, ◌+◌, ◌-◌, ◌≤◌, ◌<◌}
 use Rattle.std.proofs.Math.Decide.{dec_lt}
-use Rattle.strips.specs.Lists.{nil_all}
+use Rattle.strips.proofs.Lists.{nil_all}
 use Rattle.strips.specs.Least.{some}
 use Rattle.strips.specs.Grid.{Grid, best}
-use Rattle.strips.specs.Strips.{has_best}
+use Rattle.strips.proofs.Strips.{has_best}
 use Rattle.strips.specs.Order.{SameOn, EarlierOn, EarliestOn}
-use Rattle.strips.specs.FirstNext.{Optimal, Later, Listed, best_optimal, optimal_best}
-use Rattle.ways.specs.Compare.{compare_layouts}
-use Rattle.ways.specs.Tree.{Passes, ways, ways_cong, rank, rank_small, rank_rises, rank_cong, placed}
-use Rattle.ways.specs.Count.{may_take, looks, many, counted_best, best_counted}
+use Rattle.strips.specs.FirstNext.{Optimal, Later, Listed}
+use Rattle.strips.proofs.FirstNext.{best_optimal, optimal_best}
+use Rattle.ways.proofs.Compare.{compare_layouts}
+use Rattle.ways.specs.Tree.{Passes, ways, rank}
+use Rattle.ways.proofs.Tree.{ways_cong, rank_small, rank_rises, rank_cong, placed}
+use Rattle.ways.specs.Count.{may_take, many}
+use Rattle.ways.proofs.Count.{looks, counted_best, best_counted}
 use Rattle.ways.specs.Place.{AtPlace, HowMany}
 
 module _ (B : Grid) (p : ℕ) (order : List ℕ) (L : Listed B p order) (v : ℕ) (solved : best B order 0 p ≡ some v) where
