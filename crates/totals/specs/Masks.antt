@@ -9,7 +9,7 @@ use Rattle.strips.specs.Least as totals
 use Rattle.strips.specs.Lists.{keep, every}
 use Rattle.strips.proofs.Lists.{keep_yes, keep_no, keep_and, keep_cong, both, same_test}
 use Rattle.strips.specs.Grid as strip
-use Rattle.strips.specs.Strips as laws
+use Rattle.strips.proofs.Strips as laws
 use Rattle.pads.specs.Pads.{Sides, spans, fits}
 use Rattle.totals.specs.Strip.{cut, parted_within, given, value, grid, best_within, local_within}
 use Rattle.totals.specs.Parted.{spans_lo, spans_hi}
