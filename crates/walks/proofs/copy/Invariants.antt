@@ -1,0 +1,10 @@
+-- `walks::copy` meets its contract. The loop's invariant: the first i entries are copied. Assumes nothing.
+use Prim.Native.Nat.{◌-◌, ◌≤◌}
+use Rattle.numbers.specs.Copies.{Copied}
+use Rattle.walks.proofs.copy.Given as goal
+
+abbrev pub invariant-loop-i : goal.invariant-loop-i
+invariant-loop-i l = (l.i ≤ l.n) × Copied l.i l.at l.from l.initial.to l.to
+
+abbrev pub decreases-loop-i : goal.decreases-loop-i
+decreases-loop-i l = l.n - l.i
