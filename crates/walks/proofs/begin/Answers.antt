@@ -6,7 +6,7 @@ use Rattle.walks.proofs.begin.Goals as goal
 
 pub returns-then-least-ge-NONE : goal.returns-then-least-ge-NONE
 returns-then-least-ge-NONE c =
-    rw c.enum_told-1.given.1
+    rw c.in-First.is
     (none_solvable c.requires.working.proper c.args.least c.requires.least.0 c.requires.working.table (omega (arith, c.if-least-ge-NONE.true)), refl)
 
 pub first-requires : goal.first-requires
@@ -18,14 +18,14 @@ first-requires c =
 
 pub is_best-requires : goal.is_best-requires
 is_best-requires c =
-    let u = rw c.enum_told-in-Given-1.given.1 at c.requires.least.1 in record {
+    let u = rw c.in-Given.is at c.requires.least.1 in record {
       working = c.requires.working;
       untouching_layout = u;
       least = c.requires.least.0;
     }
 
 pub returns-else-least-ge-NONE : goal.returns-else-least-ge-NONE
-returns-else-least-ge-NONE c = rw c.enum_told-1.given.1 c.first.ensures
+returns-else-least-ge-NONE c = rw c.in-First.is c.first.ensures
 
 pub returns-in-Given : goal.returns-in-Given
-returns-in-Given c = rw c.enum_told-in-Given-1.given.1 (c.is_best.ensures, refl)
+returns-in-Given c = rw c.in-Given.is (c.is_best.ensures, refl)

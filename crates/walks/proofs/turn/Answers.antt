@@ -37,13 +37,13 @@ pub overflow_add-at : goal.overflow_add-at
 overflow_add-at c =
     let inside : c.loop-page.at ≤ length c.loop-page.page = omega (arith, c.loop-page.invariant.0.inside, c.loop-page.invariant.0.wide) in
     let room : length c.args.order.now ≤ length c.loop-page.page - c.loop-page.at = omega (arith, c.loop-page-test.true) in
-    omega (arith, inside, room, c.loop-page.invariant.0.wide, c.good.1.1.1.1.1.1.1.1.0.0)
+    omega (arith, inside, room, c.loop-page.invariant.0.wide, c.well_formed.1.1.1.1.1.1.1.1.0.0)
 
 pub overflow_add-k : goal.overflow_add-k
 overflow_add-k c =
     let inside : c.loop-page.at ≤ length c.loop-page.page = omega (arith, c.loop-page.invariant.0.inside, c.loop-page.invariant.0.wide) in
     let few = turning_count _ _ _ _ _ _ _ _ _ _ c.loop-page.invariant.0 c.requires.order_nonzero.0 in
-    omega (arith, inside, few, c.loop-page.invariant.0.wide, c.good.1.1.1.1.1.1.1.1.0.1)
+    omega (arith, inside, few, c.loop-page.invariant.0.wide, c.well_formed.1.1.1.1.1.1.1.1.0.1)
 
 pub loop-page-smaller : goal.loop-page-smaller
 loop-page-smaller c =
