@@ -18,7 +18,8 @@ use Rattle.numbers.proofs.Filled.{place_in}
 use Rattle.pads.specs.Counts.{le_or_lt}
 use Rattle.paper.specs.Leaders.{Meets}
 use Rattle.paper.specs.Layouts.{Board, leader, square}
-use Rattle.paper.specs.laws.Squares.{OpenTo, UpTo, UnderTop, OverBottom, meets_cases}
+use Rattle.paper.specs.laws.Squares.{OpenTo, UpTo, UnderTop, OverBottom}
+use Rattle.paper.proofs.laws.Squares.{meets_cases}
 use Rattle.slots.specs.Slots.{Shut}
 use Rattle.slots.specs.Marks.{mark_in, mark_out}
 use Rattle.board.specs.declared.bars.Square.{Square}

@@ -21,9 +21,10 @@ use Rattle.choices.specs.Lists.{distinct}
 use Rattle.paper.specs.Leaders.{Between}
 use Rattle.paper.specs.Layouts.{Board, Untouching, sum, total}
 use Rattle.paper.specs.Problem.{Best, Before, FirstBest, NextBest, LastBest, labeling}
-use Rattle.paper.specs.laws.Totals.{sum_same}
-use Rattle.paper.specs.laws.Boards.{leaders_apart_iff, untouching_of}
-use Rattle.paper.specs.laws.Squares.{Open, open_iff}
+use Rattle.paper.proofs.laws.Totals.{sum_same}
+use Rattle.paper.proofs.laws.Boards.{leaders_apart_iff, untouching_of}
+use Rattle.paper.specs.laws.Squares.{Open}
+use Rattle.paper.proofs.laws.Squares.{open_iff}
 use Rattle.board.specs.Lists.{ListsOf, CostsOn}
 use Rattle.board.specs.Sides.{low_high, narrow, clear_iff}
 

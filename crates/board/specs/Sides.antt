@@ -4,7 +4,7 @@ use Rattle.std.proofs.Common.{inl, inr, arith}
 use Rattle.std.proofs.Math.Decide.{dec_lt, dec_le}
 use Rattle.numbers.proofs.Whole.{whole, nlt_num}
 use Rattle.paper.specs.Leaders.{Between}
-use Rattle.paper.specs.laws.Touching.{between_end}
+use Rattle.paper.proofs.laws.Touching.{between_end}
 use Rattle.board.specs.Lists.{Rises, Under, Upto}
 
 -- A pad of the height y with l ports strictly below it and u at its height or below.

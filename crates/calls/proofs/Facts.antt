@@ -16,9 +16,9 @@ use Rattle.paper.specs.Layouts.{board_of, held, Badness}
 use Rattle.paper.specs.Problem.{labeling_of}
 use Rattle.paper.specs.Refusals.{refusal, Passed, sound_trials, measure_trials}
 use Rattle.paper.specs.Promises.{refusal_number, FirstAnswers, NextAnswers, PageAnswers, CountAnswers, PlaceAnswers, WorkAfter, BufferPromise}
-use Rattle.paper.specs.laws.Numbers.{buffer_many, buffer_past, buffer_kept}
-use Rattle.paper.specs.laws.Places.{count_none, count_short, count_many, count_passed, place_none, place_short, place_many, place_past, place_passed}
-use Rattle.paper.specs.laws.Accepted.{first_passed, none_refused, best_passed, not_best_refused}
+use Rattle.paper.proofs.laws.Numbers.{buffer_many, buffer_past, buffer_kept}
+use Rattle.paper.proofs.laws.Places.{count_none, count_short, count_many, count_passed, place_none, place_short, place_many, place_past, place_passed}
+use Rattle.paper.proofs.laws.Accepted.{first_passed, none_refused, best_passed, not_best_refused}
 use Rattle.layouts.specs.Replies.{FirstOn, NextOn, PageOn}
 use Rattle.numbering.specs.declared.Why.{Why}
 use Rattle.numbering.specs.declared.Why.TheVariants.{NoLayout as NothingCounts, Short, TooMany, Past}

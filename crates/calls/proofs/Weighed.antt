@@ -14,7 +14,7 @@ use Rattle.paper.specs.Layouts.{board_of, weighted, by_weights, by_table, TableO
 use Rattle.paper.specs.Refusals.{Passed, sound_trials, measure_trials}
 use Rattle.paper.specs.Promises.{FirstAnswers, NextAnswers, PageAnswers, CountAnswers, PlaceAnswers}
 use Rattle.paper.specs.laws.Accepted.{AcceptedJob, Fair}
-use Rattle.paper.specs.laws.Alike.{sound_follows, measure_follows, first_on, next_on_lem, page_on_lem, count_on, place_on}
+use Rattle.paper.proofs.laws.Alike.{sound_follows, measure_follows, first_on, next_on_lem, page_on_lem, count_on, place_on}
 
 -- An accepted job's table has at most 4,096 figures.
 abbrev square : List ℕ → ℕ

@@ -12,10 +12,12 @@ use Rattle.paper.specs.Layouts.{Badness}
 use Rattle.paper.specs.Refusals.{Trial, Smallest, Passed, RefusedBy, refusal, sound_trials, measure_trials, draw_trials, read_trials}
 use Rattle.paper.specs.laws.Tests.{Test, at_each, at_pairs, at_whole, with_earlier, bad_field, same_name, same_x, draw_tests}
 use Rattle.paper.specs.laws.Parsing.{Row, listed, good, rows_bytes}
-use Rattle.paper.specs.laws.Written.{rows_count}
-use Rattle.paper.specs.laws.Imported.{record_tests, row_tests, wide, wide_tests, row_tests_lem}
-use Rattle.paper.specs.laws.Trials.{passed_append, refused_left, refused_right}
-use Rattle.paper.specs.laws.Decided.{reason_of, TestOf, TestsOf, sound_tests_of, measure_tests_of, sound_tests_lem, measure_tests_lem, draw_tests_lem}
+use Rattle.paper.proofs.laws.Written.{rows_count}
+use Rattle.paper.specs.laws.Imported.{record_tests, row_tests, wide, wide_tests}
+use Rattle.paper.proofs.laws.Imported.{row_tests_lem}
+use Rattle.paper.proofs.laws.Trials.{passed_append, refused_left, refused_right}
+use Rattle.paper.specs.laws.Decided.{reason_of, TestOf, TestsOf, sound_tests_of, measure_tests_of}
+use Rattle.paper.proofs.laws.Decided.{sound_tests_lem, measure_tests_lem, draw_tests_lem}
 use Rattle.find.specs.declared.Found.{Found}
 use Rattle.find.specs.declared.Found.TheVariants.{At, Nowhere}
 use Rattle.find.specs.Search.{first_where, first_pair_where, and_at, pair_at, none_below, none_more, found_here, at_is, none_at}

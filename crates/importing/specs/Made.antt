@@ -5,10 +5,11 @@ use Rattle.paper.specs.declared.Counted.{Counted}
 use Rattle.paper.specs.declared.Counted.TheVariants.{Many, Refused as NotCounted}
 use Rattle.paper.specs.Refusals.{Passed, RefusedBy, refusal, text_trials, read_trials, csv_trials}
 use Rattle.paper.specs.Promises.{overwritten, CsvAnswers}
-use Rattle.paper.specs.laws.Trials.{passed_append, refused_right}
+use Rattle.paper.proofs.laws.Trials.{passed_append, refused_right}
 use Rattle.paper.specs.laws.Tests.{at_whole}
 use Rattle.paper.specs.laws.Parsing.{Row, listed, good, rows_bytes}
-use Rattle.paper.specs.laws.Imported.{record_tests, row_tests, row_tests_lem, text_passed, csv_bad, csv_made}
+use Rattle.paper.specs.laws.Imported.{record_tests, row_tests}
+use Rattle.paper.proofs.laws.Imported.{row_tests_lem, text_passed, csv_bad, csv_made}
 use Rattle.padlist.specs.declared.Listed.TheVariants.{Bad}
 use Rattle.padlist.specs.Lines.{ListedIs}
 use Rattle.checks.specs.declared.Verdict.{Verdict}

@@ -12,10 +12,10 @@ use Rattle.numbers.specs.Copies.{Copied}
 use Rattle.paper.specs.Layouts.{Board, held, Untouching, Same}
 use Rattle.paper.specs.Problem.{Problem, labeling}
 use Rattle.paper.specs.Promises.{in_turn, Following}
-use Rattle.paper.specs.laws.Boards.{untouching_same}
-use Rattle.paper.specs.laws.Order.{Steady, best_same, next_of_same, last_of_same}
-use Rattle.paper.specs.laws.Trying.{labeling_steady}
-use Rattle.paper.specs.laws.Pages.{Paging, paging_none, paging_here, paging_more, page_full, page_ends, following_same}
+use Rattle.paper.proofs.laws.Boards.{untouching_same}
+use Rattle.paper.proofs.laws.Order.{Steady, best_same, next_of_same, last_of_same}
+use Rattle.paper.proofs.laws.Trying.{labeling_steady}
+use Rattle.paper.proofs.laws.Pages.{Paging, paging_none, paging_here, paging_more, page_full, page_ends, following_same}
 use Rattle.walks.specs.declared.Start.TheVariants.{First, Given}
 use Rattle.walks.specs.declared.Walked.{Walked}
 use Rattle.walks.specs.Walks.{SteppedOn, Turned, Walks}

@@ -5,7 +5,8 @@ use Rattle.paper.specs.Job.{Job}
 use Rattle.paper.specs.Layouts.{board_of, by_weights, by_table, held}
 use Rattle.paper.specs.Layouts as paper
 use Rattle.paper.specs.Refusals.{Passed, measure_trials}
-use Rattle.paper.specs.laws.Accepted.{AcceptedJob, Fair, measure_facts, measure_entries}
+use Rattle.paper.specs.laws.Accepted.{AcceptedJob, Fair}
+use Rattle.paper.proofs.laws.Accepted.{measure_facts, measure_entries}
 use Rattle.measure.specs.declared.Badness.{Badness}
 use Rattle.measure.specs.declared.Badness.TheVariants.{Weights, Table}
 

@@ -19,7 +19,7 @@ use Rattle.steps.specs.Steps.{Solvable}
 use Rattle.steps.proofs.Whole.{none_solvable, some_solvable}
 use Rattle.paper.specs.Layouts.{Board, held, figure}
 use Rattle.paper.specs.Problem.{Problem, Best, PlaceBest, CountBest, labeling}
-use Rattle.paper.specs.laws.Places.{place_best}
+use Rattle.paper.proofs.laws.Places.{place_best}
 use Rattle.paper.specs.Refusals.{NoLayout, limit}
 use Rattle.paper.specs.Promises.{Kept}
 use Rattle.board.specs.Lists.{CostsOn}

@@ -7,7 +7,7 @@ use Rattle.text.specs.Text.{Writes}
 use Rattle.text.specs.Writing.{writes_none, writes_then, writes_length, writes_whole}
 use Rattle.paper.specs.Job.{bytes4}
 use Rattle.paper.specs.laws.Parsing.{Row, fitting, row_bytes, rows_bytes, got, none, Listed, good, bad, before, head_front, pad_front, list_from, listed}
-use Rattle.paper.specs.laws.Written.{rows_length}
+use Rattle.paper.proofs.laws.Written.{rows_length}
 use Rattle.fields.specs.Laws.{from_here}
 use Rattle.padlist.specs.declared.Listed.TheVariants.{Pads, Bad}
 use Rattle.padlist.specs.Lines.{ListedIs}

@@ -1,4 +1,4 @@
--- The definitions, in the order in which to read them; what follows from them; and the theorems.
+-- The definitions, in the order in which to read them; and what the code computes. The theorems are proofs/Theorems.
 pub mod Job
 pub mod Leaders
 pub mod Plane
@@ -14,4 +14,3 @@ pub mod Runs
 pub mod Sheets
 pub mod Straightening
 pub mod laws
-pub mod Theorems

@@ -12,9 +12,11 @@ use Rattle.paper.specs.Promises.{Kept}
 use Rattle.paper.specs.laws.Totals.{total_of}
 use Rattle.paper.specs.Sheets.{J5}
 use Rattle.paper.specs.laws.Tests.{somewhere, outside, between, leaders_touch, meets_large, job_tests, sound_tests}
-use Rattle.paper.specs.laws.Decided.{tests_pass, sound_tests_of, sound_tests_lem}
-use Rattle.paper.specs.laws.Accepted.{sound_accepted, first_passed}
-use Rattle.paper.specs.laws.Trying.{first_test, best_test, first_iff, labeling_searchable, heads, words, any, some_word, least_test}
+use Rattle.paper.specs.laws.Decided.{sound_tests_of}
+use Rattle.paper.proofs.laws.Decided.{tests_pass, sound_tests_lem}
+use Rattle.paper.proofs.laws.Accepted.{sound_accepted, first_passed}
+use Rattle.paper.specs.laws.Trying.{first_test, best_test, heads, words, any, some_word, least_test}
+use Rattle.paper.proofs.laws.Trying.{first_iff, labeling_searchable}
 use Rattle.paper.specs.laws.Trying.{misled, untouching_test, differ_right, decided_at, before_test, cheaper}
 use Rattle.text.specs.Text.{bytes, digits, decimal}
 use Rattle.printed.specs.Printed.{line, lines, Printed}

@@ -11,10 +11,11 @@ use Rattle.paper.specs.Leaders.{length_of, bends_of}
 use Rattle.paper.specs.Layouts.{by_weights, board_of, leader, held}
 use Rattle.paper.specs.Refusals.{Passed, measure_trials, calls_of}
 use Rattle.paper.specs.Promises.{FirstAnswers}
-use Rattle.paper.specs.laws.Totals.{total_of, total_is}
-use Rattle.paper.specs.laws.Decided.{sound_parts}
-use Rattle.paper.specs.laws.Accepted.{fair_iff, first_sound, sound_accepted, sound_other_room, untouching_passed}
-use Rattle.paper.specs.laws.Determined.{first_answer}
+use Rattle.paper.specs.laws.Totals.{total_of}
+use Rattle.paper.proofs.laws.Totals.{total_is}
+use Rattle.paper.proofs.laws.Decided.{sound_parts}
+use Rattle.paper.proofs.laws.Accepted.{fair_iff, first_sound, sound_accepted, sound_other_room, untouching_passed}
+use Rattle.paper.proofs.laws.Determined.{first_answer}
 use Rattle.text.specs.Text.{bytes, Writes}
 use Rattle.text.specs.Writing.{writes_none, writes_then, writes_joined, writes_whole}
 use Rattle.printed.specs.Printed.{field, line, lines, lengths, bends, sheet, refused, told, Printed, Prints}

@@ -17,9 +17,10 @@ use Rattle.paper.specs.Job.{records}
 use Rattle.paper.specs.Layouts.{Board, board_of, held, leader, by_weights}
 use Rattle.paper.specs.Refusals.{Passed, measure_trials}
 use Rattle.paper.specs.Promises.{SvgAnswers}
-use Rattle.paper.specs.laws.Exported.{text_bound, svg_made}
+use Rattle.paper.proofs.laws.Exported.{text_bound, svg_made}
 use Rattle.paper.specs.Svg.{fraction, quarters, numeral}
-use Rattle.paper.specs.laws.Texts.{point_text, line_text, lines_text, sheet_text, AllOnSheet, level_text, bend_text, line_short, lines_short}
+use Rattle.paper.specs.laws.Texts.{point_text, line_text, lines_text, sheet_text, AllOnSheet}
+use Rattle.paper.proofs.laws.Texts.{level_text, bend_text, line_short, lines_short}
 
 -- The same text, said in another way.
 pub writes_as : {b a s t : List ℕ} {at r : ℕ} → s ≡ t → Writes b at s r a → Writes b at t r a

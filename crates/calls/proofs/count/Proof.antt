@@ -6,8 +6,8 @@ use Rattle.paper.specs.Job.{records, count}
 use Rattle.paper.specs.declared.Work.TheVariants.{Unlent}
 use Rattle.paper.specs.Layouts.{by_weights}
 use Rattle.paper.specs.Refusals.{sound_trials}
-use Rattle.paper.specs.laws.Numbers.{buffer_kept}
-use Rattle.paper.specs.laws.Places.{count-refused}
+use Rattle.paper.proofs.laws.Numbers.{buffer_kept}
+use Rattle.paper.proofs.laws.Places.{count-refused}
 use Rattle.checks.specs.Judged.{Judged, judged_sound, judged_refused, sound_judged}
 use Rattle.calls.proofs.count.Statement.{statement}
 use Rattle.calls.proofs.count.Tie as tie

@@ -8,8 +8,8 @@ use Rattle.paper.specs.Layouts.{board_of, leader}
 use Rattle.paper.specs.Refusals.{draw_trials}
 use Rattle.checks.specs.Judged.{Judged, judged_sound, judged_refused, draw_judged}
 use Rattle.paper.specs.Canvas.{Draws}
-use Rattle.paper.specs.laws.Drawn.{drawn_is, coordinates_few, passed_on_sheet, draw_answers}
-use Rattle.paper.specs.laws.Accepted.{draw_accepted}
+use Rattle.paper.proofs.laws.Drawn.{drawn_is, coordinates_few, passed_on_sheet, draw_answers}
+use Rattle.paper.proofs.laws.Accepted.{draw_accepted}
 use Rattle.calls.proofs.draw.Statement.{statement}
 use Rattle.calls.proofs.draw.Tie as tie
 

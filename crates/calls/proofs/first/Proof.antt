@@ -6,7 +6,7 @@ use Rattle.paper.specs.Job.{records}
 use Rattle.paper.specs.declared.Work.TheVariants.{Unlent}
 use Rattle.paper.specs.Layouts.{by_weights}
 use Rattle.paper.specs.Refusals.{sound_trials}
-use Rattle.paper.specs.laws.Accepted.{sound_refused}
+use Rattle.paper.proofs.laws.Accepted.{sound_refused}
 use Rattle.checks.specs.Judged.{Judged, judged_sound, judged_refused, sound_judged}
 use Rattle.calls.proofs.first.Statement.{statement}
 use Rattle.calls.proofs.first.Tie as tie

@@ -5,8 +5,9 @@ use mir.Facts.{to_z-of_z}
 use borrow.Author.Rules.{sfits_of}
 use Rattle.paper.specs.declared.Form.TheVariants.{Records}
 use Rattle.paper.specs.Job.{count}
-use Rattle.paper.specs.laws.Accepted.{Accepted, draw_accepted}
-use Rattle.paper.specs.laws.Drawn.{passed_on_sheet}
+use Rattle.paper.specs.laws.Accepted.{Accepted}
+use Rattle.paper.proofs.laws.Accepted.{draw_accepted}
+use Rattle.paper.proofs.laws.Drawn.{passed_on_sheet}
 use Rattle.calls.proofs.lead.Statement.{statement}
 use Rattle.calls.proofs.lead.Tie as tie
 

@@ -5,7 +5,7 @@ use borrow.Author.Rules.{rules, sfits_of}
 use Rattle.paper.specs.declared.Work.TheVariants.{Unlent}
 use Rattle.paper.specs.Job.{records}
 use Rattle.paper.specs.Layouts.{by_weights}
-use Rattle.paper.specs.laws.Bounds.{measure_bounded}
+use Rattle.paper.proofs.laws.Bounds.{measure_bounded}
 use Rattle.cheremysl.proofs.cheremysl_measure.Statement.{statement}
 use Rattle.cheremysl.proofs.cheremysl_measure.Tie as tie
 

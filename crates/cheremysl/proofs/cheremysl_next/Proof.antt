@@ -5,7 +5,7 @@ use borrow.Author.Rules.{rules, sfits_of}
 use Rattle.paper.specs.declared.Work.TheVariants.{Unlent}
 use Rattle.paper.specs.Job.{records}
 use Rattle.paper.specs.Layouts.{by_weights}
-use Rattle.paper.specs.laws.Bounds.{next_bounded}
+use Rattle.paper.proofs.laws.Bounds.{next_bounded}
 use Rattle.cheremysl.proofs.cheremysl_next.Statement.{statement}
 use Rattle.cheremysl.proofs.cheremysl_next.Tie as tie
 

@@ -6,7 +6,7 @@ use borrow.Author.Rules.{rules, sfits_of}
 use Rattle.paper.specs.declared.Work.TheVariants.{Unlent}
 use Rattle.paper.specs.Job.{records}
 use Rattle.paper.specs.Layouts.{by_weights}
-use Rattle.paper.specs.laws.Bounds.{page_counted}
+use Rattle.paper.proofs.laws.Bounds.{page_counted}
 use Rattle.cheremysl.proofs.cheremysl_page.Statement.{statement}
 use Rattle.cheremysl.proofs.cheremysl_page.Tie as tie
 

@@ -5,7 +5,7 @@ use mir.Facts.{to_z-of_z}
 use borrow.Author.Rules.{rules, sfits_of}
 use Rattle.paper.specs.Job.{records}
 use Rattle.paper.specs.Layouts.{by_weights}
-use Rattle.paper.specs.laws.Bounds.{place_bounded}
+use Rattle.paper.proofs.laws.Bounds.{place_bounded}
 use Rattle.cheremysl.proofs.cheremysl_place.Statement.{statement}
 use Rattle.cheremysl.proofs.cheremysl_place.Tie as tie
 

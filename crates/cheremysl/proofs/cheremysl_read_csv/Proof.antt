@@ -2,7 +2,7 @@
 use mathlib.Core.Path.{◌∙◌}
 use mir.Facts.{to_z-of_z}
 use borrow.Author.Rules.{rules, sfits_of}
-use Rattle.paper.specs.laws.Bounds.{csv_bounded}
+use Rattle.paper.proofs.laws.Bounds.{csv_bounded}
 use Rattle.cheremysl.proofs.cheremysl_read_csv.Statement.{statement}
 use Rattle.cheremysl.proofs.cheremysl_read_csv.Tie as tie
 

@@ -4,7 +4,7 @@ use mir.Facts.{to_z-of_z}
 use Rattle.paper.specs.declared.Work.TheVariants.{Unlent}
 use Rattle.paper.specs.Job.{slots}
 use Rattle.paper.specs.Layouts.{by_weights}
-use Rattle.paper.specs.laws.Bounds.{measure_bounded}
+use Rattle.paper.proofs.laws.Bounds.{measure_bounded}
 use borrow.Author.Rules.{rules, sfits_of}
 use Rattle.cheremysl.proofs.cheremysl_slots_measure.Statement.{statement}
 use Rattle.cheremysl.proofs.cheremysl_slots_measure.Tie as tie

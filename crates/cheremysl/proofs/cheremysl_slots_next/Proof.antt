@@ -7,8 +7,8 @@ use Rattle.paper.specs.declared.Work.TheVariants.{Lent}
 use Rattle.paper.specs.Job.{Job, slots}
 use Rattle.paper.specs.Layouts.{Badness, by_weights}
 use Rattle.paper.specs.Refusals.{calls_of}
-use Rattle.paper.specs.laws.Numbers.{numbered, next_work}
-use Rattle.paper.specs.laws.Bounds.{next_bounded}
+use Rattle.paper.proofs.laws.Numbers.{numbered, next_work}
+use Rattle.paper.proofs.laws.Bounds.{next_bounded}
 use borrow.Author.Rules.{rules, sfits_of}
 use Rattle.cheremysl.proofs.cheremysl_slots_next.Statement.{statement}
 use Rattle.cheremysl.proofs.cheremysl_slots_next.Tie as tie

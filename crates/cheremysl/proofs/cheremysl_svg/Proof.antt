@@ -2,7 +2,7 @@
 use mathlib.Core.Path.{◌∙◌}
 use mir.Facts.{to_z-of_z}
 use borrow.Author.Rules.{rules, sfits_of}
-use Rattle.paper.specs.laws.Bounds.{svg_bounded}
+use Rattle.paper.proofs.laws.Bounds.{svg_bounded}
 use Rattle.cheremysl.proofs.cheremysl_svg.Statement.{statement}
 use Rattle.cheremysl.proofs.cheremysl_svg.Tie as tie
 

@@ -6,7 +6,7 @@ use borrow.Author.Rules.{rules, sfits_of}
 use Rattle.paper.specs.declared.Work.TheVariants.{Unlent}
 use Rattle.paper.specs.Job.{records}
 use Rattle.paper.specs.Layouts.{by_table}
-use Rattle.paper.specs.laws.Bounds.{first_bounded}
+use Rattle.paper.proofs.laws.Bounds.{first_bounded}
 use Rattle.cheremysl.proofs.cheremysl_table_first.Statement.{statement}
 use Rattle.cheremysl.proofs.cheremysl_table_first.Tie as tie
 

@@ -7,7 +7,8 @@ use lib.IntN.{ℤ, nat_abs}
 use mir.Syntax.{w32, w64}
 use mir.Val.{to_z, of_z}
 use Rattle.paper.specs.declared.Drawn.TheVariants.{Straight, Bent}
-use Rattle.paper.specs.laws.Drawn.{canvas, level_drawn, bend_drawn}
+use Rattle.paper.specs.laws.Drawn.{canvas}
+use Rattle.paper.proofs.laws.Drawn.{level_drawn, bend_drawn}
 use Rattle.numbers.proofs.Bits.{same_bits}
 use Rattle.draw.proofs.Bits.{height_back}
 use Rattle.draw.proofs.lead.Statement.{statement}

@@ -5,7 +5,7 @@ use lib.Dec.{lit<}
 use lib.IntN.{ℤ}
 use lib.Ieee.{binary32, of_int, mul, of_bits}
 use mir.Syntax.{w32}
-use Rattle.paper.specs.laws.Quarter.{quarter_of_cast}
+use Rattle.paper.proofs.laws.Quarter.{quarter_of_cast}
 use Rattle.draw.proofs.Bits.{height_back, in_float_lem}
 use Rattle.draw.proofs.quarter_of.Statement.{statement}
 use Rattle.draw.proofs.quarter_of.Tie as tie

@@ -6,7 +6,7 @@ use mathlib.Core.Path.{◌≡◌, refl, sym, ◌∙◌}
 use mathlib.Core.Bool.{true}
 use lib.ListN.{length, get_or, drop}
 use Rattle.paper.specs.laws.Parsing.{is_digit, digits_front}
-use Rattle.paper.specs.laws.Parsed.{digit_range}
+use Rattle.paper.proofs.laws.Parsed.{digit_range}
 use Rattle.fields.specs.Laws.{digits_next, digits_other, digits_end}
 use Rattle.fields.proofs.digits.Statement.{statement}
 use Rattle.fields.proofs.digits.Tie as tie

@@ -5,7 +5,7 @@ use mathlib.Core.Path.{sym, ◌∙◌}
 use native.Mathlib.Omega.{arith}
 use lib.ListN.{get_or}
 use Rattle.fields.specs.Laws.{natural_zero, natural_digits, natural_other, natural_end, numbers_from}
-use Rattle.paper.specs.laws.Parsed.{digit_range}
+use Rattle.paper.proofs.laws.Parsed.{digit_range}
 use Rattle.fields.proofs.natural.Statement.{statement}
 use Rattle.fields.proofs.natural.Tie as tie
 

@@ -3,7 +3,7 @@ use borrow.Author.Rules.{rules}
 use mathlib.Core.Path.{refl}
 use native.Mathlib.Omega.{arith}
 use lib.ListN.{length}
-use Rattle.paper.specs.laws.Imported.{csv_large}
+use Rattle.paper.proofs.laws.Imported.{csv_large}
 use Rattle.importing.specs.Made.{list_answered, line_refused}
 use Rattle.importing.proofs.read.Statement.{statement}
 use Rattle.importing.proofs.read.Tie as tie

@@ -13,7 +13,7 @@ use mir.ValLaws.{to_z_pos}
 use Rattle.numbers.proofs.Bits.{read_back}
 use Rattle.numbers.proofs.Whole.{whole, minus_num}
 use Rattle.paper.specs.Job.{twos}
-use Rattle.paper.specs.laws.Written.{wrapped}
+use Rattle.paper.proofs.laws.Written.{wrapped}
 use Rattle.job.proofs.signed.Statement.{statement}
 use Rattle.job.proofs.signed.Tie as tie
 

@@ -5,7 +5,7 @@ use native.Mathlib.Omega.{arith}
 use borrow.Author.Rules.{rules}
 use Rattle.paper.specs.Job.{count}
 use Rattle.paper.specs.Layouts.{board_from, held, cost_of, sum as costs}
-use Rattle.paper.specs.laws.Totals.{sum_none, sum_more}
+use Rattle.paper.proofs.laws.Totals.{sum_none, sum_more}
 use Rattle.measure.specs.Given.{given_by}
 use Rattle.measure.proofs.total.Statement.{statement}
 use Rattle.measure.proofs.total.Tie as tie

@@ -3,7 +3,7 @@ use native.Mathlib.Omega.{arith}
 use native.Mathlib.Nat.{mul-le-mul}
 use Prim.Native.Nat.{◌*◌, ◌≤◌}
 use Rattle.paper.specs.Layouts.{board_from, leader, weighted}
-use Rattle.paper.specs.laws.Totals.{length_bound}
+use Rattle.paper.proofs.laws.Totals.{length_bound}
 use borrow.Author.Rules.{rules}
 use Rattle.measure.proofs.weighted.Statement.{statement}
 use Rattle.measure.proofs.weighted.Tie as tie

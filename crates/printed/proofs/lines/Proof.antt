@@ -9,7 +9,7 @@ use Rattle.text.specs.Text.{Writes}
 use Rattle.text.specs.Writing.{writes_length}
 use Rattle.printed.specs.Printed.{lines}
 use Rattle.paper.specs.Layouts.{by_weights}
-use Rattle.paper.specs.laws.Accepted.{measure_facts, measure_entries}
+use Rattle.paper.proofs.laws.Accepted.{measure_facts, measure_entries}
 use Rattle.printed.specs.Lines.{lines_none, lines_more}
 use Rattle.printed.proofs.lines.Statement.{statement}
 use Rattle.printed.proofs.lines.Tie as tie

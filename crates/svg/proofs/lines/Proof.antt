@@ -12,9 +12,9 @@ use Rattle.paper.specs.declared.Work.TheVariants.{Unlent}
 use Rattle.paper.specs.Job.{records, count}
 use Rattle.paper.specs.Leaders.{Leader}
 use Rattle.paper.specs.Layouts.{by_weights, board_of, held, leader}
-use Rattle.paper.specs.laws.Accepted.{measure_facts, measure_entries}
+use Rattle.paper.proofs.laws.Accepted.{measure_facts, measure_entries}
 use Rattle.paper.specs.laws.Texts.{lines_text}
-use Rattle.paper.specs.laws.Exported.{all_on_sheet, text_bound}
+use Rattle.paper.proofs.laws.Exported.{all_on_sheet, text_bound}
 use Rattle.svg.proofs.Parts.{lines_room}
 use Rattle.svg.proofs.lines.Statement.{statement}
 use Rattle.svg.proofs.lines.Tie as tie

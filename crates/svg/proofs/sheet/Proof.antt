@@ -3,7 +3,7 @@ use borrow.Author.Rules.{rules}
 use mathlib.Core.Path.{refl}
 use native.Mathlib.Omega.{arith}
 use lib.ListN.{length}
-use Rattle.paper.specs.laws.Exported.{svg_long}
+use Rattle.paper.proofs.laws.Exported.{svg_long}
 use Rattle.svg.proofs.Parts.{made_long, copied}
 use Rattle.svg.proofs.sheet.Statement.{statement}
 use Rattle.svg.proofs.sheet.Tie as tie

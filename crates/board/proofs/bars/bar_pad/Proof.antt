@@ -8,7 +8,7 @@ use mir.Syntax.{w64}
 use mir.Val.{to_z, of_z}
 use Rattle.numbers.proofs.Bits.{read_back}
 use Rattle.paper.specs.Layouts.{Board, board_from, leader, square}
-use Rattle.paper.specs.laws.Squares.{meets_cases}
+use Rattle.paper.proofs.laws.Squares.{meets_cases}
 use Rattle.board.proofs.Barring.{Run, row_in, run_is, bars_skip, bars_pad}
 use Rattle.board.proofs.bars.bar_pad.Statement.{statement}
 use Rattle.board.proofs.bars.bar_pad.Tie as tie

@@ -3,8 +3,8 @@ use borrow.Author.Rules.{rules}
 use Rattle.paper.specs.declared.Work.TheVariants.{Unlent}
 use Rattle.paper.specs.Job.{records, count}
 use Rattle.paper.specs.Layouts.{by_table}
-use Rattle.paper.specs.laws.Accepted.{sound_accepted}
-use Rattle.paper.specs.laws.Numbers.{buffer_open}
+use Rattle.paper.proofs.laws.Accepted.{sound_accepted}
+use Rattle.paper.proofs.laws.Numbers.{buffer_open}
 use Rattle.calls.proofs.Facts.{count_answers, count_refusals, count_leaves}
 use Rattle.calls.proofs.search.count.Statement.{statement}
 use Rattle.calls.proofs.search.count.Tie as tie

@@ -3,7 +3,7 @@ use lib.ListN.{length}
 use Rattle.paper.specs.declared.Work.TheVariants.{Unlent}
 use Rattle.paper.specs.Job.{records}
 use Rattle.paper.specs.Layouts.{by_table}
-use Rattle.paper.specs.laws.Accepted.{sound_accepted}
+use Rattle.paper.proofs.laws.Accepted.{sound_accepted}
 use Rattle.calls.proofs.Facts.{first_answers}
 use borrow.Author.Rules.{rules}
 use Rattle.calls.proofs.search.first.Statement.{statement}

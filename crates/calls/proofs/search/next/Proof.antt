@@ -2,7 +2,7 @@
 use Rattle.paper.specs.declared.Work.TheVariants.{Unlent}
 use Rattle.paper.specs.Job.{records}
 use Rattle.paper.specs.Layouts.{by_table}
-use Rattle.paper.specs.laws.Accepted.{measure_accepted, measure_facts}
+use Rattle.paper.proofs.laws.Accepted.{measure_accepted, measure_facts}
 use Rattle.calls.proofs.Facts.{next_answers}
 use borrow.Author.Rules.{rules}
 use Rattle.calls.proofs.search.next.Statement.{statement}

@@ -3,7 +3,7 @@ use borrow.Author.Rules.{rules}
 use Rattle.paper.specs.Job.{records}
 use Rattle.paper.specs.declared.Work.TheVariants.{Unlent}
 use Rattle.paper.specs.Layouts.{by_table}
-use Rattle.paper.specs.laws.Accepted.{measure_accepted, measure_facts}
+use Rattle.paper.proofs.laws.Accepted.{measure_accepted, measure_facts}
 use Rattle.calls.proofs.Facts.{page_answers, not_paged_answers}
 use Rattle.calls.proofs.search.page.Statement.{statement}
 use Rattle.calls.proofs.search.page.Tie as tie

@@ -4,8 +4,8 @@ use borrow.Author.Rules.{rules}
 use Rattle.paper.specs.declared.Work.TheVariants.{Unlent}
 use Rattle.paper.specs.Job.{records}
 use Rattle.paper.specs.Layouts.{by_table}
-use Rattle.paper.specs.laws.Accepted.{sound_accepted}
-use Rattle.paper.specs.laws.Numbers.{buffer_open}
+use Rattle.paper.proofs.laws.Accepted.{sound_accepted}
+use Rattle.paper.proofs.laws.Numbers.{buffer_open}
 use Rattle.calls.proofs.Facts.{place_answers, place_refusals, place_leaves}
 use Rattle.calls.proofs.search.place.Statement.{statement}
 use Rattle.calls.proofs.search.place.Tie as tie

@@ -5,7 +5,7 @@ use Rattle.paper.specs.declared.Work.TheVariants.{Lent}
 use Rattle.paper.specs.Job.{Job, slots}
 use Rattle.paper.specs.Layouts.{Badness, by_weights}
 use Rattle.paper.specs.Refusals.{Passed, sound_trials}
-use Rattle.paper.specs.laws.Accepted.{sound_accepted, sound_working, sound_refused}
+use Rattle.paper.proofs.laws.Accepted.{sound_accepted, sound_working, sound_refused}
 use Rattle.checks.specs.Judged.{Judged, judged_sound, judged_refused, sound_judged}
 use Rattle.calls.proofs.Facts.{first_answers, work_open}
 use borrow.Author.Rules.{rules}

@@ -5,7 +5,7 @@ use Rattle.paper.specs.declared.Work.TheVariants.{Lent}
 use Rattle.paper.specs.Job.{Job, slots}
 use Rattle.paper.specs.Layouts.{Badness, by_weights}
 use Rattle.paper.specs.Refusals.{Passed, measure_trials}
-use Rattle.paper.specs.laws.Accepted.{measure_accepted, measure_facts, measure_refused, sound_working}
+use Rattle.paper.proofs.laws.Accepted.{measure_accepted, measure_facts, measure_refused, sound_working}
 use Rattle.checks.specs.Judged.{Judged, judged_sound, judged_refused, measure_judged}
 use Rattle.calls.proofs.Facts.{next_answers, work_open}
 use borrow.Author.Rules.{rules}

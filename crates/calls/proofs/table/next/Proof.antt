@@ -6,7 +6,7 @@ use Rattle.paper.specs.declared.Work.TheVariants.{Unlent}
 use Rattle.paper.specs.Layouts.{by_table}
 use Rattle.paper.specs.Refusals.{measure_trials}
 use Rattle.checks.specs.Judged.{Judged, judged_sound, judged_refused, measure_judged}
-use Rattle.paper.specs.laws.Accepted.{measure_refused}
+use Rattle.paper.proofs.laws.Accepted.{measure_refused}
 use Rattle.calls.proofs.table.next.Statement.{statement}
 use Rattle.calls.proofs.table.next.Tie as tie
 

@@ -7,7 +7,8 @@ use borrow.Author.Rules.{rules}
 use Rattle.paper.specs.Job.{records, count}
 use Rattle.paper.specs.declared.Work.TheVariants.{Unlent}
 use Rattle.paper.specs.Layouts.{board_of, by_weights}
-use Rattle.paper.specs.laws.Accepted.{AcceptedJob, Fair, sound_accepted}
+use Rattle.paper.specs.laws.Accepted.{AcceptedJob, Fair}
+use Rattle.paper.proofs.laws.Accepted.{sound_accepted}
 use Rattle.calls.proofs.Weighed.{square_most, front_long, first_lent, count_back}
 use Rattle.calls.proofs.weighted.count.Statement.{statement}
 use Rattle.calls.proofs.weighted.count.Tie as tie

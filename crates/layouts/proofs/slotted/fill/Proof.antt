@@ -2,7 +2,7 @@
 use native.Mathlib.Omega.{arith}
 use Rattle.paper.specs.Job.{slots}
 use Rattle.paper.specs.Layouts.{Board, board_of, weighted}
-use Rattle.paper.specs.laws.Accepted.{weighted_narrow}
+use Rattle.paper.proofs.laws.Accepted.{weighted_narrow}
 use Rattle.board.specs.Lists.{ListsOf}
 use Rattle.board.specs.Bars.{BarsOf}
 use Rattle.layouts.proofs.Translated.{fillable, tabled}

@@ -1,0 +1,3 @@
+-- What follows from the definitions, and the theorems.
+pub mod laws
+pub mod Theorems
