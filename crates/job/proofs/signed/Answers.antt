@@ -14,8 +14,7 @@ use Rattle.numbers.proofs.Bits.{read_back}
 use Rattle.numbers.proofs.Whole.{whole, minus_num}
 use Rattle.paper.specs.Job.{twos}
 use Rattle.paper.proofs.laws.Written.{wrapped}
-use Rattle.job.proofs.signed.Statement.{statement}
-use Rattle.job.proofs.signed.Tie as tie
+use Rattle.job.proofs.signed.Goals as goal
 
 -- n and 2 ^ 31, less 2 ^ 32 where it gets there: of 32 bits, so its own signed reading at 64
 abbrev turned : ℕ → ℕ
@@ -34,21 +33,12 @@ turned-back n h = go (dec_lt n 2147483648)
     go (no l) =
         rw (le-ltb n 2147483648 (omega arith), wrapped n (omega arith)) (omega (whole, minus_num (pos (turned n)) 2147483648), omega arith)
 
-add-result : tie.Need-overflow-add-result
-add-result c = search rules
-
-cast-result : tie.Need-overflow-cast-result
-cast-result c = search rules
-
-sub-result : tie.Need-overflow-sub-result
-sub-result c =
+pub overflow_sub-result : goal.overflow_sub-result
+overflow_sub-result c =
     let t = turned-back c.args.n (search rules) in
     rw (as-64 c.args.n, t.0) (record { sfits = omega (arith, t.1) })
 
-returns : tie.Need-returns
+pub returns : goal.returns
 returns c =
     let t = turned-back c.args.n (search rules) in
     rw (as-64 c.args.n, t.0, read_back (twos c.args.n) (omega (arith, t.1))) (refl, t.1)
-
-pub signed-spec : {M : Type 1} → statement M
-signed-spec = tie.close (tie.spec add-result cast-result sub-result returns)
