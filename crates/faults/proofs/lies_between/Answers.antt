@@ -11,8 +11,7 @@ use Rattle.numbers.proofs.Bits.{read_back}
 use Rattle.numbers.proofs.Tests.{le_iff, true_iff, not_iff}
 use Rattle.numbers.proofs.Whole.{whole, le_or_le}
 use Rattle.paper.specs.laws.Tests.{between}
-use Rattle.faults.proofs.lies_between.Statement.{statement}
-use Rattle.faults.proofs.lies_between.Tie as tie
+use Rattle.faults.proofs.lies_between.Goals as goal
 
 yes_le : (z w : ℤ) → z ≤ℤ w → le_z z w ≡ true
 yes_le z w h = (true_iff (le_z z w) (le_iff z w)).1 h
@@ -52,29 +51,22 @@ level m a b s t =
     one true = refl
     one false = refl
 
-m-back : (s : tie.Start) → to_z w64 (of_z w64 s.args.m) ≡ s.args.m
-m-back s = read_back s.args.m s.ranges.m.sfits
+pub returns-then-m-a : goal.returns-then-m-a
+returns-then-m-a c =
+    let m-back : to_z w64 (of_z w64 c.args.m) ≡ c.args.m = read_back c.args.m c.ranges.m.sfits in
+    let a_back : to_z w64 (of_z w64 c.args.a) ≡ c.args.a = read_back c.args.a c.ranges.a.sfits in
+    let b-back : to_z w64 (of_z w64 c.args.b) ≡ c.args.b = read_back c.args.b c.ranges.b.sfits in
+    rw (m-back, b-back) (below c.args.m c.args.a c.args.b (rw (m-back, a_back) at c.if-m-a.true))
 
-a_back : (s : tie.Start) → to_z w64 (of_z w64 s.args.a) ≡ s.args.a
-a_back s = read_back s.args.a s.ranges.a.sfits
+pub returns-then-a-m : goal.returns-then-a-m
+returns-then-a-m c =
+    let m-back : to_z w64 (of_z w64 c.args.m) ≡ c.args.m = read_back c.args.m c.ranges.m.sfits in
+    let a_back : to_z w64 (of_z w64 c.args.a) ≡ c.args.a = read_back c.args.a c.ranges.a.sfits in
+    let b-back : to_z w64 (of_z w64 c.args.b) ≡ c.args.b = read_back c.args.b c.ranges.b.sfits in
+    rw (m-back, b-back) (above c.args.m c.args.a c.args.b (rw (m-back, a_back) at c.if-a-m.true))
 
-b-back : (s : tie.Start) → to_z w64 (of_z w64 s.args.b) ≡ s.args.b
-b-back s = read_back s.args.b s.ranges.b.sfits
-
-returns : tie.Need-returns
-returns c =
-    let s = c.before in
-    rw (m-back s, b-back s) (below s.args.m s.args.a s.args.b (rw (m-back s, a_back s) at c.if1.true))
-
-returns-2 : tie.Need-returns-2
-returns-2 c =
-    let s = c.before.before in
-    rw (m-back s, b-back s) (above s.args.m s.args.a s.args.b (rw (m-back s, a_back s) at c.if2.true))
-
-returns-3 : tie.Need-returns-3
-returns-3 c =
-    let s = c.before.before in
-    level s.args.m s.args.a s.args.b (rw (m-back s, a_back s) at c.before.if1.false) (rw (m-back s, a_back s) at c.if2.false)
-
-pub lies-between-spec : {M : Type 1} → statement M
-lies-between-spec = tie.close (tie.spec returns returns-2 returns-3)
+pub returns-else-a-m : goal.returns-else-a-m
+returns-else-a-m c =
+    let m-back : to_z w64 (of_z w64 c.args.m) ≡ c.args.m = read_back c.args.m c.ranges.m.sfits in
+    let a_back : to_z w64 (of_z w64 c.args.a) ≡ c.args.a = read_back c.args.a c.ranges.a.sfits in
+    level c.args.m c.args.a c.args.b (rw (m-back, a_back) at c.if-m-a.false) (rw (m-back, a_back) at c.if-a-m.false)

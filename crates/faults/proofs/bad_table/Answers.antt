@@ -11,8 +11,7 @@ use lib.Dec.{T, eqb}
 use Rattle.numbers.proofs.Tests.{or_iff, not_iff, eqb_iff}
 use Rattle.paper.specs.Job.{count}
 use borrow.Author.Rules.{rules}
-use Rattle.faults.proofs.bad_table.Statement.{statement}
-use Rattle.faults.proofs.bad_table.Tie as tie
+use Rattle.faults.proofs.bad_table.Goals as goal
 
 alike : (a b : Bool) → (T a → T b) → (T b → T a) → a ≡ b
 alike true true f g = refl
@@ -40,17 +39,8 @@ square-test n k some = alike _ _ (λ t. whole.1 (off (parts.0 t))) (λ t. parts.
     split (no d) ne = inl d
     split (yes d) ne = inr (λ e. let f : k / n * n ≡ n * n = ap (λ (m : ℕ). m * n) d in ne (omega (arith, div-add-mod' k n)))
 
-div-result : tie.Need-nonzero-div-result
-div-result c = search rules
+pub returns-then-n-eq0 : goal.returns-then-n-eq0
+returns-then-n-eq0 c = rw c.if-n-eq0.true
 
-rem-result : tie.Need-nonzero-rem-result
-rem-result c = search rules
-
-returns : tie.Need-returns
-returns c = rw c.if1.true
-
-returns-2 : tie.Need-returns-2
-returns-2 c = let s = c.before.args in square-test (count s.job.now) s.figures (search rules)
-
-pub bad-table-spec : {M : Type 1} → statement M
-bad-table-spec = tie.close (tie.spec div-result rem-result returns returns-2)
+pub returns-else-n-eq0 : goal.returns-else-n-eq0
+returns-else-n-eq0 c = square-test (count c.args.job.now) c.args.figures (search rules)
