@@ -63,7 +63,7 @@ bounds-marks-q-in-loop-i c = omega (arith, c.requires.1, c.if-p-q.false)
 pub loop-i-preserved : goal.loop-i-preserved
 loop-i-preserved c =
     let marked : bad_entry c.args.p c.args.list.now c.loop-i.i ≡ get_or c.loop-i.marks (held c.args.list.now c.loop-i.i) false = by-mark c.args.p c.args.list.now c.loop-i.i c.loop-i.marks c.if-p-q.false c.requires.1 c.loop-i.invariant.2 in
-    (search rules, none_more _ _ c.loop-i.invariant.1 (marked ∙ c.if-marks-q.false), one_more c.args.list.now c.loop-i.i c.loop-i.marks (array-write-marks c) c.loop-i.invariant.2)
+    (search rules, none_more _ _ c.loop-i.invariant.1 (marked ∙ c.if-marks-q.false), one_more c.args.list.now c.loop-i.i c.loop-i.marks (omega (arith, c.requires.1, c.if-p-q.false)) c.loop-i.invariant.2)
 
 pub returns : goal.returns
 returns c = sym (none_end _ _ _ c.loop-i.invariant.1 c.loop-i.invariant.0 c.loop-i-test.false)
