@@ -1,5 +1,4 @@
 use mathlib.Core.Path.{◌≡◌}
-use Prim.Native.Nat.{◌-◌}
 use native.Mathlib.Omega.{arith}
 use Rattle.counting.proofs.Buffers.{cleared_none, cleared_more}
 use Rattle.counting.proofs.clear.Goals as goal

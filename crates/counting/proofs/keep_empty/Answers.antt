@@ -1,5 +1,5 @@
 use mathlib.Core.Path.{◌≡◌}
-use Prim.Native.Nat.{◌+◌, ◌-◌, ◌≤◌, ◌<◌}
+use Prim.Native.Nat.{◌+◌, ◌≤◌, ◌<◌}
 use native.Mathlib.Omega.{arith}
 use Rattle.totals.proofs.Corners.{corner_step, place-listed}
 use Rattle.counting.proofs.Buffers.{base_few, place-first, empty_none, empty_more}

@@ -1,5 +1,4 @@
 use mathlib.Core.Path.{refl, sym, ◌∙◌}
-use Prim.Native.Nat.{◌-◌}
 use native.Mathlib.Omega.{arith}
 use lib.ListN.{length-set}
 use Rattle.places.proofs.Ports.{entered_none}
@@ -51,13 +50,12 @@ pub overflow_cast-at : goal.overflow_cast-at
 overflow_cast-at c = omega (arith, c.loop-m-test.true, c.requires.proper_board.0.pads.few)
 
 pub bounds-at-port : goal.bounds-at-port
-bounds-at-port c = let s = c
-    in let x = s.args in let p = s.pre in omega (
-      arith,
-      walking_port p.0.0 (listed p.0.0 x.cost.now x.bars.now) p.1.1.0 x.out.now x.k c.loop-m.out c.loop-m.m c.loop-m.ways c.loop-m.rest c.loop-m.invariant.0
-          (omega (arith, p.0.1, c.loop-m.invariant.0.kept.long)) c.loop-m-test.true c.choose-p.result c.choose-p.ensures.chosen_is,
-      c.loop-m.invariant.1,
-    )
+bounds-at-port c = omega (
+  arith,
+  walking_port c.requires.proper_board.0 (listed c.requires.proper_board.0 c.args.cost.now c.args.bars.now) c.requires.solvable c.args.out.now c.args.k c.loop-m.out c.loop-m.m c.loop-m.ways c.loop-m.rest c.loop-m.invariant.0
+      (omega (arith, c.requires.proper_board.1, c.loop-m.invariant.0.kept.long)) c.loop-m-test.true c.choose-p.result c.choose-p.ensures.chosen_is,
+  c.loop-m.invariant.1,
+)
 
 pub overflow_add-m : goal.overflow_add-m
 overflow_add-m c = omega
