@@ -1,0 +1,42 @@
+use mathlib.Core.Path.{◌≡◌}
+use Prim.Native.Nat.{◌+◌, ◌-◌, zero-le}
+use native.Mathlib.Numerals.{add-one}
+use native.Mathlib.Omega.{arith}
+use Rattle.numbers.proofs.Copies.{copied_none, copied_more}
+use Rattle.numbering.proofs.copy.Goals as goal
+
+pub loop-i-init : goal.loop-i-init
+loop-i-init c = (zero-le, copied_none 0 c.args.from.now c.args.to.now)
+
+pub offset_bounds-from-i : goal.offset_bounds-from-i
+offset_bounds-from-i c = omega (arith, c.well_formed.0.1, c.requires.0, c.loop-i-test.true)
+
+pub bounds-from-i : goal.bounds-from-i
+bounds-from-i c = omega (arith, c.requires.0, c.loop-i-test.true)
+
+pub offset_bounds-to-i : goal.offset_bounds-to-i
+offset_bounds-to-i c = omega (arith, c.well_formed.1.1.0.1, c.requires.1, c.loop-i-test.true)
+
+pub bounds-to-i : goal.bounds-to-i
+bounds-to-i c = omega (arith, c.requires.1, c.loop-i-test.true, c.loop-i.invariant.1.long)
+
+pub overflow_add-i : goal.overflow_add-i
+overflow_add-i c = omega (arith, c.loop-i-test.true, c.ranges.n)
+
+pub loop-i-smaller : goal.loop-i-smaller
+loop-i-smaller c = omega (arith, c.loop-i-test.true)
+
+pub loop-i-preserved : goal.loop-i-preserved
+loop-i-preserved c =
+    let e : 0 + c.loop-i.i ≡ c.loop-i.i = omega arith in (
+      omega (arith, c.loop-i-test.true),
+      rw add-one (rw e at (copied_more c.loop-i.i 0 c.args.from.now c.args.to.now c.loop-i.to (omega (arith, c.requires.1, c.loop-i-test.true)) c.loop-i.invariant.1)),
+    )
+
+pub shape_of-to : goal.shape_of-to
+shape_of-to c = c.loop-i.invariant.1.long
+
+pub returns : goal.returns
+returns c =
+    let e : c.loop-i.i ≡ c.args.n = omega (arith, c.loop-i.invariant.0, c.loop-i-test.false) in
+    rw (← e) c.loop-i.invariant.1
