@@ -1,10 +1,10 @@
-// The calls as Rattle functions that answer an enum: here by weights, in `table` by a table, in `slots` where ports may stay free. Each keeps the
+// The calls as Rattle functions that answer an enum: here by weights, in `tabled` by a table, in `slotted` where ports may stay free. Each keeps the
 // promise of its name in paper's Promises.antt, for every input.
 #![tactic(auto)]
 
 mod search;
-pub mod slots;
-pub mod table;
+pub mod slotted;
+pub mod tabled;
 mod weighted;
 
 ghost use Rattle.std.specs.Prelude.{◌≡◌, length};

@@ -133,21 +133,21 @@ pub extern "C" fn cheremysl_place(
 pub extern "C" fn cheremysl_table_first(job: &[u8], table: &[u32], layout: &mut [u16]) -> i64
     ensures { FirstPromise (records job.now) (by_table table.now) Work.Unlent layout.old result layout.new }
 {
-    of_answer(calls::table::first(job, table, layout))
+    of_answer(calls::tabled::first(job, table, layout))
 }
 
 #[unsafe(no_mangle)]
 pub extern "C" fn cheremysl_table_next(job: &[u8], table: &[u32], layout: &mut [u16]) -> i64
     ensures { NextPromise (records job.now) (by_table table.now) Work.Unlent layout.old result layout.new }
 {
-    of_answer(calls::table::next(job, table, layout))
+    of_answer(calls::tabled::next(job, table, layout))
 }
 
 #[unsafe(no_mangle)]
 pub extern "C" fn cheremysl_table_measure(job: &[u8], table: &[u32], layout: &[u16]) -> i64
     ensures { MeasurePromise (records job.now) (by_table table.now) layout.now result }
 {
-    of_answer(calls::table::measure(job, table, layout))
+    of_answer(calls::tabled::measure(job, table, layout))
 }
 
 #[unsafe(no_mangle)]
@@ -163,7 +163,7 @@ pub extern "C" fn cheremysl_slots_first(
         layout.old result layout.new }
     ensures work_promise { WorkPromise result work.old work.new }
 {
-    of_answer(calls::slots::first(pads, ports, length_weight, bend_weight, layout, work))
+    of_answer(calls::slotted::first(pads, ports, length_weight, bend_weight, layout, work))
 }
 
 #[unsafe(no_mangle)]
@@ -179,7 +179,7 @@ pub extern "C" fn cheremysl_slots_next(
         layout.old result layout.new }
     ensures work_promise { WorkPromise result work.old work.new }
 {
-    of_answer(calls::slots::next(pads, ports, length_weight, bend_weight, layout, work))
+    of_answer(calls::slotted::next(pads, ports, length_weight, bend_weight, layout, work))
 }
 
 #[unsafe(no_mangle)]
@@ -192,7 +192,7 @@ pub extern "C" fn cheremysl_slots_measure(
 ) -> i64
     ensures { MeasurePromise (slots pads.now ports.now) (by_weights length_weight bend_weight) layout.now result }
 {
-    of_answer(calls::slots::measure(pads, ports, length_weight, bend_weight, layout))
+    of_answer(calls::slotted::measure(pads, ports, length_weight, bend_weight, layout))
 }
 
 #[unsafe(no_mangle)]

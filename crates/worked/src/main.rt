@@ -245,10 +245,10 @@ fn printed(job: &[u8]) {
 fn on_slots(call: u8, pads: &[u8], ports: &[u8], a: u32, b: u32, list: &mut [u16]) {
     let mut work = [4611686018427387904u64; 1024];
     match call {
-        b't' => say_answer(calls::slots::next(pads, ports, a, b, list, &mut work), list),
-        b'u' => say_answer(calls::slots::measure(pads, ports, a, b, list), list),
+        b't' => say_answer(calls::slotted::next(pads, ports, a, b, list, &mut work), list),
+        b'u' => say_answer(calls::slotted::measure(pads, ports, a, b, list), list),
         _ => say_answer(
-            calls::slots::first(pads, ports, a, b, list, &mut work),
+            calls::slotted::first(pads, ports, a, b, list, &mut work),
             list,
         ),
     }
@@ -275,9 +275,9 @@ fn run(call: u8, job: &[u8], a: u32, b: u32, figures: &[u32], list: &mut [u16])
         b's' => slotted(call, job, figures, a, b, list),
         b't' => slotted(call, job, figures, a, b, list),
         b'u' => slotted(call, job, figures, a, b, list),
-        b'f' => say_answer(calls::table::first(job, figures, list), list),
-        b'n' => say_answer(calls::table::next(job, figures, list), list),
-        b'm' => say_answer(calls::table::measure(job, figures, list), list),
+        b'f' => say_answer(calls::tabled::first(job, figures, list), list),
+        b'n' => say_answer(calls::tabled::next(job, figures, list), list),
+        b'm' => say_answer(calls::tabled::measure(job, figures, list), list),
         b'D' => drawn(job, a, b),
         b'P' => printed(job),
         b'M' => say_answer(calls::measure(job, a, b, list), list),

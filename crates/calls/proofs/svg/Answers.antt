@@ -1,0 +1,20 @@
+-- `calls::svg` meets its contract. Assumes nothing.
+use mathlib.Core.Path.{refl}
+use lib.ListN.{length}
+use Rattle.paper.specs.Job.{records}
+use Rattle.paper.specs.declared.Work.TheVariants.{Unlent}
+use Rattle.paper.specs.Layouts.{by_weights}
+use Rattle.paper.specs.Refusals.{measure_trials}
+use Rattle.checks.specs.Judged.{Judged, judged_sound, judged_refused, measure_judged}
+use Rattle.paper.proofs.laws.Exported.{svg_refused}
+use Rattle.calls.proofs.svg.Goals as goal
+
+pub sheet-requires : goal.sheet-requires
+sheet-requires c =
+    let judged : Judged c.of_measure-v.result (measure_trials (records c.args.job.now) (by_weights 0 0) Unlent c.args.list.now) = rw (c.of_measure-v.ensures, c.of_weights.ensures) (measure_judged (records c.args.job.now) (by_weights 0 0) Unlent c.args.list.now) in
+    judged_sound _ _ judged c.in-Sound.is
+
+pub returns-in-Refused : goal.returns-in-Refused
+returns-in-Refused c =
+    let judged : Judged c.of_measure-v.result (measure_trials (records c.args.job.now) (by_weights 0 0) Unlent c.args.list.now) = rw (c.of_measure-v.ensures, c.of_weights.ensures) (measure_judged (records c.args.job.now) (by_weights 0 0) Unlent c.args.list.now) in
+    (svg_refused c.args.job.now c.args.list.now (length c.args.text.now) _ (judged_refused _ _ _ judged c.in-Refused.is), refl)

@@ -1,0 +1,20 @@
+-- `calls::tabled::first` meets its contract. Assumes nothing.
+use mathlib.Core.Path.{refl}
+use lib.ListN.{length}
+use Rattle.paper.specs.Job.{records}
+use Rattle.paper.specs.declared.Work.TheVariants.{Unlent}
+use Rattle.paper.specs.Layouts.{by_table}
+use Rattle.paper.specs.Refusals.{sound_trials}
+use Rattle.paper.proofs.laws.Accepted.{sound_refused}
+use Rattle.checks.specs.Judged.{Judged, judged_sound, judged_refused, sound_judged}
+use Rattle.calls.proofs.tabled.first.Goals as goal
+
+pub first-requires : goal.first-requires
+first-requires c =
+    let judged : Judged c.of_first-v.result (sound_trials (records c.args.job.now) (by_table c.args.figures.now) Unlent (length c.args.list.now)) = rw (c.of_first-v.ensures, c.of_table.ensures) (sound_judged (records c.args.job.now) (by_table c.args.figures.now) Unlent (length c.args.list.now)) in
+    judged_sound _ _ judged c.in-Sound.is
+
+pub returns-in-Refused : goal.returns-in-Refused
+returns-in-Refused c =
+    let judged : Judged c.of_first-v.result (sound_trials (records c.args.job.now) (by_table c.args.figures.now) Unlent (length c.args.list.now)) = rw (c.of_first-v.ensures, c.of_table.ensures) (sound_judged (records c.args.job.now) (by_table c.args.figures.now) Unlent (length c.args.list.now)) in
+    (sound_refused (records c.args.job.now) (by_table c.args.figures.now) Unlent (length c.args.list.now) _ (judged_refused _ _ _ judged c.in-Refused.is), refl)

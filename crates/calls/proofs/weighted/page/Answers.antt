@@ -1,0 +1,53 @@
+-- `calls::weighted::page` meets its contract: by the table of weighted lengths and bends. Assumes nothing.
+use Prim.Native.Nat.{◌≤◌}
+use native.Mathlib.Omega.{arith}
+use lib.ListN.{length}
+use lib.Seq.{length-take-le}
+use mathlib.Core.Path.{sym}
+use Rattle.paper.specs.Job.{records, count}
+use Rattle.paper.specs.declared.Work.TheVariants.{Unlent}
+use Rattle.paper.specs.Layouts.{board_of, by_weights}
+use Rattle.paper.specs.laws.Accepted.{AcceptedJob, Fair}
+use Rattle.paper.proofs.laws.Accepted.{measure_facts}
+use Rattle.calls.proofs.Weighed.{square_most, front_long, measure_lent, page_back}
+use Rattle.calls.proofs.weighted.page.Goals as goal
+
+pub overflow_mul-square : goal.overflow_mul-square
+overflow_mul-square c =
+    let facts : AcceptedJob (records c.args.job.now) × Fair (board_of (records c.args.job.now)) (by_weights c.args.lw c.args.bw) × (count c.args.job.now ≤ length c.args.list.now) = measure_facts (records c.args.job.now) (by_weights c.args.lw c.args.bw) Unlent c.args.list.now c.requires in
+    omega (arith, square_most facts.0)
+
+pub slice_bounds-figures-end : goal.slice_bounds-figures-end
+slice_bounds-figures-end c =
+    let facts : AcceptedJob (records c.args.job.now) × Fair (board_of (records c.args.job.now)) (by_weights c.args.lw c.args.bw) × (count c.args.job.now ≤ length c.args.list.now) = measure_facts (records c.args.job.now) (by_weights c.args.lw c.args.bw) Unlent c.args.list.now c.requires in
+    square_most facts.0
+
+pub slice_bounds-fill-end : goal.slice_bounds-fill-end
+slice_bounds-fill-end c =
+    let facts : AcceptedJob (records c.args.job.now) × Fair (board_of (records c.args.job.now)) (by_weights c.args.lw c.args.bw) × (count c.args.job.now ≤ length c.args.list.now) = measure_facts (records c.args.job.now) (by_weights c.args.lw c.args.bw) Unlent c.args.list.now c.requires in
+    sym (length-take-le _ _ (square_most facts.0))
+
+pub fill-requires : goal.fill-requires
+fill-requires c =
+    let facts : AcceptedJob (records c.args.job.now) × Fair (board_of (records c.args.job.now)) (by_weights c.args.lw c.args.bw) × (count c.args.job.now ≤ length c.args.list.now) = measure_facts (records c.args.job.now) (by_weights c.args.lw c.args.bw) Unlent c.args.list.now c.requires in
+    let f = facts in (f.0, f.1.0, f.1.1, length-take-le _ _ (square_most f.0))
+
+pub slice_bounds-figures-end-2 : goal.slice_bounds-figures-end-2
+slice_bounds-figures-end-2 c =
+    let facts : AcceptedJob (records c.args.job.now) × Fair (board_of (records c.args.job.now)) (by_weights c.args.lw c.args.bw) × (count c.args.job.now ≤ length c.args.list.now) = measure_facts (records c.args.job.now) (by_weights c.args.lw c.args.bw) Unlent c.args.list.now c.requires in
+    front_long c.args.job.now c.args.lw c.args.bw facts.1 _ c.fill.ensures
+
+pub slice_bounds-page-end : goal.slice_bounds-page-end
+slice_bounds-page-end c =
+    let facts : AcceptedJob (records c.args.job.now) × Fair (board_of (records c.args.job.now)) (by_weights c.args.lw c.args.bw) × (count c.args.job.now ≤ length c.args.list.now) = measure_facts (records c.args.job.now) (by_weights c.args.lw c.args.bw) Unlent c.args.list.now c.requires in
+    sym (length-take-le _ _ (front_long c.args.job.now c.args.lw c.args.bw facts.1 _ c.fill.ensures))
+
+pub page-requires : goal.page-requires
+page-requires c =
+    let facts : AcceptedJob (records c.args.job.now) × Fair (board_of (records c.args.job.now)) (by_weights c.args.lw c.args.bw) × (count c.args.job.now ≤ length c.args.list.now) = measure_facts (records c.args.job.now) (by_weights c.args.lw c.args.bw) Unlent c.args.list.now c.requires in
+    measure_lent c.args.job.now c.args.lw c.args.bw facts.1 _ c.fill.ensures c.args.list.now c.requires
+
+pub returns : goal.returns
+returns c =
+    let facts : AcceptedJob (records c.args.job.now) × Fair (board_of (records c.args.job.now)) (by_weights c.args.lw c.args.bw) × (count c.args.job.now ≤ length c.args.list.now) = measure_facts (records c.args.job.now) (by_weights c.args.lw c.args.bw) Unlent c.args.list.now c.requires in
+    page_back c.args.job.now c.args.lw c.args.bw facts.1 _ c.fill.ensures c.args.list.now c.args.page.now c.page.result c.page.new.page c.page.ensures
