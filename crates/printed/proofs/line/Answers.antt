@@ -1,0 +1,11 @@
+-- `printed::line` meets its contract. Assumes nothing.
+use borrow.Author.Rules.{rules}
+use Rattle.printed.specs.Lines.{line_written}
+use Rattle.printed.proofs.line.Goals as goal
+
+pub returns : goal.returns
+returns c = (
+  line_written c.args.job.now c.args.i c.args.q c.name-name.ensures
+      c.length-length.ensures.0 c.bends-bends.ensures.0 c.field-a.ensures.0 c.field-b.ensures.0 c.field-c.ensures.0 c.field.ensures.0,
+  search rules,
+)

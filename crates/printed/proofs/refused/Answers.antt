@@ -1,0 +1,8 @@
+-- `printed::refused` meets its contract. Assumes nothing.
+use borrow.Author.Rules.{rules}
+use Rattle.text.specs.Writing.{writes_then}
+use Rattle.printed.proofs.refused.Goals as goal
+
+pub returns : goal.returns
+returns c =
+    (writes_then (writes_then (writes_then c.word-a.ensures c.field-b.ensures.0) c.word-c.ensures) c.field.ensures.0, search rules)
