@@ -7,10 +7,11 @@
 // Next and Measure on slots, whose heights stand in place of SIZE.
 #![tactic(auto)]
 
-ghost use Rattle.std.specs.Prelude.{◌≡◌, ◌*◌, ◌<◌, ◌≤◌, length, take};
+ghost use Rattle.std.specs.Prelude.{◌≡◌, ◌*◌, ◌<◌, ◌≤◌, length, take, IfOk};
 
-use libc::{STDIN_FILENO, STDOUT_FILENO};
 use paper::{Answer, Counted, Drawn, Refusal};
+use std::io;
+use std::io::Write;
 
 // A number of 32 bits, in two's complement if negative, and the place after it.
 #[derive(Clone, Copy)]
@@ -24,10 +25,6 @@ struct Number {
 struct Part {
     count: usize,
     next: usize,
-}
-
-fn say(word: &[u8]) {
-    io::write_all(STDOUT_FILENO, word);
 }
 
 // The value of a digit, and 10 of any other byte.
@@ -124,64 +121,65 @@ fn narrow(words: &[u32], list: &mut [u16])
     }
 }
 
-fn say_number(before: &[u8], n: u64) {
-    say(before);
-    io::print_decimal(STDOUT_FILENO, n);
+fn say_number<W: Write>(out: &mut W, before: &[u8], n: u64) -> io::Result<()> {
+    out.write_all(before)?;
+    write!(out, "{n}")
 }
 
 // Refusal 9 has two records.
-fn say_refusal(f: Refusal) {
-    say_number(b" = refused ", f.reason as u64);
-    say_number(b" record ", f.at as u64);
+fn say_refusal<W: Write>(out: &mut W, f: Refusal) -> io::Result<()> {
+    say_number(out, b" = refused ", f.reason as u64)?;
+    say_number(out, b" record ", f.at as u64)?;
     if f.reason == 9 {
-        say_number(b" with ", f.earlier as u64);
+        say_number(out, b" with ", f.earlier as u64)?;
     }
+    Ok(())
 }
 
 // What stands between the entries of a list.
-fn comma(k: usize) {
+fn comma<W: Write>(out: &mut W, k: usize) -> io::Result<()> {
     if k > 0 {
-        say(b", ");
+        out.write_all(b", ")?;
     }
+    Ok(())
 }
 
-fn say_entry(k: usize, n: u16) {
-    comma(k);
-    io::print_decimal(STDOUT_FILENO, n as u64);
+fn say_entry<W: Write>(out: &mut W, k: usize, n: u16) -> io::Result<()> {
+    comma(out, k)?;
+    write!(out, "{n}")
 }
 
-fn say_entries(list: &[u16]) {
-    let mut k = 0;
-    while k < list.len() {
-        say_entry(k, list[k]);
-        k += 1;
+fn say_entries<W: Write>(out: &mut W, list: &[u16]) -> io::Result<()> {
+    for (k, n) in list.iter().enumerate() {
+        say_entry(out, k, *n)?;
     }
+    Ok(())
 }
 
-fn say_list(list: &[u16]) {
-    say(b" [");
-    say_entries(list);
-    say(b"]\n");
+fn say_list<W: Write>(out: &mut W, list: &[u16]) -> io::Result<()> {
+    out.write_all(b" [")?;
+    say_entries(out, list)?;
+    out.write_all(b"]\n")
 }
 
-fn say_answer(a: Answer, list: &[u16]) {
+fn say_answer<W: Write>(out: &mut W, a: Answer, list: &[u16]) -> io::Result<()> {
     match a {
-        Answer::Total(t) => say_number(b" = total ", t),
-        Answer::End => say(b" = end"),
-        Answer::Refused(f) => say_refusal(f),
+        Answer::Total(t) => say_number(out, b" = total ", t)?,
+        Answer::End => out.write_all(b" = end")?,
+        Answer::Refused(f) => say_refusal(out, f)?,
     }
-    say_list(list);
+    say_list(out, list)
 }
 
 // Page, with its layouts and the entries after them.
-fn paged(job: &[u8], a: u32, b: u32, list: &[u16]) {
+fn paged<W: Write>(out: &mut W, job: &[u8], a: u32, b: u32, list: &[u16]) -> io::Result<()> {
     let mut page = [9u16; 8];
     let p = calls::page(job, a, b, list, &mut page);
     match p {
-        Counted::Many(k) => say_number(b" = layouts ", k),
-        Counted::Refused(f) => say_refusal(f),
+        Counted::Many(k) => say_number(out, b" = layouts ", k)?,
+        Counted::Refused(f) => say_refusal(out, f)?,
     }
-    say_list(&page);
+    say_list(out, &page)
 }
 
 // Four times a drawn number, without its sign.
@@ -196,95 +194,117 @@ fn fourths(x: f32) -> u64 {
 }
 
 // A drawn number in decimal. -0 would show as such: its reciprocal is negative.
-fn say_drawn(x: f32) {
+fn say_drawn<W: Write>(out: &mut W, x: f32) -> io::Result<()> {
     let mut v = fourths(x);
     if 1.0 / x < 0.0 {
-        say(b"-");
+        out.write_all(b"-")?;
         v = fourths(0.0 - x);
     }
-    io::print_decimal(STDOUT_FILENO, v / 4);
+    say_number(out, b"", v / 4)?;
     match v % 4 {
-        1 => say(b".25"),
-        2 => say(b".5"),
-        3 => say(b".75"),
-        _ => {}
+        1 => out.write_all(b".25"),
+        2 => out.write_all(b".5"),
+        3 => out.write_all(b".75"),
+        _ => Ok(()),
     }
 }
 
-fn say_points(points: &[f32]) {
-    let mut k = 0;
-    while k < points.len() {
-        comma(k);
-        say_drawn(points[k]);
-        k += 1;
+fn say_points<W: Write>(out: &mut W, points: &[f32]) -> io::Result<()> {
+    for (k, x) in points.iter().enumerate() {
+        comma(out, k)?;
+        say_drawn(out, *x)?;
     }
+    Ok(())
 }
 
 // Draw, with its points and the places after them.
-fn drawn(job: &[u8], i: u32, q: u32) {
+fn drawn<W: Write>(out: &mut W, job: &[u8], i: u32, q: u32) -> io::Result<()> {
     let mut points = [99.0f32; 8];
     let d = calls::draw(job, i, q, &mut points);
     match d {
-        Drawn::Straight(_) => say(b" = 2 points"),
-        Drawn::Bent(_) => say(b" = 3 points"),
-        Drawn::Refused(f) => say_refusal(f),
+        Drawn::Straight(_) => out.write_all(b" = 2 points")?,
+        Drawn::Bent(_) => out.write_all(b" = 3 points")?,
+        Drawn::Refused(f) => say_refusal(out, f)?,
     }
-    say(b" [");
-    say_points(&points);
-    say(b"]\n");
+    out.write_all(b" [")?;
+    say_points(out, &points)?;
+    out.write_all(b"]\n")
 }
 
-fn printed(job: &[u8]) {
+fn printed<W: Write>(out: &mut W, job: &[u8]) -> io::Result<()> {
     let mut text = [0u8; 5424];
     let k = printed::sheet(job, &mut text);
-    say(b" =\n");
-    say(&text[..k]);
+    out.write_all(b" =\n")?;
+    out.write_all(&text[..k])
 }
 
 // The calls on slots, with a work list that holds something.
-fn on_slots(call: u8, pads: &[u8], ports: &[u8], a: u32, b: u32, list: &mut [u16]) {
+fn on_slots<W: Write>(
+    out: &mut W,
+    call: u8,
+    pads: &[u8],
+    ports: &[u8],
+    a: u32,
+    b: u32,
+    list: &mut [u16],
+) -> io::Result<()> {
     let mut work = [4611686018427387904u64; 1024];
-    match call {
-        b't' => say_answer(calls::slotted::next(pads, ports, a, b, list, &mut work), list),
-        b'u' => say_answer(calls::slotted::measure(pads, ports, a, b, list), list),
-        _ => say_answer(
-            calls::slotted::first(pads, ports, a, b, list, &mut work),
-            list,
-        ),
-    }
+    let answer = match call {
+        b't' => calls::slotted::next(pads, ports, a, b, list, &mut work),
+        b'u' => calls::slotted::measure(pads, ports, a, b, list),
+        _ => calls::slotted::first(pads, ports, a, b, list, &mut work),
+    };
+    say_answer(out, answer, list)
 }
 
 // The heights stand after the two weights.
-fn slotted(call: u8, pads: &[u8], words: &[u32], a: u32, b: u32, list: &mut [u16])
+fn slotted<W: Write>(
+    out: &mut W,
+    call: u8,
+    pads: &[u8],
+    words: &[u32],
+    a: u32,
+    b: u32,
+    list: &mut [u16],
+) -> io::Result<()>
     requires { length words.now ≤ 10 }
 {
     let mut bytes = [0u8; 40];
     pack(words, &mut bytes);
     let end = 4 * words.len();
     if end < 8 {
-        return;
+        return Ok(());
     }
-    on_slots(call, pads, &bytes[8..end], a, b, list);
+    on_slots(out, call, pads, &bytes[8..end], a, b, list)
 }
 
 // The call that a letter tells.
-fn run(call: u8, job: &[u8], a: u32, b: u32, figures: &[u32], list: &mut [u16])
+fn run<W: Write>(
+    out: &mut W,
+    call: u8,
+    job: &[u8],
+    a: u32,
+    b: u32,
+    figures: &[u32],
+    list: &mut [u16],
+) -> io::Result<()>
     requires { length figures.now ≤ 10 }
 {
-    match call {
-        b's' => slotted(call, job, figures, a, b, list),
-        b't' => slotted(call, job, figures, a, b, list),
-        b'u' => slotted(call, job, figures, a, b, list),
-        b'f' => say_answer(calls::tabled::first(job, figures, list), list),
-        b'n' => say_answer(calls::tabled::next(job, figures, list), list),
-        b'm' => say_answer(calls::tabled::measure(job, figures, list), list),
-        b'D' => drawn(job, a, b),
-        b'P' => printed(job),
-        b'M' => say_answer(calls::measure(job, a, b, list), list),
-        b'N' => say_answer(calls::next(job, a, b, list), list),
-        b'A' => paged(job, a, b, list),
-        _ => say_answer(calls::first(job, a, b, list), list),
-    }
+    let answer = match call {
+        b's' => return slotted(out, call, job, figures, a, b, list),
+        b't' => return slotted(out, call, job, figures, a, b, list),
+        b'u' => return slotted(out, call, job, figures, a, b, list),
+        b'D' => return drawn(out, job, a, b),
+        b'P' => return printed(out, job),
+        b'A' => return paged(out, job, a, b, list),
+        b'f' => calls::tabled::first(job, figures, list),
+        b'n' => calls::tabled::next(job, figures, list),
+        b'm' => calls::tabled::measure(job, figures, list),
+        b'M' => calls::measure(job, a, b, list),
+        b'N' => calls::next(job, a, b, list),
+        _ => calls::first(job, a, b, list),
+    };
+    say_answer(out, answer, list)
 }
 
 // The job's size in bytes: what the case says, which it does not beside a table, or four for each word.
@@ -301,7 +321,16 @@ fn size_of(call: u8, said: u32, words: usize) -> usize
 }
 
 // The call on a job of these words and a list of these entries.
-fn run_on(call: u8, a: u32, b: u32, size: u32, figures: &[u32], words: &[u32], entries: &[u32])
+fn run_on<W: Write>(
+    out: &mut W,
+    call: u8,
+    a: u32,
+    b: u32,
+    size: u32,
+    figures: &[u32],
+    words: &[u32],
+    entries: &[u32],
+) -> io::Result<()>
     requires { (length words.now ≤ 280) × (length entries.now ≤ 80) × (length figures.now ≤ 10) }
 {
     let mut job = [0u8; 16384];
@@ -310,13 +339,13 @@ fn run_on(call: u8, a: u32, b: u32, size: u32, figures: &[u32], words: &[u32], e
     narrow(entries, &mut list);
     let s = size_of(call, size, words.len());
     let n = entries.len();
-    run(call, &job[..s], a, b, figures, &mut list[..n]);
+    run(out, call, &job[..s], a, b, figures, &mut list[..n])
 }
 
 // Runs the case at a place that is not blank, and answers the place after it.
-fn case(text: &[u8], at: usize) -> usize
+fn case<W: Write>(out: &mut W, text: &[u8], at: usize) -> io::Result<usize>
     requires { at < length text.now }
-    ensures { (at < result) × (result ≤ length text.now) }
+    ensures { IfOk result (λ n. (at < n) × (n ≤ length text.now)) }
 {
     let mut title = [0u32; 1];
     let mut args = [0u32, 0, 4294967295, 0, 0, 0, 0, 0, 0, 0];
@@ -330,8 +359,9 @@ fn case(text: &[u8], at: usize) -> usize
     let f = a.count;
     let m = w.count;
     let n = e.count;
-    say(&text[at..stop]);
+    out.write_all(&text[at..stop])?;
     run_on(
+        out,
         text[at],
         args[0],
         args[1],
@@ -339,23 +369,24 @@ fn case(text: &[u8], at: usize) -> usize
         &args[..f],
         &words[..m],
         &entries[..n],
-    );
-    e.next
+    )?;
+    Ok(e.next)
 }
 
-fn run_all(text: &[u8]) {
+fn run_all<W: Write>(out: &mut W, text: &[u8]) -> io::Result<()> {
     let mut at = 0;
     while at < text.len() {
         if text[at] <= b' ' {
             at += 1;
         } else {
-            at = case(text, at);
+            at = case(out, text, at)?;
         }
     }
+    Ok(())
 }
 
-fn main() {
+fn main(rt: HostRuntime) -> io::Result<()> {
     let mut text = [0u8; 16384];
-    let n = io::read_full(STDIN_FILENO, &mut text);
-    run_all(&text[..n]);
+    let n = streams::read_full(&mut rt.reader(), &mut text)?;
+    run_all(&mut io::writer(&rt), &text[..n])
 }
