@@ -114,14 +114,14 @@ overflow_add-sum t c = omega (
   arith,
   sum_fits c.loop-rest.invariant c.requires.numbers.2 c.requires.countable c.loop-rest-test.true c.requires.numbers.1
       (c.args.base + c.corner-in-loop-rest.result + c.args.a) (omega (arith, c.corner-in-loop-rest.ensures.0))
-      (c.args.base + c.corner-2.result + 1 + count_trailing_zeros 64 c.loop-rest.rest) (omega (arith, c.corner-2.ensures.0)) c.if-under-over-lt-SMALL.true,
+      (c.args.base + c.corner-2.result + 1 + count_trailing_zeros 64 c.loop-rest.rest) (omega (arith, c.corner-2.ensures.0)) (omega (arith, c.if-under-over-lt-SMALL.true)),
 )
 
 pub loop-rest-preserved-then-under-over-lt-SMALL : goal.loop-rest-preserved-then-under-over-lt-SMALL
 loop-rest-preserved-then-under-over-lt-SMALL t c =
     sum_small c.loop-rest.invariant c.requires.numbers.2 c.requires.countable c.loop-rest-test.true c.requires.numbers.1
     (c.args.base + c.corner-in-loop-rest.result + c.args.a) (omega (arith, c.corner-in-loop-rest.ensures.0))
-    (c.args.base + c.corner-2.result + 1 + count_trailing_zeros 64 c.loop-rest.rest) (omega (arith, c.corner-2.ensures.0)) c.if-under-over-lt-SMALL.true
+    (c.args.base + c.corner-2.result + 1 + count_trailing_zeros 64 c.loop-rest.rest) (omega (arith, c.corner-2.ensures.0)) (omega (arith, c.if-under-over-lt-SMALL.true))
 
 pub count_strip-under-requires : goal.count_strip-under-requires
 count_strip-under-requires t c = (
@@ -135,7 +135,7 @@ count_strip-under-requires t c = (
       c.loop-rest.invariant.right,
       c.requires.numbers.1,
       below_some c.loop-rest.invariant c.requires.numbers.2 c.requires.countable c.loop-rest-test.true c.requires.numbers.1
-          (c.args.base + c.corner-in-loop-rest.result + c.args.a) (omega (arith, c.corner-in-loop-rest.ensures.0)) c.if-under-eq-NOT_YET.true,
+          (c.args.base + c.corner-in-loop-rest.result + c.args.a) (omega (arith, c.corner-in-loop-rest.ensures.0)) (omega (arith, c.if-under-eq-NOT_YET.true)),
     ),
     countable_same c.loop-rest.invariant.same (round_below c.loop-rest.invariant c.requires.numbers.2 c.requires.countable c.loop-rest-test.true),
   ),
@@ -149,7 +149,7 @@ count_strip-over-requires t c =
       | then-under-eq-NOT_YET x ↦ rw (x.under-is, x.buffer-is) (known_then c.args.a _ _ c.loop-rest.invariant.same
           x.count_strip-under.ensures.count_of.0 x.count_strip-under.ensures.numbers_2.0 x.count_strip-under.ensures.numbers_2.1)
       | else-under-eq-NOT_YET x ↦ rw (x.under-is, x.buffer-is) (below_kept c.loop-rest.invariant c.requires.numbers.2 c.requires.countable c.loop-rest-test.true c.requires.numbers.1
-          _ (omega (arith, c.corner-in-loop-rest.ensures.0)) x.if-under-eq-NOT_YET.false)
+          _ (omega (arith, c.corner-in-loop-rest.ensures.0)) (omega (arith, x.if-under-eq-NOT_YET.false)))
     ] in (
       omega (
         arith,
@@ -161,7 +161,8 @@ count_strip-over-requires t c =
           below.1,
           c.requires.numbers.1,
           above_some c.loop-rest.invariant c.requires.numbers.2 c.requires.countable c.loop-rest-test.true c.requires.numbers.1
-              _ (omega (arith, c.corner-2.ensures.0)) c.if-over-eq-NOT_YET.true,
+              (c.args.base + c.corner-2.result + 1 + count_trailing_zeros 64 c.loop-rest.rest) (omega (arith, c.corner-2.ensures.0))
+              (omega (arith, c.if-over-eq-NOT_YET.true)),
         ),
         countable_same below.2 (round_above c.loop-rest.invariant c.requires.numbers.2 c.requires.countable c.loop-rest-test.true),
       ),
@@ -174,7 +175,7 @@ loop-rest-preserved t c =
       | then-under-eq-NOT_YET x ↦ rw (x.under-is, x.buffer-is) (known_then c.args.a _ _ c.loop-rest.invariant.same
           x.count_strip-under.ensures.count_of.0 x.count_strip-under.ensures.numbers_2.0 x.count_strip-under.ensures.numbers_2.1)
       | else-under-eq-NOT_YET x ↦ rw (x.under-is, x.buffer-is) (below_kept c.loop-rest.invariant c.requires.numbers.2 c.requires.countable c.loop-rest-test.true c.requires.numbers.1
-          _ (omega (arith, c.corner-in-loop-rest.ensures.0)) x.if-under-eq-NOT_YET.false)
+          _ (omega (arith, c.corner-in-loop-rest.ensures.0)) (omega (arith, x.if-under-eq-NOT_YET.false)))
     ] in
     let above : Known c.args.buffer.now c.args.n (count_trailing_zeros 64 c.loop-rest.rest + 1) c.args.b c.if-over-eq-NOT_YET.over c.if-over-eq-NOT_YET.buffer =
     elim c.if-over-eq-NOT_YET.branch [
@@ -182,7 +183,7 @@ loop-rest-preserved t c =
           x.count_strip-over.ensures.count_of.0 x.count_strip-over.ensures.numbers_2.0 x.count_strip-over.ensures.numbers_2.1)
       | else-over-eq-NOT_YET x ↦ rw (x.over-is, x.buffer-is) (
         above_kept c.loop-rest.invariant c.requires.numbers.2 c.requires.countable c.loop-rest-test.true c.requires.numbers.1
-            _ (omega (arith, c.corner-2.ensures.0)) x.if-over-eq-NOT_YET.false,
+            _ (omega (arith, c.corner-2.ensures.0)) (omega (arith, x.if-over-eq-NOT_YET.false)),
         below.1,
         below.2,
       )
@@ -202,7 +203,7 @@ returns t c =
             | then-under-eq-NOT_YET x ↦ rw (x.under-is, x.buffer-is) (known_then c.args.a _ _ c.loop-rest.invariant.same
                 x.count_strip-under.ensures.count_of.0 x.count_strip-under.ensures.numbers_2.0 x.count_strip-under.ensures.numbers_2.1)
             | else-under-eq-NOT_YET x ↦ rw (x.under-is, x.buffer-is) (below_kept c.loop-rest.invariant c.requires.numbers.2 c.requires.countable w.loop-rest-test.true c.requires.numbers.1
-                _ (omega (arith, w.corner-in-loop-rest.ensures.0)) x.if-under-eq-NOT_YET.false)
+                _ (omega (arith, w.corner-in-loop-rest.ensures.0)) (omega (arith, x.if-under-eq-NOT_YET.false)))
           ] in
           let above : Known c.args.buffer.now c.args.n (count_trailing_zeros 64 c.loop-rest.rest + 1) c.args.b w.if-over-eq-NOT_YET.over w.if-over-eq-NOT_YET.buffer =
           elim w.if-over-eq-NOT_YET.branch [
@@ -210,7 +211,7 @@ returns t c =
                 x.count_strip-over.ensures.count_of.0 x.count_strip-over.ensures.numbers_2.0 x.count_strip-over.ensures.numbers_2.1)
             | else-over-eq-NOT_YET x ↦ rw (x.over-is, x.buffer-is) (
               above_kept c.loop-rest.invariant c.requires.numbers.2 c.requires.countable w.loop-rest-test.true c.requires.numbers.1
-                  _ (omega (arith, c.corner-2.ensures.0)) x.if-over-eq-NOT_YET.false,
+                  _ (omega (arith, c.corner-2.ensures.0)) (omega (arith, x.if-over-eq-NOT_YET.false)),
               below.1,
               below.2,
             )

@@ -16,7 +16,7 @@ pub returns-then-c-eq-MOST : goal.returns-then-c-eq-MOST
 returns-then-c-eq-MOST c = count_above c.count-c.result c.count-c.ensures.count_is c.args.out.now c.if-c-eq-MOST.true
 
 pub returns-then-c-k : goal.returns-then-c-k
-returns-then-c-k c = count_past c.count-c.result c.count-c.ensures.count_is c.if-c-eq-MOST.false c.args.out.now c.args.k c.if-c-k.true
+returns-then-c-k c = count_past c.count-c.result c.count-c.ensures.count_is c.if-c-eq-MOST.false c.args.out.now c.args.k (omega (arith, c.if-c-k.true))
 
 pub walk-requires : goal.walk-requires
 walk-requires c =
