@@ -8,7 +8,7 @@ use native.Mathlib.Omega.{arith}
 use lib.Dec.{eqb}
 use lib.ListN.{length}
 use borrow.Author.Tests.{eqb-false}
-use Rattle.strips.specs.Least.{none, some}
+use Rattle.strips.specs.Least.{some}
 use Rattle.strips.specs.Grid.{Grid, best}
 use Rattle.pads.specs.Pads.{Pads}
 use Rattle.pads.specs.Counts.{le_or_lt}

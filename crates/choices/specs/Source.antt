@@ -1,5 +1,5 @@
 -- Where a walk reads figures and totals, and that they are right there: the table for as many ports as pads, or, where there are no heads, the work list of slots.
-use Rattle.std.specs.Prelude.{◌≡◌, cond, List, ℕ, ◌≤◌, ◌<◌, eqb, length, get_or}
+use Rattle.std.specs.Prelude.{◌≡◌, cond, List, ℕ, ◌<◌, eqb, length}
 use Rattle.std.proofs.Common.{eq-eqb, ne_eqb}
 use Rattle.strips.specs.Least.{Least}
 use Rattle.strips.specs.Grid.{Grid}

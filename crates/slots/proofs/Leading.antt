@@ -5,7 +5,6 @@ use Prim.Native.Nat.{ℕ, ◌+◌, ◌*◌, ◌^◌, ◌≤◌, ◌<◌, min}
 use native.Mathlib.Omega.{arith}
 use lib.ListN.{length, get_or, drop}
 use Rattle.strips.specs.Least.{Least}
-use Rattle.strips.specs.Grid as strip
 use Rattle.pads.specs.Pads.{Sides, sides_of, Pads}
 use Rattle.totals.specs.Strip.{best_within, local_within}
 use Rattle.totals.specs.Cell.{Leads}

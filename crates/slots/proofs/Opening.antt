@@ -14,7 +14,7 @@ use Rattle.numbers.proofs.Kept.{kept_all, kept_later, kept_twice}
 use Rattle.strips.specs.Least.{Least, none}
 use Rattle.pads.specs.Pads.{Sides, bit}
 use Rattle.pads.specs.Counts.{le_or_lt, drop_at}
-use Rattle.slots.specs.Slots.{stored, figure_of, layer_of, opens_at, figures_at, figures_in, level, barred, open_figure, opened_of, opened_from, follows, Room, Written, Shut, Opens}
+use Rattle.slots.specs.Slots.{stored, figure_of, opens_at, figures_at, figures_in, level, barred, open_figure, opened_of, opened_from, Written, Shut, Opens}
 use Rattle.slots.proofs.Spots.{row_in}
 
 -- the marks say which ports are at the height of a pad from place k on

@@ -8,7 +8,6 @@ use lib.Dec.{leb, ltb}
 use lib.ListN.{length}
 use borrow.Author.Tests.{leb-true, leb-false, ltb-true, ltb-false}
 use Rattle.strips.specs.Least.{Least, none, some, least}
-use Rattle.strips.proofs.Lists.{both}
 use Rattle.pads.specs.Pads.{Sides, fits, pads_in}
 use Rattle.totals.specs.Strip.{cut, parted_within, best_within, local_within}
 use Rattle.pads.specs.Counts.{bit_le, spans_by, spans_not_lo, spans_not_hi}

@@ -1,5 +1,4 @@
 use borrow.Author.Rules.{rules}
-use Prim.Native.Nat.{◌-◌}
 use mathlib.Core.Path.{refl, ◌∙◌}
 use Rattle.fields.specs.Laws.{word_next, word_other, word_all}
 use Rattle.fields.proofs.word.Goals as goal

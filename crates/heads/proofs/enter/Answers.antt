@@ -1,5 +1,4 @@
 use mathlib.Core.Path.{◌≡◌, ◌∙◌}
-use Prim.Native.Nat.{◌-◌}
 use lib.ListN.{length}
 use Rattle.heads.proofs.Tallies.{enter_start, enter_end}
 use native.Mathlib.Omega.{arith}

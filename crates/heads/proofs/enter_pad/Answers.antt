@@ -1,5 +1,5 @@
 use mathlib.Core.Path.{refl, ap}
-use Prim.Native.Nat.{ℕ, ◌+◌, ◌-◌}
+use Prim.Native.Nat.{ℕ, ◌+◌}
 use lib.ListN.{get_or, length-set}
 use Rattle.pads.specs.Pads.{sides_of}
 use Rattle.heads.proofs.Tallies.{enter_other, marking_start, marking_small, marking_step, marking_end}

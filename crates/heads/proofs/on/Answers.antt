@@ -1,5 +1,5 @@
 use mathlib.Core.Path.{refl}
-use Prim.Native.Nat.{◌+◌, ◌-◌}
+use Prim.Native.Nat.{◌+◌}
 use lib.ListN.{drop}
 use Rattle.pads.specs.Pads.{pads_in, sides_of}
 use Rattle.heads.proofs.Scan.{on_placed, on_step, on_found}

@@ -1,4 +1,3 @@
-use Prim.Native.Nat.{◌-◌}
 use native.Mathlib.Omega.{arith}
 use Rattle.places.proofs.Ports.{free_up}
 use Rattle.places.proofs.high.Goals as goal

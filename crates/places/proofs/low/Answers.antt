@@ -1,4 +1,3 @@
-use Prim.Native.Nat.{◌-◌}
 use native.Mathlib.Omega.{arith}
 use Rattle.places.proofs.Ports.{free_down}
 use Rattle.places.proofs.low.Goals as goal

@@ -1,5 +1,5 @@
 -- `places::low` meets its contract. The loop's invariant: no port from a to l - 1 is taken. Assumes nothing.
-use Prim.Native.Nat.{ℕ, ◌-◌, ◌≤◌, ◌<◌}
+use Prim.Native.Nat.{ℕ, ◌≤◌, ◌<◌}
 use lib.ListN.{get_or}
 use Rattle.places.proofs.low.Given as goal
 

@@ -1,5 +1,4 @@
 use mathlib.Core.Path.{refl}
-use Prim.Native.Nat.{◌-◌}
 use native.Mathlib.Omega.{arith}
 use Rattle.slots.proofs.Runs.{run_none, run_more, run_all_lem}
 use Rattle.slots.proofs.clear.Goals as goal

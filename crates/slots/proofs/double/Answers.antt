@@ -1,4 +1,4 @@
-use Prim.Native.Nat.{◌+◌, ◌-◌}
+use Prim.Native.Nat.{◌+◌}
 use native.Mathlib.Omega.{arith}
 use Rattle.slots.specs.Slots.{follows}
 use Rattle.slots.proofs.Runs.{run_none, run_more, run_all_lem}

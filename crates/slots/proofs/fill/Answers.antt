@@ -5,7 +5,6 @@ use lib.ListN.{length, drop}
 use Rattle.numbers.specs.Kept.{KeptFrom}
 use Rattle.numbers.proofs.Kept.{kept_later, kept_twice}
 use Rattle.strips.specs.Least.{Least}
-use Rattle.strips.specs.Grid as strip
 use Rattle.pads.specs.Pads.{sides_of}
 use Rattle.slots.specs.Slots.{layer_of, figures_at, figures_in, Written, Opens, Layer, figures_same}
 use Rattle.slots.proofs.Spots.{cell_in, layer_small, layer_fits, sizes_small}

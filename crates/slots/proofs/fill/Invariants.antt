@@ -1,9 +1,8 @@
 -- `slots::fill` meets its contract. The loop's invariant: the layers from that of place k on are right. Assumes nothing.
 use mathlib.Core.Path.{◌≡◌}
-use Prim.Native.Nat.{◌*◌, ◌-◌, ◌≤◌}
+use Prim.Native.Nat.{◌*◌, ◌≤◌}
 use lib.ListN.{length}
 use Rattle.numbers.specs.Kept.{KeptFrom}
-use Rattle.strips.specs.Grid as strip
 use Rattle.pads.specs.Pads.{sides_of}
 use Rattle.slots.specs.Slots.{layer_of, figures_at, figures_in}
 use Rattle.slots.proofs.Layers.{LayersFrom}

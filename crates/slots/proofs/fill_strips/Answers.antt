@@ -1,4 +1,3 @@
-use Prim.Native.Nat.{◌-◌}
 use native.Mathlib.Omega.{arith}
 use Rattle.slots.proofs.Spots.{cell_in}
 use Rattle.slots.proofs.Rows.{strips_none, strips_read, strips_more, strips_all}

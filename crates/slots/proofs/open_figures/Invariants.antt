@@ -1,5 +1,5 @@
 -- `slots::open_figures` meets its contract. The loop's invariant: the open figures are done from place k on, and the marks are those of the pads there. Assumes nothing.
-use Prim.Native.Nat.{◌-◌, ◌≤◌}
+use Prim.Native.Nat.{◌≤◌}
 use lib.ListN.{length}
 use Rattle.pads.specs.Pads.{sides_of}
 use Rattle.slots.specs.Slots.{figures_in}

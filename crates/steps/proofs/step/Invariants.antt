@@ -1,6 +1,5 @@
 -- `steps::step` meets its contract. The loop's invariant: `Looking`, every place is entered, and the memory is current; its laws are in Stepping and
 -- Memory. Assumes nothing.
-use Prim.Native.Nat.{◌-◌}
 use lib.ListN.{length}
 use Rattle.places.specs.Places.{Placed}
 use Rattle.choices.specs.Source.{source}

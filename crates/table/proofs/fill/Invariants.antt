@@ -1,7 +1,7 @@
 -- `table::fill` meets its contract. The loop's invariant: the rows from a on are right and marked, what is kept for the next row is right, and the lists keep their
 -- lengths. Assumes nothing.
 use mathlib.Core.Path.{◌≡◌}
-use Prim.Native.Nat.{◌+◌, ◌-◌, ◌≤◌}
+use Prim.Native.Nat.{◌+◌, ◌≤◌}
 use lib.ListN.{length}
 use Rattle.pads.specs.Pads.{sides_of}
 use Rattle.totals.specs.Cell.{figures, Rows, MarkedFrom}

@@ -1,5 +1,5 @@
 use mathlib.Core.Path.{◌≡◌}
-use Prim.Native.Nat.{◌+◌, ◌-◌, ◌≤◌}
+use Prim.Native.Nat.{◌+◌, ◌≤◌}
 use Rattle.totals.proofs.Ports.{row_small, in_row}
 use Rattle.totals.proofs.Cells.{port_ready}
 use Rattle.totals.proofs.Marking.{best_none, ports_small, port_step}

@@ -1,5 +1,5 @@
 use mathlib.Core.Path.{◌≡◌, refl, sym, ap, ◌∙◌}
-use Prim.Native.Nat.{◌-◌, ◌≤◌, ◌<◌}
+use Prim.Native.Nat.{◌≤◌, ◌<◌}
 use mathlib.Core.Logic.{⊎_elim}
 use Rattle.totals.specs.declared.Laid.{Laid}
 use Rattle.totals.specs.Cell.{grid_of, Leads, Says}

@@ -1,4 +1,4 @@
-use Rattle.std.proofs.Common.{◌-◌, sym, arith, length-set, length-take-le, rules}
+use Rattle.std.proofs.Common.{sym, arith, length-set, length-take-le, rules}
 use Rattle.worked.proofs.read_part.Goals as goal
 
 pub returns-then-b-mark : goal.returns-then-b-mark

@@ -1,5 +1,4 @@
 use mathlib.Core.Path.{◌≡◌}
-use Prim.Native.Nat.{◌-◌}
 use native.Mathlib.Omega.{arith}
 use Rattle.slots.specs.Marks.{mark_none, mark_more}
 use Rattle.board.proofs.bars.mark.Goals as goal
