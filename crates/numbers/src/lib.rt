@@ -1,2 +1,2 @@
-// No code: the laws are in specs/.
+// No code: definitions are in specs/, their laws in proofs/.
 #![tactic(auto)]
