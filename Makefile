@@ -25,25 +25,22 @@ CC := $(shell . tools/machine.sh && echo $$cc)
 endif
 VERSION := $(shell sed -nE 's/^.define CHEREMYSL_VERSION_(MAJOR|MINOR|PATCH) ([0-9]+)$$/\2/p' include/cheremysl.h | paste -sd. -)
 
-archive = target/staticlib/libcheremysl.a
-program = target/bin/sheet
+archive = build/libcheremysl.a
+program = build/sheet
 soname = libcheremysl.so.$(firstword $(subst ., ,$(VERSION)))
 shared = build/libcheremysl.so.$(VERSION)
 commands = $(patsubst programs/%.c,build/%,$(wildcard programs/*.c))
 programs = build/sheets build/audit build/antenna build/slots build/thumbs build/webpage build/cheremysl-draw build/cheremysl-import
 samples = $(wildcard examples/*.job examples/*.pads examples/*.ports examples/*.csv examples/*.txt examples/*.layout)
-sources := crates.txt $(shell find crates -name '*.rt' -o -name '*.antt')
+sources := crates.txt $(shell find crates -name out -prune -o \( -name '*.rt' -o -name '*.antt' \) -print)
 
 all: $(archive) $(program) $(shared) $(commands)
 
-# rt check proves crates that do not need each other side by side, rt staticlib one after the other.
 $(archive): $(sources)
-	rt check cheremysl sheet
-	rt staticlib cheremysl
+	tools/build archive
 
-$(program): $(archive)
-	rt check sheet
-	@touch $@
+$(program): $(sources)
+	tools/build sheet
 
 # The code that is in the archive, linked so that nothing is left to bind later and nothing runs when it is loaded.
 $(shared): $(archive) tools/exports.map include/cheremysl.h
@@ -140,7 +137,7 @@ fuzz:
 	tests/fuzz.sh $(SECONDS)
 
 clean:
-	rm -rf target build
+	rm -rf build crates/*/out
 
 .NOTPARALLEL:
 .PHONY: all shared examples pictures install uninstall test bench times fuzz clean always

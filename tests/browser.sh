@@ -11,7 +11,7 @@ cd "$(dirname "$0")/.." || exit 2
 . tests/checks.sh
 need_compilers
 need python3 python3
-archive=${1:-target/staticlib/libcheremysl.a}
+archive=${1:-build/libcheremysl.a}
 strict="-std=c99 -O2 -Wall -Wextra -Werror -pedantic -Iinclude $static"
 
 check "browser.c" $cc $strict -o "$room/browser" tests/browser.c tests/boards.c "$archive"

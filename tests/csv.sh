@@ -7,7 +7,7 @@ cd "$(dirname "$0")/.." || exit 2
 . tools/machine.sh
 need_compilers
 need python3 python3
-archive=${1:-target/staticlib/libcheremysl.a}
+archive=${1:-build/libcheremysl.a}
 room=$(mktemp -d) || exit 2
 trap 'rm -rf "$room"' EXIT
 

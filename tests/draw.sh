@@ -8,7 +8,7 @@ cd "$(dirname "$0")/.." || exit 2
 . tests/checks.sh
 need_compilers
 need python3 python3
-archive=${1:-target/staticlib/libcheremysl.a}
+archive=${1:-build/libcheremysl.a}
 
 check "cheremysl-draw.c" $cc -std=c99 -O2 -Wall -Wextra -Werror -pedantic -Iinclude $static -o "$room/cheremysl-draw" \
     programs/cheremysl-draw.c "$archive"

@@ -7,11 +7,11 @@ cd "$(dirname "$0")/.." || exit 2
 . tests/checks.sh
 need_compilers
 need python3 python3
-[ -x target/bin/sheet ] || rt check sheet || exit 1
+[ -x build/sheet ] || tools/build sheet || exit 1
 
 # program [LINE..]: what the front runs from now on: a script of these lines, or the proved program, under the emulator if there is one
 program() {
-    [ $# -gt 0 ] || set -- "exec $run $PWD/target/bin/sheet"
+    [ $# -gt 0 ] || set -- "exec $run $PWD/build/sheet"
     rm -f "$room/proved"
     { echo '#!/bin/sh'; printf '%s\n' "$@"; } >"$room/proved"
     chmod +x "$room/proved"
@@ -27,7 +27,7 @@ program
 # ---- the proved program's text, to the byte, with a status; from a file, from standard input, through a pipe
 
 same() {
-    $run target/bin/sheet <"$1" >"$room/expected"
+    $run build/sheet <"$1" >"$room/expected"
     case $(head -c 8 "$room/expected") in 'refused ') status=1 ;; *) status=0 ;; esac
     for way in 'front "$1"' 'front -- "$1"' 'front <"$1"' 'front - <"$1"' 'front -- - <"$1"' 'cat "$1" | front'; do
         eval "$way" >"$room/out" 2>"$room/err"
@@ -61,7 +61,7 @@ with a line's end"
 for file in examples/*.job "$room"/z* "$room"/four "$room"/five "$room"/six "$room"/seven "$room"/twelve "$room"/fifteen "$room"/unnamed "$room"/squares "$room"/half "$room"/longest "$room/-x" "$room"/a*; do
     same "$file"
 done
-check "no text is longer" [ "$($run target/bin/sheet <"$room/longest" | wc -c)" -gt 1200 ]
+check "no text is longer" [ "$($run build/sheet <"$room/longest" | wc -c)" -gt 1200 ]
 
 # ---- words
 

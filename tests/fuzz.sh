@@ -4,10 +4,10 @@
 # Prints the number of inputs; the last line has the counts.
 set -u
 cd "$(dirname "$0")/.." || exit 2
-seconds=${1:-600} archive=${2:-target/staticlib/libcheremysl.a}
+seconds=${1:-600} archive=${2:-build/libcheremysl.a}
 . tools/machine.sh
 need_compilers
-[ $# -gt 1 ] || rt staticlib cheremysl || exit 1
+[ $# -gt 1 ] || tools/build archive || exit 1
 mkdir -p build/corpus || exit 2
 files="tests/fuzz.c tests/trial.c tests/guard.c tests/boards.c tests/plain.c tests/ranked.c tests/values.c $archive"
 strict="-Wall -Wextra -Werror -pedantic -Iinclude"

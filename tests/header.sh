@@ -4,12 +4,12 @@
 # The last line has the counts. What is missing is installed by apt-get (tools/machine.sh).
 set -u
 cd "$(dirname "$0")/.." || exit 2
-archive=${1:-target/staticlib/libcheremysl.a}
+archive=${1:-build/libcheremysl.a}
 . tools/machine.sh
 . tests/checks.sh
 need_compilers
 need clang clang
-[ $# -gt 0 ] || rt staticlib cheremysl || exit 1
+[ $# -gt 0 ] || tools/build archive || exit 1
 
 # The compilers, by short names; an emulated machine's headers are not where clang looks for them.
 gcc="$cc -x c" gxx="$cxx -x c++"

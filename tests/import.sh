@@ -7,7 +7,7 @@ cd "$(dirname "$0")/.." || exit 2
 . tests/checks.sh
 need_compilers
 need python3 python3
-archive=${1:-target/staticlib/libcheremysl.a}
+archive=${1:-build/libcheremysl.a}
 
 for file in programs/cheremysl-import.c programs/cheremysl-draw.c examples/slots.c; do
     program=${file##*/}

@@ -6,7 +6,7 @@ cd "$(dirname "$0")/.." || exit 2
 . tools/machine.sh
 need_run
 need python3 python3
-[ -x target/bin/sheet ] || rt check sheet || exit 1
+[ -x build/sheet ] || tools/build sheet || exit 1
 passed=0 failed=0
 
 # add COMMAND..: runs it, shows what it prints, and adds up the counts of its last line
@@ -16,7 +16,7 @@ add() {
     passed=$((passed + ${counts% *} + 0)) failed=$((failed + ${counts#* } + 0))
 }
 
-add env RUN="$run" tests/sheet.sh target/bin/sheet
-add python3 tests/sheet.py "${1:-500}" "${2:-1}" $run target/bin/sheet
+add env RUN="$run" tests/sheet.sh build/sheet
+add python3 tests/sheet.py "${1:-500}" "${2:-1}" $run build/sheet
 echo "$passed passed, $failed failed"
 [ $failed = 0 ]

@@ -23,10 +23,10 @@ done
 need_compilers
 
 if [ -z "$archive" ]; then
-    archive=target/staticlib/libcheremysl.a
-    rt staticlib cheremysl || exit 1
+    archive=build/libcheremysl.a
+    tools/build archive || exit 1
 fi
-out=target/tests/$part
+out=build/tests/$part
 rm -rf $out && mkdir -p $out || exit 2
 
 # The sanitizers' own library does not run under the emulator: there, bad arithmetic traps.

@@ -3,7 +3,7 @@
 # refused. What it prints is compared with 01. The last line has the counts. RUN in the environment: an emulator to run it under.
 set -u
 cd "$(dirname "$0")/.." || exit 2
-program=${1:-target/bin/sheet} passed=0 failed=0
+program=${1:-build/sheet} passed=0 failed=0
 
 # number N: 4 bytes, lowest first, in two's complement if negative
 number() {

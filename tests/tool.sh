@@ -5,8 +5,8 @@ set -u
 cd "$(dirname "$0")/.." || exit 2
 . tests/checks.sh
 export MACHINE=x86_64 # the stand-ins run everywhere
-mkdir -p "$room/tree/tools" "$room/tree/target" "$room/bin" || exit 2
-cp tools/sheet tools/machine.sh "$room/tree/tools" || exit 2
+mkdir -p "$room/tree/tools" "$room/tree/crates/sheet" "$room/bin" || exit 2
+cp tools/sheet tools/build tools/machine.sh "$room/tree/tools" || exit 2
 export ROOM="$room" PATH="$room/bin:$PATH"
 
 # Four crates, of which the program needs two and so rests on three, and a library that is not the tree's.
@@ -26,7 +26,7 @@ echo "$*" >"$ROOM/asked"
 cat >"$ROOM/eaten"
 cat "$ROOM/says"
 status=$(cat "$ROOM/status")
-[ "$status" = 0 ] && mkdir -p target/bin && cp "$ROOM/program" target/bin/sheet
+[ "$status" = 0 ] && mkdir -p out && cp "$ROOM/program" out/sheet
 echo 'and this on standard error' >&2
 exit "$status"
 END
@@ -45,51 +45,53 @@ sheet() { "$room/tree/tools/sheet" "$@"; }
 piped() { printf 'a job' | sheet; }
 only_sheet() { sheet "$1" 2>/dev/null; }
 
-# ---- the first time: a line a crate, numbered, and then the sheet
+# ---- the first time: a line a crate, and then the sheet
 
-rt_says 0 'logic=proved' 'rt: low proved (0 s)' 'rt: high proved (26 s)' 'rt: sheet proved (7 s)' \
-    "rt: sheet ran as nobody, and wrote what its file 'stdout' has (0 s)" 'rt: ok, 3 crates proved'
+low='crate low: modules loaded=4 checked=4' high='crate high: modules loaded=7 checked=7' proved='logic=proved functions=2 sum=1'
+own='crate sheet: modules loaded=2 checked=2' now='rt: running out/sheet; to give it other input, run that file yourself'
+rt_says 0 'fn low::one: proved' "$low" "$proved" 'library low: modules loaded=4 checked=0' "$high" "$proved" 'library high: modules loaded=7 checked=0' \
+    "$own" 'axioms libc: libc::read (1 of the 128 declared)' "$proved axioms=1" "$now" 'refused 1 record 0'
 first_time='sheet: up to 3 crates are proved first, which can take minutes
-sheet: 1 of 3: low proved (0 s)
-sheet: 2 of 3: high proved (26 s)
-sheet: 3 of 3: sheet proved (7 s)
+sheet: low proved
+sheet: high proved
+sheet: sheet proved
 the sheet of a job'
 prints 0 "$first_time" sheet "$room/board.job"
-prints 0 'check sheet' cat "$room/asked"
-prints 0 "$(cd "$room/tree" && pwd)" cat "$room/where"
+prints 0 'run' cat "$room/asked"
+prints 0 "$(cd "$room/tree/crates/sheet" && pwd)" cat "$room/where"
 prints 0 '' cat "$room/eaten"
-rm -rf "$room/tree/target/bin"
+rm -rf "$room/tree/build"
 prints 0 "$first_time" piped
 prints 0 'the sheet of a job' only_sheet "$room/board.job"
 
 # ---- later: nothing to say, or what changed alone
 
-rt_says 0 'rt: low proved (unchanged since it was last proved)' 'rt: high proved (unchanged since it was last proved)' \
-    'rt: sheet proved (unchanged since it was last proved)' 'rt: ok, 3 crates proved'
+rt_says 0 'rt: nothing has changed since the last proved build, by out/sheet.stamp, so nothing is checked now' "$now" 'refused 1 record 0'
 prints 0 'the sheet of a job' sheet "$room/board.job"
 prints 0 'the sheet of a job' piped
-rt_says 0 'rt: low proved (unchanged since it was last proved)' 'rt: high proved (3 s)' 'rt: sheet proved (1 s)'
-prints 0 'sheet: 2 of 3: high proved (3 s)
-sheet: 3 of 3: sheet proved (1 s)
+rt_says 0 "$high" "$proved" "$own" "$proved" "$now" 'refused 1 record 0'
+prints 0 'sheet: high proved
+sheet: sheet proved
 the sheet of a job' sheet "$room/board.job"
 
 # ---- failures: no sheet, rt's whole text, status 2
 
 for status in 1 2 3 10 127; do
-    rt_says $status 'rt: low proved (unchanged since it was last proved)' 'src/lib.rt:3:1: error  \n %s' \
-        'rt: high NOT PROVED (exit 1, 5 s)' 0 'rt: FAILED: high'
-    prints 2 'rt: low proved (unchanged since it was last proved)
+    rt_says $status 'rt: low: begins with what a check kept in /elsewhere' 'src/lib.rt:3:1: error  \n %s' \
+        'logic=not-proved functions=1' 0 'rt: the library high did not build, so nothing above it was checked'
+    prints 2 'rt: low: begins with what a check kept in /elsewhere
 src/lib.rt:3:1: error  \n %s
-rt: high NOT PROVED (exit 1, 5 s)
+logic=not-proved functions=1
 0
-rt: FAILED: high
+rt: the library high did not build, so nothing above it was checked
 and this on standard error' sheet "$room/board.job"
 done
-rt_says 1 'rt: low proved (4 s)' 'rt: sheet proved, and its run FAILED (0 s)'
-prints 2 'sheet: 1 of 3: low proved (4 s)
-rt: low proved (4 s)
-rt: sheet proved, and its run FAILED (0 s)
-and this on standard error' piped
+rt_says 1 "$low" "$proved" "$now"
+prints 2 "sheet: low proved
+$low
+$proved
+$now
+and this on standard error" piped
 prints 2 '' only_sheet "$room/board.job"
 
 # ---- files
@@ -112,9 +114,10 @@ prints 0 'the sheet of a job' from_there
 
 cat >"$room/bin/rt" <<'END'
 #!/bin/sh
-echo 'rt: low proved (4 s)'
+echo 'crate low: modules loaded=4 checked=4'
+echo 'logic=proved functions=2 sum=1'
 for turn in 1 2 3 4 5 6 7 8 9 10; do
-    grep -q '^sheet: 1 of 3' "$ROOM/said" && exit 0
+    grep -q '^sheet: low' "$ROOM/said" && exit 0
     sleep 0.5
 done
 exit 1
