@@ -6,7 +6,7 @@ cd "$(dirname "$0")/.." || exit 2
 
 # In the table of wrong versions crates stand before their edits: 'find `a`, `b`; paper and cheremysl `c`'.
 sed -n '/^## Wrong versions/,/^## /s/^|.*| \(.*\) |$/\1/p' docs/AUDIT.md | awk '
-NR == FNR { sub(/:.*/, ""); if (!/^#/) listed[$0]; next }
+NR == FNR { sub(/[ :].*/, ""); if (!/^#/) listed[$0]; next }
 {
     count = split($0, words, /[ ,;:()]+/)
     named = 0
