@@ -9,8 +9,10 @@ ghost use Rattle.paper.specs.laws.Drawn.{OnSheet, canvas, leader_drawn};
 
 use paper::{Drawn, Point, Three, Two};
 
-// A quarter of a whole number: a quarter of a canvas unit is one job unit. Exact below 2^24. The number has 32 bits: those the
-// machine casts from cleared registers, so that what the caller left in them raises no floating-point exception.
+// A quarter of a whole number: a quarter of a canvas unit is one job unit. Exact below 2^24. The number has 32 bits, and is
+// cast and multiplied alone: beside another the machine would multiply what the caller left in the register as well, which
+// can raise a floating-point exception.
+#[inline(never)]
 fn quarter_of(v: i32) -> f32
     requires { nat_abs v ≤ 1000000 }
     ensures { result ≡ quarter v }
