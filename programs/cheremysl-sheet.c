@@ -1,7 +1,7 @@
 /*
  * cheremysl-sheet [FILE]: the sheet of a job, as the proved program at PROGRAM prints it, to the
- * byte. A program of the Rattle kit has no exit status; this one has: 0 for a sheet, 1 for a
- * refused job, 2 for any other failure.
+ * byte. The status of that program tells no refused job from a sheet; this one's does: 0 for a
+ * sheet, 1 for a refused job, 2 for any other failure.
  */
 #define _POSIX_C_SOURCE 200809L
 #include <cheremysl.h>
