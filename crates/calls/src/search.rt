@@ -1,103 +1,51 @@
-// The search by a table, once the checks are passed. It reads the table where it is lent.
-ghost use Rattle.std.specs.Prelude.{◌≡◌, length};
+// The search on a job of records, by figures that are lent.
+ghost use Rattle.std.specs.Prelude.{◌≤◌, length};
 ghost use Rattle.paper.specs.Job.{records, count};
-ghost use Rattle.paper.specs.Layouts.{by_table};
-ghost use Rattle.paper.specs.Refusals.{Passed, refusal, sound_trials, measure_trials};
-ghost use Rattle.paper.specs.Promises.{number, counted_number, FirstAnswers, NextAnswers, PageAnswers, CountAnswers, PlaceAnswers, BufferPromise};
-ghost use Rattle.calls.specs.Stepped.{answer_of, refused_for};
+ghost use Rattle.paper.specs.Layouts.{board_of, held, Untouching, by_table};
+ghost use Rattle.paper.specs.Problem.{labeling_of};
+ghost use Rattle.paper.specs.laws.Accepted.{AcceptedJob, Fair};
+ghost use Rattle.layouts.specs.Replies.{FirstOn, NextOn, PageOn};
 
-use layouts::Step;
-use numbering::{Asked, Outcome, Why};
-use paper::{Answer, Counted, Refusal, Work};
+use job::Job;
+use layouts::Unmet;
+use paper::{Badness, Form};
+use walks::Walked;
 
-pub fn first(job: &[u8], figures: &[u32], list: &mut [u16]) -> Answer
-    requires { Passed (sound_trials (records job.now) (by_table figures.now) Work.Unlent (length list.old)) }
-    ensures { FirstAnswers (records job.now) (by_table figures.now) Work.Unlent list.old result list.new }
+// Each is the search of its name over the job as a type; a table needs no work list.
+pub fn first(job: &[u8], figures: &[u32], list: &mut [u16]) -> Result<u64, Unmet>
+    requires { AcceptedJob (records job.now) × Fair (board_of (records job.now)) (by_table figures.now) × (count job.now ≤ length list.old) }
+    ensures { FirstOn (labeling_of (records job.now) (by_table figures.now)) list.old list.new result }
 {
-    answer_of(layouts::first_on(job, figures, list))
+    let job = Job {
+        form: Form::Records,
+        pads: job,
+        ports: job,
+    };
+    layouts::first_on(&job, &Badness::Table(figures), list, &mut [])
 }
 
-// A refusal of the input as a whole.
-fn whole(reason: u16) -> Refusal
-    ensures { result ≡ refusal reason 0 0 }
+pub fn next(job: &[u8], figures: &[u32], list: &mut [u16]) -> Result<Option<u64>, Unmet>
+    requires accepted { AcceptedJob (records job.now) × Fair (board_of (records job.now)) (by_table figures.now) × (count job.now ≤ length list.old) }
+    requires untouching { Untouching (board_of (records job.now)) (held list.old) }
+    ensures { NextOn (labeling_of (records job.now) (by_table figures.now)) list.old list.new result }
 {
-    Refusal {
-        reason,
-        at: 0,
-        earlier: 0,
-    }
+    let job = Job {
+        form: Form::Records,
+        pads: job,
+        ports: job,
+    };
+    layouts::next_on(&job, &Badness::Table(figures), list, &mut [])
 }
 
-// What First answers of a job that passed the checks, and Next of a layout: 15 where no layout is untouching, 10 where it is not best.
-pub fn answer_of(s: Step) -> Answer
-    ensures { result ≡ answer_of s }
+pub fn page(job: &[u8], figures: &[u32], list: &[u16], page: &mut [u16]) -> Result<Walked, Unmet>
+    requires accepted { AcceptedJob (records job.now) × Fair (board_of (records job.now)) (by_table figures.now) × (count job.now ≤ length list.now) }
+    requires untouching { Untouching (board_of (records job.now)) (held list.now) }
+    ensures { PageOn (labeling_of (records job.now) (by_table figures.now)) list.now page.old page.new result }
 {
-    match s {
-        Step::Total(t) => Answer::Total(t),
-        Step::End => Answer::End,
-        Step::NotBest => Answer::Refused(whole(10)),
-        Step::NoLayout => Answer::Refused(whole(15)),
-    }
-}
-
-pub fn next(job: &[u8], figures: &[u32], list: &mut [u16]) -> Answer
-    requires { Passed (measure_trials (records job.now) (by_table figures.now) Work.Unlent list.old) }
-    ensures { NextAnswers (records job.now) (by_table figures.now) Work.Unlent list.old result list.new }
-{
-    answer_of(layouts::next_on(job, figures, list))
-}
-
-pub fn page(job: &[u8], figures: &[u32], list: &[u16], page: &mut [u16]) -> Counted
-    requires { Passed (measure_trials (records job.now) (by_table figures.now) Work.Unlent list.now) }
-    ensures { PageAnswers (records job.now) (by_table figures.now) Work.Unlent list.now page.old result page.new }
-{
-    let s = layouts::page_on(job, figures, list, page);
-    if s.best {
-        Counted::Many(s.count)
-    } else {
-        Counted::Refused(whole(10))
-    }
-}
-
-// Why Count and Place refuse a job that passed the checks.
-fn refused(w: Why) -> Refusal
-    ensures { result ≡ refused_for w }
-{
-    match w {
-        Why::NoLayout => whole(15),
-        Why::Short => whole(18),
-        Why::TooMany => whole(16),
-        Why::Past => whole(17),
-    }
-}
-
-pub fn count(job: &[u8], figures: &[u32], buffer: &mut [u64]) -> Counted
-    requires { Passed (sound_trials (records job.now) (by_table figures.now) Work.Unlent (count job.now)) }
-    ensures count_answers { CountAnswers (records job.now) (by_table figures.now) (length buffer.old) result }
-    ensures buffer_promise { BufferPromise (counted_number result) buffer.old buffer.new }
-{
-    let mut none = [0u16; 1];
-    let o = numbering::ask(Asked::Count, job, figures, &mut none[..0], buffer);
-    match o {
-        Outcome::Told(c) => Counted::Many(c),
-        Outcome::Not(w) => Counted::Refused(refused(w)),
-    }
-}
-
-pub fn place(
-    job: &[u8],
-    figures: &[u32],
-    place: u64,
-    list: &mut [u16],
-    buffer: &mut [u64],
-) -> Answer
-    requires { Passed (sound_trials (records job.now) (by_table figures.now) Work.Unlent (length list.old)) }
-    ensures place_answers { PlaceAnswers (records job.now) (by_table figures.now) (length buffer.old) place list.old result list.new }
-    ensures buffer_promise { BufferPromise (number result) buffer.old buffer.new }
-{
-    let o = numbering::ask(Asked::Place(place), job, figures, list, buffer);
-    match o {
-        Outcome::Told(t) => Answer::Total(t),
-        Outcome::Not(w) => Answer::Refused(refused(w)),
-    }
+    let job = Job {
+        form: Form::Records,
+        pads: job,
+        ports: job,
+    };
+    layouts::page_on(&job, &Badness::Table(figures), list, page, &mut [])
 }

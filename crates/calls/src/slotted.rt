@@ -4,89 +4,52 @@ ghost use Rattle.paper.specs.Job.{slots};
 ghost use Rattle.paper.specs.Layouts.{by_weights};
 ghost use Rattle.paper.specs.Promises.{FirstAnswers, NextAnswers, MeasureAnswers, WorkAfter};
 
-use crate::search;
-use checks::{Verdict, verdicts};
-use measure::Badness;
-use paper::{Answer, Form, Work};
+use checks::verdicts;
+use job::Job;
+use paper::{Answer, Badness, Weights};
 
 // First: the earliest best layout, in the first n entries of `list`.
 pub fn first(
     pads: &[u8],
     ports: &[u8],
-    lw: u32,
-    bw: u32,
+    weights: Weights,
     list: &mut [u16],
     work: &mut [u64],
 ) -> Answer
-    ensures first_answers { FirstAnswers (slots pads.now ports.now) (by_weights lw bw) (Work.Lent (length work.old)) list.old result list.new }
+    ensures first_answers { FirstAnswers (slots pads.now ports.now) (by_weights weights.length weights.bend) (Some (length work.old)) list.old result list.new }
     ensures work_after { WorkAfter result work.old work.new }
 {
-    let v = verdicts::of_first(
-        Form::Slots,
-        pads,
-        ports,
-        verdicts::of_weights(lw, bw),
-        Work::Lent(work.len()),
-        list.len(),
-    );
-    match v {
-        Verdict::Sound => search::answer_of(layouts::slotted::first_on(
-            pads, ports, lw, bw, list, work,
-        )),
-        Verdict::Refused(r) => Answer::Refused(r),
-    }
+    let job = Job::of_slots(pads, ports);
+    let bad = Badness::Weights(weights);
+    verdicts::of_first(&job, &bad, Some(work.len()), list.len())?;
+    let total = layouts::first_on(&job, &bad, list, work)?;
+    Ok(Some(total))
 }
 
 // Next: the earliest best layout after the one in `list`.
 pub fn next(
     pads: &[u8],
     ports: &[u8],
-    lw: u32,
-    bw: u32,
+    weights: Weights,
     list: &mut [u16],
     work: &mut [u64],
 ) -> Answer
-    ensures next_answers { NextAnswers (slots pads.now ports.now) (by_weights lw bw) (Work.Lent (length work.old)) list.old result list.new }
+    ensures next_answers { NextAnswers (slots pads.now ports.now) (by_weights weights.length weights.bend) (Some (length work.old)) list.old result list.new }
     ensures work_after { WorkAfter result work.old work.new }
 {
-    let v = verdicts::of_measure(
-        Form::Slots,
-        pads,
-        ports,
-        verdicts::of_weights(lw, bw),
-        Work::Lent(work.len()),
-        list,
-    );
-    match v {
-        Verdict::Sound => search::answer_of(layouts::slotted::next_on(
-            pads, ports, lw, bw, list, work,
-        )),
-        Verdict::Refused(r) => Answer::Refused(r),
-    }
+    let job = Job::of_slots(pads, ports);
+    let bad = Badness::Weights(weights);
+    verdicts::of_measure(&job, &bad, Some(work.len()), list)?;
+    let total = layouts::next_on(&job, &bad, list, work)?;
+    Ok(total)
 }
 
 // Measure: the total of an untouching layout, best or not.
-pub fn measure(pads: &[u8], ports: &[u8], lw: u32, bw: u32, list: &[u16]) -> Answer
-    ensures { MeasureAnswers (slots pads.now ports.now) (by_weights lw bw) list.now result }
+pub fn measure(pads: &[u8], ports: &[u8], weights: Weights, list: &[u16]) -> Answer
+    ensures { MeasureAnswers (slots pads.now ports.now) (by_weights weights.length weights.bend) list.now result }
 {
-    let v = verdicts::of_measure(
-        Form::Slots,
-        pads,
-        ports,
-        verdicts::of_weights(lw, bw),
-        Work::Unlent,
-        list,
-    );
-    let none = [0u32; 1];
-    match v {
-        Verdict::Sound => Answer::Total(measure::total(
-            Badness::Weights(lw, bw),
-            Form::Slots,
-            pads,
-            ports,
-            &none[..0],
-            list,
-        )),
-        Verdict::Refused(r) => Answer::Refused(r),
-    }
+    let job = Job::of_slots(pads, ports);
+    let bad = Badness::Weights(weights);
+    verdicts::of_measure(&job, &bad, None, list)?;
+    Ok(Some(measure::total(bad, &job, list)))
 }

@@ -1,269 +1,208 @@
-// The checks of each call, in order. A verdict goes from check to check, and a refusal stands. A job is its form, the bytes of its pads, and those
-// in which its ports stand: of records, the same.
-ghost use Rattle.std.specs.Prelude.{◌≡◌, ◌*◌, ◌≤◌, ltb, length, take};
-ghost use Rattle.paper.specs.Job.{count, port_count};
-ghost use Rattle.paper.specs.Layouts.{board_from, held};
-ghost use Rattle.paper.specs.Refusals.{work_needed};
-ghost use Rattle.paper.specs.laws.Tests.{bad_weight, bad_table, bad_entry, records_touch, at_each, at_pairs, at_whole};
-ghost use Rattle.paper.specs.laws.Tests.{size_tests, enough_tests, work_tests, room_tests, field_tests, board_tests, job_tests, layout_tests, sound_tests, measure_tests, draw_tests};
+// The checks of each call, in order: the first refusal ends them.
+ghost use Rattle.std.specs.Prelude.{◌≡◌, ◌*◌, ◌≤◌, length, take};
+ghost use Rattle.paper.specs.Given.{badness_of};
+ghost use Rattle.paper.specs.Layouts.{held};
+ghost use Rattle.paper.specs.laws.Tests.{at_pairs, records_touch};
+ghost use Rattle.paper.specs.laws.Tests.{size_tests, enough_tests, work_tests, room_tests, field_tests, board_tests, job_tests, layout_tests, badness_test, sound_tests, measure_tests, draw_tests};
 ghost use Rattle.paper.specs.laws.Imported.{record_tests, row_tests};
-ghost use Rattle.find.specs.Dispatch.{test_of, number_of, Led};
-ghost use Rattle.checks.specs.Verdicts.{outcome, and_then, verdict_after, given_test, Formed, Short, Few};
+ghost use Rattle.job.specs.Board.{board_on, pads_on, ports_on};
+ghost use Rattle.checks.specs.Verdicts.{outcome, verdict, on_job, shared_tests, Formed, Short, Few, Led};
 
-use crate::{Given, Verdict};
-use find::{Check, Found};
-use paper::{Form, Refusal, Work};
+use crate::tries::{at_record, each, pairs, stood, whole};
+use job::Job;
+use paper::{Badness, Form, Reason, Refusal};
 
-// What a check found, as a verdict.
-fn verdict(reason: u16, found: Found) -> Verdict
-    ensures { result ≡ outcome reason found }
+// 1: the records; or the pads and then the ports.
+fn of_sizes(job: &Job) -> Result<(), Refusal>
+    ensures { result ≡ verdict (on_job size_tests job.now) }
 {
-    match found {
-        Found::At(i, j) => Verdict::Refused(Refusal {
-            reason,
-            at: i,
-            earlier: j,
-        }),
-        Found::Nowhere => Verdict::Sound,
+    whole(Reason::BadSize, faults::bad_size(16, 1024, job.pads))?;
+    match job.form {
+        Form::Records => Ok(()),
+        Form::Slots => whole(Reason::BadSize, faults::bad_size(4, 512, job.ports)),
     }
 }
 
-// One more check, of the input as a whole.
-fn try_whole(v: Verdict, reason: u16, fault: bool) -> Verdict
-    ensures { result ≡ and_then v (at_whole reason fault) }
+// 2, of weights; 13, of a table.
+fn of_badness(job: &Job, bad: &Badness) -> Result<(), Refusal>
+    requires { Few job.now }
+    ensures { result ≡ outcome (badness_test (board_on job.now) (badness_of bad.now)) }
 {
-    match v {
-        Verdict::Sound => {
-            if fault {
-                verdict(reason, Found::At(0, 0))
-            } else {
-                Verdict::Sound
-            }
+    match bad {
+        Badness::Weights(w) => whole(Reason::BadWeight, faults::bad_weight(*w)),
+        Badness::Table(figures) => {
+            let n = usize::from(job.count());
+            let p = usize::from(job.port_count());
+            whole(Reason::BadTable, figures.len() != n * p)
         }
-        Verdict::Refused(r) => Verdict::Refused(r),
-    }
-}
-
-// One more check, of the job's records or of its ports.
-fn try_records(v: Verdict, reason: u16, c: Check, form: Form, job: &[u8], ports: &[u8]) -> Verdict
-    requires { v ≡ Verdict.Sound → Short job.now ports.now }
-    ensures { result ≡ and_then v (at_each reason (number_of c form job.now ports.now) (test_of c form job.now ports.now)) }
-{
-    match v {
-        Verdict::Sound => verdict(reason, find::first_failing(c, form, job, ports)),
-        Verdict::Refused(r) => Verdict::Refused(r),
-    }
-}
-
-// 8: the entries of the list.
-fn try_entries(v: Verdict, form: Form, job: &[u8], ports: &[u8], list: &[u16]) -> Verdict
-    requires { v ≡ Verdict.Sound → Few form job.now ports.now × (count job.now ≤ length list.now) }
-    ensures { result ≡ and_then v (at_each 8 (count job.now) (bad_entry (port_count form ports.now) list.now)) }
-{
-    match v {
-        Verdict::Sound => verdict(
-            8,
-            find::layout::first_bad_entry(list, job::records(job), job::ports(form, ports)),
-        ),
-        Verdict::Refused(r) => Verdict::Refused(r),
-    }
-}
-
-// 9: the leaders of the records, two at a time.
-fn try_touching(v: Verdict, form: Form, job: &[u8], ports: &[u8], list: &[u16]) -> Verdict
-    requires { v ≡ Verdict.Sound → Short job.now ports.now × Led list.now (count job.now) (port_count form ports.now) }
-    ensures { result ≡ and_then v (at_pairs 9 (count job.now) (records_touch (board_from form job.now ports.now) (held list.now))) }
-{
-    match v {
-        Verdict::Sound => verdict(
-            9,
-            find::layout::first_touching(form, job, ports, list, job::records(job)),
-        ),
-        Verdict::Refused(r) => Verdict::Refused(r),
-    }
-}
-
-// 24: a work list of so many numbers. What it needs is worked out of sizes that passed 1.
-fn try_numbers(v: Verdict, form: Form, job: &[u8], ports: &[u8], numbers: usize) -> Verdict
-    requires { v ≡ Verdict.Sound → Few form job.now ports.now }
-    ensures { result ≡ and_then v (at_whole 24 (ltb numbers (work_needed (count job.now) (port_count form ports.now)))) }
-{
-    match v {
-        Verdict::Sound => {
-            let n = job::records(job) as usize;
-            let p = job::ports(form, ports) as usize;
-            try_whole(Verdict::Sound, 24, faults::short_work(n, p, numbers))
-        }
-        Verdict::Refused(r) => Verdict::Refused(r),
-    }
-}
-
-// 24, where a work list is lent.
-fn try_work(v: Verdict, form: Form, job: &[u8], ports: &[u8], work: Work) -> Verdict
-    requires { v ≡ Verdict.Sound → Few form job.now ports.now }
-    ensures { result ≡ verdict_after v (work_tests (count job.now) (port_count form ports.now) work) }
-{
-    match work {
-        Work::Unlent => v,
-        Work::Lent(numbers) => try_numbers(v, form, job, ports, numbers),
     }
 }
 
 // 14: where ports stand apart, there may be fewer than pads.
-fn try_enough(v: Verdict, form: Form, job: &[u8], ports: &[u8]) -> Verdict
-    ensures { result ≡ verdict_after v (enough_tests form job.now ports.now) }
+fn of_enough(job: &Job) -> Result<(), Refusal>
+    ensures { result ≡ verdict (on_job enough_tests job.now) }
 {
-    match form {
-        Form::Records => v,
-        Form::Slots => try_whole(v, 14, ports.len() / 4 < job.len() / 16),
+    match job.form {
+        Form::Records => Ok(()),
+        Form::Slots => whole(
+            Reason::TooFewPorts,
+            job.ports.len() / 4 < job.pads.len() / 16,
+        ),
     }
 }
 
-// 1: the records; or the pads and then the ports.
-fn of_sizes(form: Form, job: &[u8], ports: &[u8]) -> Verdict
-    ensures { result ≡ verdict_after Verdict.Sound (size_tests form job.now ports.now) }
+// 24, where a work list is lent.
+fn of_work(job: &Job, work: Option<usize>) -> Result<(), Refusal>
+    requires { Few job.now }
+    ensures { result ≡ verdict (work_tests (pads_on job.now) (ports_on job.now) work) }
 {
-    let v = try_whole(Verdict::Sound, 1, faults::bad_size(16, 1024, job));
-    match form {
-        Form::Records => v,
-        Form::Slots => try_whole(v, 1, faults::bad_size(4, 512, ports)),
+    match work {
+        Some(numbers) => {
+            let n = usize::from(job.count());
+            let p = usize::from(job.port_count());
+            whole(Reason::NoWorkRoom, faults::short_work(n, p, numbers))
+        }
+        None => Ok(()),
     }
 }
 
 // 3, 14 and 24: the room that is lent.
-fn of_room(v: Verdict, form: Form, job: &[u8], ports: &[u8], work: Work, room: usize) -> Verdict
-    requires { v ≡ Verdict.Sound → Few form job.now ports.now }
-    ensures { result ≡ verdict_after v (room_tests form job.now ports.now work room) }
+fn of_room(job: &Job, work: Option<usize>, room: usize) -> Result<(), Refusal>
+    requires { Few job.now }
+    ensures { result ≡ verdict (on_job room_tests job.now work room) }
 {
-    let v3 = try_whole(v, 3, room < job.len() / 16);
-    let v14 = try_enough(v3, form, job, ports);
-    try_work(v14, form, job, ports, work)
+    whole(Reason::NoRoom, room < job.pads.len() / 16)?;
+    of_enough(job)?;
+    of_work(job, work)
 }
 
 // 4: the records; or the pads and then the ports.
-fn of_fields(v: Verdict, form: Form, job: &[u8], ports: &[u8]) -> Verdict
-    requires { v ≡ Verdict.Sound → Short job.now ports.now }
-    ensures { result ≡ verdict_after v (field_tests form job.now ports.now) }
+fn of_fields(job: &Job) -> Result<(), Refusal>
+    requires { Short job.now }
+    ensures { result ≡ verdict (on_job field_tests job.now) }
 {
-    let v4 = try_records(v, 4, Check::Field, form, job, ports);
-    match form {
-        Form::Records => v4,
-        Form::Slots => try_records(v4, 4, Check::Height, form, job, ports),
+    each(Reason::BadField, job.count(), |i| faults::bad_field(job, i))?;
+    match job.form {
+        Form::Records => Ok(()),
+        Form::Slots => each(
+            Reason::BadField,
+            job.port_count(),
+            |q| faults::bad_height(job, q),
+        ),
     }
+}
+
+// 6 and 7: what no two pads share.
+fn of_shared(job: &Job) -> Result<(), Refusal>
+    requires { Short job.now }
+    ensures { result ≡ verdict (shared_tests job.now.pads.now) }
+{
+    let n = job.count();
+    stood(Reason::NameTwice, n, |i, j| job.name(i) == job.name(j))?;
+    stood(Reason::XTwice, n, |i, j| job.x(i) == job.x(j))
 }
 
 // 5 and 12 of the ports, 6 and 7 of the pads.
-fn of_board(v: Verdict, form: Form, job: &[u8], ports: &[u8]) -> Verdict
-    requires { v ≡ Verdict.Sound → Short job.now ports.now }
-    ensures { result ≡ verdict_after v (board_tests form job.now ports.now) }
+fn of_board(job: &Job) -> Result<(), Refusal>
+    requires { Short job.now }
+    ensures { result ≡ verdict (on_job board_tests job.now) }
 {
-    let v5 = try_records(v, 5, Check::Rise, form, job, ports);
-    let v12 = try_records(v5, 12, Check::Space, form, job, ports);
-    let v6 = try_records(v12, 6, Check::Name, form, job, ports);
-    try_records(v6, 7, Check::Place, form, job, ports)
+    let p = job.port_count();
+    each(Reason::PortNotAbove, p, |q| faults::not_above(job, q))?;
+    each(Reason::PortTooClose, p, |q| faults::too_close(job, q))?;
+    of_shared(job)
 }
 
 // 4 to 7, and 12 directly after 5.
-pub fn of_job(v: Verdict, form: Form, job: &[u8], ports: &[u8]) -> Verdict
-    requires { v ≡ Verdict.Sound → Short job.now ports.now }
-    ensures { result ≡ verdict_after v (job_tests form job.now ports.now) }
+pub fn of_job(job: &Job) -> Result<(), Refusal>
+    requires { Short job.now }
+    ensures { result ≡ verdict (on_job job_tests job.now) }
 {
-    let v4 = of_fields(v, form, job, ports);
-    of_board(v4, form, job, ports)
+    of_fields(job)?;
+    of_board(job)
+}
+
+// 9: the leaders of the records, two at a time.
+fn of_leaders(job: &Job, list: &[u16]) -> Result<(), Refusal>
+    requires { Short job.now × Led list.now (pads_on job.now) (ports_on job.now) }
+    ensures { result ≡ outcome (at_pairs 9 (pads_on job.now) (records_touch (board_on job.now) (held list.now))) }
+{
+    pairs(
+        Reason::Touching,
+        job.count(),
+        |i, j| faults::touches(job, list, i, j),
+    )
 }
 
 // 8 and 9: the layout.
-pub fn of_layout(v: Verdict, form: Form, job: &[u8], ports: &[u8], list: &[u16]) -> Verdict
-    requires { v ≡ Verdict.Sound → Few form job.now ports.now × (count job.now ≤ length list.now) }
-    ensures { result ≡ verdict_after v (layout_tests (board_from form job.now ports.now) list.now) }
+pub fn of_layout(job: &Job, list: &[u16]) -> Result<(), Refusal>
+    requires { Few job.now × (pads_on job.now ≤ length list.now) }
+    ensures { result ≡ verdict (layout_tests (board_on job.now) list.now) }
 {
-    let v8 = try_entries(v, form, job, ports, list);
-    try_touching(v8, form, job, ports, list)
-}
-
-// 2, of weights; 13, of a table of so many figures.
-pub fn of_weights(lw: u32, bw: u32) -> Given
-    ensures { result ≡ record { reason = 2; fault = bad_weight lw bw } }
-{
-    Given {
-        reason: 2,
-        fault: faults::bad_weight(lw, bw),
-    }
-}
-
-pub fn of_table(job: &[u8], figures: usize) -> Given
-    ensures { result ≡ record { reason = 13; fault = bad_table (count job.now) (count job.now) figures } }
-{
-    Given {
-        reason: 13,
-        fault: faults::bad_table(job, figures),
-    }
+    at_record(
+        Reason::BadEntry,
+        find::first_bad_entry(list, job.count(), job.port_count()),
+    )?;
+    of_leaders(job, list)
 }
 
 // First, with such a work list and room for so many entries: 1, 2 or 13, 3, 14, 24 and the job's. Its 15 is found by the search.
-pub fn of_first(
-    form: Form,
-    job: &[u8],
-    ports: &[u8],
-    given: Given,
-    work: Work,
-    room: usize,
-) -> Verdict
-    requires { Formed form job.now ports.now }
-    ensures { result ≡ verdict_after Verdict.Sound (sound_tests form job.now ports.now (given_test given) work room) }
+pub fn of_first(job: &Job, bad: &Badness, work: Option<usize>, room: usize) -> Result<(), Refusal>
+    requires { Formed job.now }
+    ensures { result ≡ verdict (on_job sound_tests job.now (badness_test (board_on job.now) (badness_of bad.now)) work room) }
 {
-    let v1 = of_sizes(form, job, ports);
-    let v2 = try_whole(v1, given.reason, given.fault);
-    let v3 = of_room(v2, form, job, ports, work, room);
-    of_job(v3, form, job, ports)
+    of_sizes(job)?;
+    of_badness(job, bad)?;
+    of_room(job, work, room)?;
+    of_job(job)
 }
 
 // Measure: First's, 8 and 9.
 pub fn of_measure(
-    form: Form,
-    job: &[u8],
-    ports: &[u8],
-    given: Given,
-    work: Work,
+    job: &Job,
+    bad: &Badness,
+    work: Option<usize>,
     list: &[u16],
-) -> Verdict
-    requires { Formed form job.now ports.now }
-    ensures { result ≡ verdict_after Verdict.Sound (measure_tests form job.now ports.now (given_test given) work list.now) }
+) -> Result<(), Refusal>
+    requires { Formed job.now }
+    ensures { result ≡ verdict (on_job measure_tests job.now (badness_test (board_on job.now) (badness_of bad.now)) work list.now) }
 {
-    let v = of_first(form, job, ports, given, work, list.len());
-    of_layout(v, form, job, ports, list)
+    of_first(job, bad, work, list.len())?;
+    of_layout(job, list)
 }
 
 // Draw of record i to port q, with room for so many floats: 1, 3, the job's and 11.
-pub fn of_draw(job: &[u8], i: u32, q: u32, room: usize) -> Verdict
-    ensures { result ≡ verdict_after Verdict.Sound (draw_tests job.now i q room) }
+pub fn of_draw(job: &[u8], i: u32, q: u32, room: usize) -> Result<(), Refusal>
+    ensures { result ≡ verdict (draw_tests job.now i q room) }
 {
-    let v1 = of_sizes(Form::Records, job, job);
-    let v3 = try_whole(v1, 3, room < 6);
-    let v7 = of_job(v3, Form::Records, job, job);
-    try_whole(v7, 11, faults::bad_number(job, i, q))
+    let records = Job::of_records(job);
+    of_sizes(&records)?;
+    whole(Reason::NoRoom, room < 6)?;
+    of_job(&records)?;
+    whole(Reason::BadNumber, faults::bad_number(job, i, q))
 }
 
-// 4, 6 and 7 of pad records alone: none of these looks at the ports.
-fn of_pads(pads: &[u8]) -> Verdict
-    requires { length pads.now ≤ 1024 }
-    ensures { result ≡ verdict_after Verdict.Sound (record_tests pads.now) }
+// 4, 6 and 7 of pad records alone.
+fn of_pads(bytes: &[u8]) -> Result<(), Refusal>
+    requires { length bytes.now ≤ 1024 }
+    ensures { result ≡ verdict (record_tests bytes.now) }
 {
-    let v4 = try_records(Verdict::Sound, 4, Check::Field, Form::Slots, pads, pads);
-    let v6 = try_records(v4, 6, Check::Name, Form::Slots, pads, pads);
-    try_records(v6, 7, Check::Place, Form::Slots, pads, pads)
+    let pads = Job::of_slots(bytes, &[]);
+    each(
+        Reason::BadField,
+        pads.count(),
+        |i| faults::bad_field(&pads, i),
+    )?;
+    of_shared(&pads)
 }
 
 // ReadCsv, of a list that was read: n pads, the first 64 or fewer of them made into records, and room for so many bytes: 1, 22 and the pads'.
-pub fn of_list(made: &[u8], n: u16, room: usize) -> Verdict
+pub fn of_list(made: &[u8], n: u16, room: usize) -> Result<(), Refusal>
     requires { 1024 ≤ length made.now }
-    ensures { result ≡ verdict_after Verdict.Sound (row_tests n (take (16 * n) made.now) room) }
+    ensures { result ≡ verdict (row_tests n (take (16 * n) made.now) room) }
 {
-    let bytes = 16 * n as usize;
-    let v1 = try_whole(Verdict::Sound, 1, (n == 0) | (64 < n));
-    let v22 = try_whole(v1, 22, room < bytes);
-    match v22 {
-        Verdict::Sound => of_pads(&made[..bytes]),
-        Verdict::Refused(r) => Verdict::Refused(r),
-    }
+    let bytes = 16 * usize::from(n);
+    whole(Reason::BadSize, (n == 0) | (64 < n))?;
+    whole(Reason::NoPadRoom, room < bytes)?;
+    of_pads(&made[..bytes])
 }

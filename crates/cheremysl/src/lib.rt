@@ -2,7 +2,7 @@
 // input, is the promise of its name in paper's Promises.antt.
 #![tactic(auto)]
 
-ghost use Rattle.std.specs.Prelude.{◌≡◌, length};
+ghost use Rattle.std.specs.Prelude.{◌≡◌, ℤ, length};
 ghost use Rattle.paper.specs.Job.{records, slots};
 ghost use Rattle.paper.specs.Layouts.{by_weights, by_table};
 ghost use Rattle.paper.specs.Promises.{refusal_number, number, counted_number, drawn_number};
@@ -10,44 +10,72 @@ ghost use Rattle.paper.specs.Promises.{FirstPromise, NextPromise, PagePromise, M
 ghost use Rattle.paper.specs.Promises.{CountPromise, PlacePromise, SvgPromise, CsvPromise, BufferPromise};
 ghost use Rattle.paper.specs.laws.Bounds.{Bounded, BoundedCount};
 
-use paper::{Answer, Counted, Drawn, Refusal, Work};
+use paper::{Answer, Badness, Counted, Drawn, Polyline, Refusal, Weights};
 
-// C's number of a refusal, of an answer, of a page, a count, a text or a list, and of a drawn leader.
-fn of_refusal(f: Refusal) -> i64
-    ensures { result ≡ refusal_number f }
-{
-    let n = 4294967296 * (f.earlier as u64) + 65536 * (f.reason as u64) + (f.at as u64);
-    -(n as i64)
+// What C gets: a number.
+trait ForC {
+    ghost Fits: { Self → Type 0 };
+
+    ghost number_of: { Self → ℤ };
+
+    fn for_c(self) -> i64
+        requires { Fits self }
+        ensures { result ≡ number_of self };
 }
 
-fn of_answer(a: Answer) -> i64
-    requires { Bounded a }
-    ensures { result ≡ number a }
-{
-    match a {
-        Answer::Total(t) => t as i64,
-        Answer::End => -1,
-        Answer::Refused(f) => of_refusal(f),
+impl ForC for Refusal {
+    ghost Fits = { λ r. Unit {0} };
+
+    ghost number_of = { refusal_number };
+
+    fn for_c(self) -> i64 {
+        let n = 4294967296 * u64::from(self.earlier)
+            + 65536 * u64::from(self.reason)
+            + u64::from(self.at);
+        -(n as i64)
     }
 }
 
-fn of_counted(a: Counted) -> i64
-    requires { BoundedCount a }
-    ensures { result ≡ counted_number a }
-{
-    match a {
-        Counted::Many(k) => k as i64,
-        Counted::Refused(f) => of_refusal(f),
+impl ForC for Answer {
+    ghost Fits = { Bounded };
+
+    ghost number_of = { number };
+
+    fn for_c(self) -> i64 {
+        match self {
+            Ok(Some(total)) => total as i64,
+            Ok(None) => -1,
+            Err(refusal) => refusal.for_c(),
+        }
     }
 }
 
-fn of_drawn(d: Drawn) -> i64
-    ensures { result ≡ drawn_number d }
-{
-    match d {
-        Drawn::Straight(_) => 2,
-        Drawn::Bent(_) => 3,
-        Drawn::Refused(f) => of_refusal(f),
+// Of a page, a count, a text or a list.
+impl ForC for Counted {
+    ghost Fits = { BoundedCount };
+
+    ghost number_of = { counted_number };
+
+    fn for_c(self) -> i64 {
+        match self {
+            Ok(count) => count as i64,
+            Err(refusal) => refusal.for_c(),
+        }
+    }
+}
+
+// The number of its points.
+impl ForC for Drawn {
+    ghost Fits = { λ d. Unit {0} };
+
+    ghost number_of = { drawn_number };
+
+    fn for_c(self) -> i64 {
+        match self {
+            Ok(Polyline::Straight { .. }) => 2,
+            Ok(Polyline::Bent { .. }) => 3,
+            Err(refusal) => refusal.for_c(),
+        }
     }
 }
 
@@ -58,9 +86,13 @@ pub extern "C" fn cheremysl_first(
     bend_weight: u32,
     layout: &mut [u16],
 ) -> i64
-    ensures { FirstPromise (records job.now) (by_weights length_weight bend_weight) Work.Unlent layout.old result layout.new }
+    ensures { FirstPromise (records job.now) (by_weights length_weight bend_weight) None layout.old result layout.new }
 {
-    of_answer(calls::first(job, length_weight, bend_weight, layout))
+    let weights = Weights {
+        length: length_weight,
+        bend: bend_weight,
+    };
+    calls::first(job, Badness::Weights(weights), layout).for_c()
 }
 
 #[unsafe(no_mangle)]
@@ -70,9 +102,13 @@ pub extern "C" fn cheremysl_next(
     bend_weight: u32,
     layout: &mut [u16],
 ) -> i64
-    ensures { NextPromise (records job.now) (by_weights length_weight bend_weight) Work.Unlent layout.old result layout.new }
+    ensures { NextPromise (records job.now) (by_weights length_weight bend_weight) None layout.old result layout.new }
 {
-    of_answer(calls::next(job, length_weight, bend_weight, layout))
+    let weights = Weights {
+        length: length_weight,
+        bend: bend_weight,
+    };
+    calls::next(job, Badness::Weights(weights), layout).for_c()
 }
 
 #[unsafe(no_mangle)]
@@ -83,9 +119,13 @@ pub extern "C" fn cheremysl_page(
     layout: &[u16],
     page: &mut [u16],
 ) -> i64
-    ensures { PagePromise (records job.now) (by_weights length_weight bend_weight) Work.Unlent layout.now page.old result page.new }
+    ensures { PagePromise (records job.now) (by_weights length_weight bend_weight) None layout.now page.old result page.new }
 {
-    of_counted(calls::page(job, length_weight, bend_weight, layout, page))
+    let weights = Weights {
+        length: length_weight,
+        bend: bend_weight,
+    };
+    calls::page(job, Badness::Weights(weights), layout, page).for_c()
 }
 
 #[unsafe(no_mangle)]
@@ -97,7 +137,11 @@ pub extern "C" fn cheremysl_measure(
 ) -> i64
     ensures { MeasurePromise (records job.now) (by_weights length_weight bend_weight) layout.now result }
 {
-    of_answer(calls::measure(job, length_weight, bend_weight, layout))
+    let weights = Weights {
+        length: length_weight,
+        bend: bend_weight,
+    };
+    calls::measure(job, Badness::Weights(weights), layout).for_c()
 }
 
 #[unsafe(no_mangle)]
@@ -110,7 +154,11 @@ pub extern "C" fn cheremysl_count(
     ensures count_promise { CountPromise (records job.now) (by_weights length_weight bend_weight) (length buffer.old) result }
     ensures buffer_promise { BufferPromise result buffer.old buffer.new }
 {
-    of_counted(calls::count(job, length_weight, bend_weight, buffer))
+    let weights = Weights {
+        length: length_weight,
+        bend: bend_weight,
+    };
+    calls::count(job, Badness::Weights(weights), buffer).for_c()
 }
 
 #[unsafe(no_mangle)]
@@ -126,28 +174,32 @@ pub extern "C" fn cheremysl_place(
         result layout.new }
     ensures buffer_promise { BufferPromise result buffer.old buffer.new }
 {
-    of_answer(calls::place(job, length_weight, bend_weight, place, layout, buffer))
+    let weights = Weights {
+        length: length_weight,
+        bend: bend_weight,
+    };
+    calls::place(job, Badness::Weights(weights), place, layout, buffer).for_c()
 }
 
 #[unsafe(no_mangle)]
 pub extern "C" fn cheremysl_table_first(job: &[u8], table: &[u32], layout: &mut [u16]) -> i64
-    ensures { FirstPromise (records job.now) (by_table table.now) Work.Unlent layout.old result layout.new }
+    ensures { FirstPromise (records job.now) (by_table table.now) None layout.old result layout.new }
 {
-    of_answer(calls::tabled::first(job, table, layout))
+    calls::first(job, Badness::Table(table), layout).for_c()
 }
 
 #[unsafe(no_mangle)]
 pub extern "C" fn cheremysl_table_next(job: &[u8], table: &[u32], layout: &mut [u16]) -> i64
-    ensures { NextPromise (records job.now) (by_table table.now) Work.Unlent layout.old result layout.new }
+    ensures { NextPromise (records job.now) (by_table table.now) None layout.old result layout.new }
 {
-    of_answer(calls::tabled::next(job, table, layout))
+    calls::next(job, Badness::Table(table), layout).for_c()
 }
 
 #[unsafe(no_mangle)]
 pub extern "C" fn cheremysl_table_measure(job: &[u8], table: &[u32], layout: &[u16]) -> i64
     ensures { MeasurePromise (records job.now) (by_table table.now) layout.now result }
 {
-    of_answer(calls::tabled::measure(job, table, layout))
+    calls::measure(job, Badness::Table(table), layout).for_c()
 }
 
 #[unsafe(no_mangle)]
@@ -159,11 +211,15 @@ pub extern "C" fn cheremysl_slots_first(
     layout: &mut [u16],
     work: &mut [u64],
 ) -> i64
-    ensures first_promise { FirstPromise (slots pads.now ports.now) (by_weights length_weight bend_weight) (Work.Lent (length work.old))
+    ensures first_promise { FirstPromise (slots pads.now ports.now) (by_weights length_weight bend_weight) (Some (length work.old))
         layout.old result layout.new }
     ensures work_promise { WorkPromise result work.old work.new }
 {
-    of_answer(calls::slotted::first(pads, ports, length_weight, bend_weight, layout, work))
+    let weights = Weights {
+        length: length_weight,
+        bend: bend_weight,
+    };
+    calls::slotted::first(pads, ports, weights, layout, work).for_c()
 }
 
 #[unsafe(no_mangle)]
@@ -175,11 +231,15 @@ pub extern "C" fn cheremysl_slots_next(
     layout: &mut [u16],
     work: &mut [u64],
 ) -> i64
-    ensures next_promise { NextPromise (slots pads.now ports.now) (by_weights length_weight bend_weight) (Work.Lent (length work.old))
+    ensures next_promise { NextPromise (slots pads.now ports.now) (by_weights length_weight bend_weight) (Some (length work.old))
         layout.old result layout.new }
     ensures work_promise { WorkPromise result work.old work.new }
 {
-    of_answer(calls::slotted::next(pads, ports, length_weight, bend_weight, layout, work))
+    let weights = Weights {
+        length: length_weight,
+        bend: bend_weight,
+    };
+    calls::slotted::next(pads, ports, weights, layout, work).for_c()
 }
 
 #[unsafe(no_mangle)]
@@ -192,26 +252,30 @@ pub extern "C" fn cheremysl_slots_measure(
 ) -> i64
     ensures { MeasurePromise (slots pads.now ports.now) (by_weights length_weight bend_weight) layout.now result }
 {
-    of_answer(calls::slotted::measure(pads, ports, length_weight, bend_weight, layout))
+    let weights = Weights {
+        length: length_weight,
+        bend: bend_weight,
+    };
+    calls::slotted::measure(pads, ports, weights, layout).for_c()
 }
 
 #[unsafe(no_mangle)]
 pub extern "C" fn cheremysl_draw(job: &[u8], record: u32, port: u32, points: &mut [f32]) -> i64
     ensures { DrawPromise job.now «record» port points.old result points.new }
 {
-    of_drawn(calls::draw(job, record, port, points))
+    calls::draw(job, record, port, points).for_c()
 }
 
 #[unsafe(no_mangle)]
 pub extern "C" fn cheremysl_svg(job: &[u8], layout: &[u16], text: &mut [u8]) -> i64
     ensures { SvgPromise job.now layout.now text.old result text.new }
 {
-    of_counted(calls::svg(job, layout, text))
+    calls::svg(job, layout, text).for_c()
 }
 
 #[unsafe(no_mangle)]
 pub extern "C" fn cheremysl_read_csv(text: &[u8], pads: &mut [u8]) -> i64
     ensures { CsvPromise text.now pads.old result pads.new }
 {
-    of_counted(calls::read_csv(text, pads))
+    calls::read_csv(text, pads).for_c()
 }

@@ -1,5 +1,5 @@
 -- What the search for a port works with, over plain lists of numbers, and what it answers. T is where figures and totals are read.
-use Rattle.std.specs.Prelude.{◌≡◌, List, ℕ, ◌+◌, ◌-◌, ◌≤◌, ◌<◌, length, get_or, drop}
+use Rattle.std.specs.Prelude.{◌≡◌, List, ℕ, ◌+◌, ◌-◌, ◌≤◌, ◌<◌, length, get_or, drop, Option, Some, None}
 use Rattle.strips.specs.Lists.{keep}
 use Rattle.strips.specs.Grid.{Grid}
 use Rattle.strips.specs.Prefix.{lies, Lies}
@@ -40,3 +40,8 @@ pub record Chosen (Q : ℕ → Type 0) (from q : ℕ) : Type 0 where
   pub start : q < 128 → from ≤ q
   pub found : q < 128 → Q q
   pub passed : (i : ℕ) → from ≤ i → i < q → Q i → ⊥
+
+-- The same of an answer that may be none.
+abbrev pub Choice : (ℕ → Type 0) → ℕ → Option ℕ → Type 0
+Choice Q from (Some q) = Chosen Q from q × (q < 128)
+Choice Q from None = Chosen Q from 128

@@ -7,6 +7,7 @@ use Prim.Native.Nat.{ℕ, zero, ◌+◌, ◌-◌, ◌*◌, ◌/◌, ◌%◌, ◌
 use native.Mathlib.Omega.{arith}
 use native.Mathlib.Decide.{dec_lt}
 use native.Mathlib.Nat.{mod-eq_of_lt, le-mul_of_pos_right, mul_comm, mul-zero, zero-mul, div-eq_of_eq-mul_left}
+use Rattle.std.specs.Prelude.{Some}
 use lib.Bits.{bit_and}
 use lib.Count.{count_trailing_zeros}
 use lib.ListN.{length, get_or, take, drop, set, drop_of_length-le}
@@ -17,7 +18,7 @@ use Rattle.numbers.specs.Sets.{set_of, NextIn}
 use Rattle.numbers.proofs.Sets.{set_none, set_gone, set_next}
 use Rattle.strips.specs.Lists.{keep, Distinct}
 use Rattle.strips.proofs.Lists.{nil_all}
-use Rattle.strips.specs.Least.{some}
+use Rattle.strips.specs.Least.{Least, some}
 use Rattle.strips.specs.Grid.{Grid, best, BestIn}
 use Rattle.strips.proofs.Strips.{best_cong}
 use Rattle.strips.specs.Prefix.{floor, ceil, lies}
@@ -34,17 +35,23 @@ use Rattle.ways.proofs.Tree.{ways_at_cong, ways_at_self, rank_nil, rank_cons}
 use Rattle.ways.specs.Count.{may_take, many, many_at, Share}
 use Rattle.ways.proofs.Count.{looks, choice_yes, share}
 use Rattle.ways.proofs.Ranks.{rank-place}
+use Rattle.pads.specs.Pads.{Pads}
+use Rattle.pads.specs.Sides.{square_pads}
 use Rattle.pads.specs.Counts.{drop_at}
-use Rattle.totals.specs.Cell.{FullFrom, Leads, Marks}
-use Rattle.places.specs.Places.{port_in, Entered}
-use Rattle.places.proofs.Ports.{entered_more}
+use Rattle.numbers.specs.Arrangement.{Arrangement}
+use Rattle.totals.specs.Cell.{place, FullFrom, Leads, Marks}
+use Rattle.places.specs.Places.{port_in, Placed, Entered, Lowest, Highest}
+use Rattle.places.proofs.Ports.{entered_more, low_floor, high_ceil}
 use Rattle.choices.specs.Source.{source}
 use Rattle.choices.specs.Choices.{ProperLists}
+use Rattle.choices.proofs.Choosing.{lows}
 use Rattle.choices.proofs.Stores.{store_here, store_other, store_before, store_kept}
+use Rattle.pads.specs.declared.Lists.{Lists}
 use Rattle.counting.specs.declared.Picked.{Picked}
-use Rattle.counting.specs.Counting.{limit, capped, ProperBoard, Solvable, number_at, number_with, Solved, StripCount}
-use Rattle.counting.specs.Counting.{Begun, ways_from, ways_with, PickedIs, ChosenIs, Walkable, WalkIs}
-use Rattle.counting.proofs.Strips.{full_here, full_length}
+use Rattle.counting.specs.Counting.{limit, capped, FirstPort, ProperBoard, costed, Solvable, number_at, number_with, Solved, StripCount, CountOf, Countable, Site, Pickable}
+use Rattle.counting.specs.Counting.{Begun, ways_from, ways_with, PickedIs, Choosable, ChosenIs, Walkable, Placeable, WalkIs}
+use Rattle.counting.proofs.Strips.{full_here, full_length, solved_below, solved_above, marks_at}
+use Rattle.counting.proofs.Buffers.{sets_few}
 use Rattle.counting.proofs.Sums.{number_none, number-capped}
 use Rattle.counting.proofs.Whole.{some_best}
 
@@ -144,6 +151,76 @@ module _ {B : Grid} {order : List ℕ} (L : Listed B (length order) order) (m a 
                 let t = skip in
                 omega (arith, S.passed, sum_more G q);
           }
+
+-- What holds of a pad's site when the loop over its ports is at its head.
+pub record Choosing (ms : List ℕ) (a b others k : ℕ) (s : Site) (left rest : ℕ) : Type 0 where
+  pub marks : Marks s.board s.order s.place a b (get_or ms (place a b) 0)
+  pub at : ℕ
+  pub picking : Picking s.board s.order s.place a b others k marks.picks at left rest
+
+pub pickable_countable : {ms : List ℕ} {a b others k : ℕ} {s : Site} → Pickable ms a b others k s → Countable ms a b
+pickable_countable {s = s} P = record { board = s.board; order = s.order; sets = P.sets; solved = P.solved }
+
+module _ {ms : List ℕ} {a b others k : ℕ} {s : Site} (P : Pickable ms a b others k s) (few : length ms ≤ 2145) where
+  abbrev L : Listed s.board (length s.order) s.order
+  L = P.sets.marked.listed
+
+  b64 : b ≤ 64
+  b64 = omega (arith, sets_few P.sets few, P.full.ports)
+
+  pub choosing_none : (left : ℕ) → left ≡ get_or ms (place a b) 0 → Choosing ms a b others k s left k
+  choosing_none left is = let marks = marks_at s.place a b P.full (P.sets.marked.led a b (omega (arith, P.full.full)) P.solved) in record {
+    marks = marks;
+    at = 0;
+    picking = rw is (picking_none L s.place a b P.full others k marks b64);
+  }
+
+  module _ {left rest : ℕ} (R : Choosing ms a b others k s left rest) where
+    -- The ports do not run out before place k.
+    pub choosing_never : left ≡ 0 → ⊥
+    choosing_never z = picking_never L s.place a b P.full others k R.marks b64 R.at left rest R.picking z P.inside
+
+    -- The next port leads the pad, and its parts can be counted.
+    module _ {q left' : ℕ} (next : FirstPort left (Some q) left') where
+      leads : Leads s.board s.order s.place a b q
+      leads = rw next.1 (picking_leads L s.place a b P.full others k R.marks b64 R.at left rest R.picking next.0)
+
+      solved_low : Solved s.board s.order a q
+      solved_low = solved_below L.lawful s.place a b P.full q leads
+
+      solved_high : Solved s.board s.order (q + 1) b
+      solved_high = solved_above L.lawful s.place a b P.full q leads
+
+      pub choosing_below : Countable ms a q
+      choosing_below = record { board = s.board; order = s.order; sets = P.sets; solved = solved_low }
+
+      pub choosing_above : Countable ms (q + 1) b
+      choosing_above = record { board = s.board; order = s.order; sets = P.sets; solved = solved_high }
+
+      -- With both numbers: ..
+      module _ (u v : ℕ) (U : CountOf ms a q u) (V : CountOf ms (q + 1) b v) where
+        under_is : StripCount s.board s.order a (count_trailing_zeros 64 left) u
+        under_is = rw next.1 at (U s.board s.order P.sets solved_low)
+
+        over_is : StripCount s.board s.order (count_trailing_zeros 64 left + 1) b v
+        over_is = rw next.1 at (V s.board s.order P.sets solved_high)
+
+        -- .. their product is small, ..
+        pub choosing_few : (u * v ≤ limit) × (others * (u * v) ≤ limit)
+        choosing_few = picking_few L s.place a b P.full others k R.marks b64 R.at left rest R.picking next.0 P.some P.few u v under_is over_is
+
+        -- .. and place k falls on this port, or after it.
+        pub choosing_found : rest < others * (u * v)
+            → PickedIs s.board s.order s.place a b others k (record { port = q; rest = rest; ways = others * (u * v) })
+        choosing_found h = rw next.1 (picking_found L s.place a b P.full others k R.marks b64 R.at left rest R.picking next.0 P.some P.few u v under_is over_is h)
+
+        pub choosing_more : others * (u * v) ≤ rest → Choosing ms a b others k s left' (rest - others * (u * v))
+        choosing_more h = record {
+          marks = R.marks;
+          at = count_trailing_zeros 64 left + 1;
+          picking = rw next.2
+              (picking_more L s.place a b P.full others k R.marks b64 R.at left rest R.picking next.0 P.some P.few u v under_is over_is h);
+        }
 
 -- ---- the strip of the next pad
 
@@ -275,6 +352,49 @@ module _ {B : Grid} {order : List ℕ} (L : Listed B (length order) order) (w : 
       };
     }
 
+-- The strip of the pad at place m begins at port a and ends before port b.
+pub record StripAt (l : Lists) (w : List ℕ) (m a b : ℕ) : Type 0 where
+  pub inside : m < length l.order.now
+  pub low : a ≡ floor (port_in w) (get_or l.lo.now (get_or l.order.now m 0) 0) (take m l.order.now) 0
+  pub high : b ≡ ceil (port_in w) (get_or l.hi.now (get_or l.order.now m 0) 0) (take m l.order.now) (length l.order.now)
+
+pub strip_at : {l : Lists} → ProperBoard l → {w at : List ℕ} (m : ℕ) → m < length l.order.now → Placed l.order.now w m at → (a b : ℕ)
+    → Lowest at m (get_or l.lo.now (get_or l.order.now m 0) 0) a → Highest at m (get_or l.hi.now (get_or l.order.now m 0) 0) (length l.order.now) b → StripAt l w m a b
+strip_at {l} P m inside placed a b low high =
+    let Q = square_pads l P.square in record {
+      inside = inside;
+      low = low_floor m placed (omega arith) _ _ (omega (arith, lows Q (get_or l.order.now m 0), Q.few)) low;
+      high = high_ceil m placed (omega arith) _ _ _ (omega (arith, Q.few)) high;
+    }
+
+module _ {l : Lists} {w : List ℕ} {m a b : ℕ} (S : StripAt l w m a b) {C : ℕ → ℕ → Least} {ms : List ℕ} {all_ways : ℕ} (X : Choosable l C ms w m all_ways) where
+  strip_solved : Solved (costed l C) l.order.now a b
+  strip_solved = next_solved X.sets.marked.listed w m S.inside X.begun a b S.low S.high
+
+  pub choosing_countable : Countable ms a b
+  choosing_countable = record { board = _; order = l.order.now; sets = X.sets; solved = strip_solved }
+
+  module _ (here : ℕ) (N : CountOf ms a b here) (k : ℕ) (few : all_ways ≤ limit) (below : k < all_ways) where
+    strip_count : StripCount (costed l C) l.order.now a b here
+    strip_count = N (costed l C) l.order.now X.sets strip_solved
+
+    pub choosing_some : 0 < here
+    choosing_some = here_some X.sets.marked.listed w m S.inside X.begun a b S.low S.high all_ways here X.all (omega arith) few strip_count
+
+    pub choosing_pickable : Pickable ms a b (all_ways / here) k (record { board = costed l C; order = l.order.now; place = m })
+    choosing_pickable =
+        let t = with_all X.sets.marked.listed w m S.inside X.begun a b S.low S.high all_ways here X.all (omega arith) few strip_count in record {
+          sets = X.sets;
+          full = next_full X.sets.marked.listed w m S.inside X.begun a b S.low S.high;
+          solved = strip_solved;
+          some = others_some X.sets.marked.listed w m S.inside X.begun a b S.low S.high all_ways here X.all (omega arith) few strip_count;
+          inside = omega arith;
+          few = omega arith;
+        }
+
+    pub choosing_chosen : (r : Picked) → PickedIs (costed l C) l.order.now m a b (all_ways / here) k r → ChosenIs (costed l C) l.order.now w m k r
+    choosing_chosen r T = chosen_is X.sets.marked.listed w m S.inside X.begun a b S.low S.high all_ways here X.all (omega arith) few strip_count k r T
+
 -- ---- from pad to pad
 
 -- What the walk to place k has when it comes to place m: of the layouts with the ports of w so far, of which there are `ways`, it wants the one at place `rest`.
@@ -288,7 +408,8 @@ pub record Walking (B : Grid) (order w₀ : List ℕ) (k : ℕ) (w : List ℕ) (
   pub place : (f : ℕ → ℕ) → SameOn (take m order) (port_in w) f
       → rank (length order) (may_take B 0 (length order)) f [] order + rest ≡ k + rank (length order) (may_take B 0 (length order)) f (take m order) (drop m order)
 
-module _ {B : Grid} {order lo hi : List ℕ} (P : ProperBoard order lo hi) (L : Listed B (length order) order) (S : Solvable B order) where
+module _ {B : Grid} {order lo hi : List ℕ} (P : Pads order lo hi (length order)) (A : Arrangement (length order) order) (L : Listed B (length order) order)
+    (S : Solvable B order) where
   pub walking_none : (w : List ℕ) (c k : ℕ) → Walkable B order c k → Walking B order w k w 0 c k
   walking_none w c k X = record {
     inside = zero-le;
@@ -340,10 +461,10 @@ module _ {B : Grid} {order lo hi : List ℕ} (P : ProperBoard order lo hi) (L : 
 
       -- for the laws of stores, which read a board's pads alone
       lists : ProperLists order (source [] [] [] [] (length order)) lo hi
-      lists = record { pads = P.pads; arranged = P.arranged }
+      lists = record { pads = P; arranged = A }
 
       pub walking_port : r.port < 64
-      walking_port = omega (arith, C.leads.high, ceil_le (port_in w) (B.hi pad) (take m order) (length order), P.pads.few)
+      walking_port = omega (arith, C.leads.high, ceil_le (port_in w) (B.hi pad) (take m order) (length order), P.few)
 
       before : SameOn (take m order) (port_in w) (port_in v)
       before = store_before lists w room m inside r.port m (omega arith)
@@ -413,5 +534,22 @@ module _ {B : Grid} {order lo hi : List ℕ} (P : ProperBoard order lo hi) (L : 
           → Entered order (set w (get_or order m 0) (r.port % 65536)) (m + 1) (set at r.port m)
       walking_entered {at} long E =
           let l : r.port < 65536 = omega (arith, walking_port) in
-          rw (mod-eq_of_lt l) (entered_more v m r.port (omega (arith, P.pads.few)) (omega (arith, walking_port)) E
+          rw (mod-eq_of_lt l) (entered_more v m r.port (omega (arith, P.few)) (omega (arith, walking_port)) E
           (store_other lists w room m inside r.port) here)
+
+-- In a turn of the walk, on the board with costs C: the port chosen is small, and the way goes on with it.
+module _ {l : Lists} (P : ProperBoard l) {C : ℕ → ℕ → Least} {ms : List ℕ} {c k : ℕ} (X : Placeable l C ms c k) (w₀ : List ℕ) {w : List ℕ} {m all_ways rest : ℕ}
+    (W : Walking (costed l C) l.order.now w₀ k w m all_ways rest) (room : length l.order.now ≤ length w) (inside : m < length l.order.now) {r : Picked}
+    (chosen : Choosable l C ms w m all_ways → ChosenIs (costed l C) l.order.now w m rest r) where
+  choice : ChosenIs (costed l C) l.order.now w m rest r
+  choice = chosen (record { sets = X.sets; begun = W.begun; all = W.count })
+
+  pub turn_port : r.port < 64
+  turn_port = walking_port (square_pads l P.square) P.arranged X.sets.marked.listed X.solvable w₀ k w m all_ways rest W room inside r choice
+
+  pub turn_more : Walking (costed l C) l.order.now w₀ k (set w (get_or l.order.now m 0) (r.port % 65536)) (m + 1) r.ways r.rest
+  turn_more = walking_more (square_pads l P.square) P.arranged X.sets.marked.listed X.solvable w₀ k w m all_ways rest W room inside r choice
+
+  pub turn_entered : {at : List ℕ} → length at ≡ 128 → Entered l.order.now w m at
+      → Entered l.order.now (set w (get_or l.order.now m 0) (r.port % 65536)) (m + 1) (set at r.port m)
+  turn_entered long E = walking_entered (square_pads l P.square) P.arranged X.sets.marked.listed X.solvable w₀ k w m all_ways rest W room inside r choice long E

@@ -3,9 +3,9 @@ use mathlib.Core.Path.{◌≡◌, refl, ap, ◌∙◌}
 use mathlib.Core.List.{List}
 use Prim.Native.Nat.{ℕ, ◌+◌, ◌-◌, ◌≤◌, ◌<◌, zero-le}
 use native.Mathlib.Omega.{arith}
-use lib.ListN.{length}
+use lib.ListN.{length, get_or}
 use Rattle.strips.proofs.Lists.{keep_same}
-use Rattle.strips.specs.Least.{some}
+use Rattle.strips.specs.Least.{Least, some}
 use Rattle.strips.proofs.Least.{at_most_is}
 use Rattle.strips.specs.Grid.{Grid, best}
 use Rattle.strips.proofs.Strips.{sound}
@@ -14,13 +14,19 @@ use Rattle.strips.proofs.Prefix.{lies_yes}
 use Rattle.strips.specs.FirstNext.{Listed}
 use Rattle.ways.specs.Count.{many}
 use Rattle.ways.proofs.Ranks.{count_is, count_one}
-use Rattle.totals.specs.Cell.{grid_of}
+use Rattle.numbers.specs.Arrangement.{Arrangement}
+use Rattle.pads.specs.Pads.{Pads, sides_of}
+use Rattle.totals.specs.Strip.{grid}
+use Rattle.pads.specs.declared.Lists.{Lists}
+use Rattle.totals.specs.Cell.{corner_of, place}
+use Rattle.totals.proofs.Corners.{place-listed}
 use Rattle.choices.specs.Lists.{distinct}
-use Rattle.counting.specs.Counting.{limit, capped, ProperBoard, Solvable, pads_from, Solved, StripCount, CountIs, Walkable, WalkIs, FoundIs, PastIs, AboveIs}
+use Rattle.counting.specs.Counting.{limit, capped, costed, SetsOf, CountOf, Countable, Ready, Solvable, pads_from, Solved, StripCount, CountIs, Walkable, Placeable, WalkIs, FoundIs, PastIs, AboveIs}
 
 -- A proper board is one that the theory of strips speaks of.
-pub listed : {order lo hi : List ℕ} → ProperBoard order lo hi → (cs bs : List ℕ) → Listed (grid_of order cs bs lo hi) (length order) order
-listed P cs bs = record { lawful = P.pads.level; distinct = distinct P.arranged; lie = λ j m. record { low = zero-le; high = P.pads.top j } }
+pub listed : {order lo hi : List ℕ} → Pads order lo hi (length order) → Arrangement (length order) order → (C : ℕ → ℕ → Least)
+    → Listed (grid (sides_of lo hi) C) (length order) order
+listed P A C = record { lawful = P.level; distinct = distinct A; lie = λ j m. record { low = zero-le; high = P.top j } }
 
 module _ {B : Grid} {order : List ℕ} (L : Listed B (length order) order) (S : Solvable B order) where
   pub some_best : (u : ℕ) × (best B order 0 (length order) ≡ some u)
@@ -52,6 +58,28 @@ module _ {B : Grid} {order : List ℕ} (L : Listed B (length order) order) (S : 
     told = N.is 0 zero-le full ∙ ap (λ (js : List ℕ). capped (many B (length order) js 0 (length order))) all_pads;
   }
 
+-- The front of a lent buffer that is ready has the board's sets: ..
+pub ready_sets : {l : Lists} {C : ℕ → ℕ → Least} {bf ms : List ℕ} → Ready l C bf → length ms ≡ corner_of (length l.order.now + 1)
+    → ((i : ℕ) → i < corner_of (length l.order.now + 1) → get_or ms i 0 ≡ get_or bf i 0) → SetsOf (costed l C) l.order.now ms
+ready_sets {l} R long same = record {
+  long = long;
+  marked = record {
+    listed = R.marked.listed;
+    led = λ a b h O. rw (same (place a b) (place-listed a b (length l.order.now) O.low O.high)) (R.marked.led a b h O);
+  };
+}
+
+-- .. the whole can be counted, and its number is the count.
+module _ {l : Lists} {C : ℕ → ℕ → Least} {bf ms : List ℕ} (R : Ready l C bf) (S : SetsOf (costed l C) l.order.now ms) where
+  all_solved : Solved (costed l C) l.order.now 0 (length l.order.now)
+  all_solved = whole_solved R.marked.listed R.solvable
+
+  pub ready_countable : Countable ms 0 (length l.order.now)
+  ready_countable = record { board = _; order = l.order.now; sets = S; solved = all_solved }
+
+  pub ready_count : (c : ℕ) → CountOf ms 0 (length l.order.now) c → CountIs (costed l C) l.order.now c
+  ready_count c N = whole_count R.marked.listed R.solvable c (N (costed l C) l.order.now S all_solved)
+
 -- ---- what is told of the count
 
 module _ {B : Grid} {order : List ℕ} (c : ℕ) (N : CountIs B order c) where
@@ -81,3 +109,8 @@ module _ {B : Grid} {order : List ℕ} (c : ℕ) (N : CountIs B order c) where
       at = W.at;
       kept = W.kept;
     }
+
+-- So there is a layout at each place below it.
+pub count_placeable : {l : Lists} {C : ℕ → ℕ → Least} {bf ms : List ℕ} → Ready l C bf → SetsOf (costed l C) l.order.now ms → (c : ℕ)
+    → CountIs (costed l C) l.order.now c → (c ≡ limit + 1 → ⊥) → (k : ℕ) → k < c → Placeable l C ms c k
+count_placeable R S c N exact k h = record { sets = S; solvable = R.solvable; walkable = count_walkable c N exact k R.marked.listed R.solvable h }

@@ -1,8 +1,9 @@
 -- What counting is about, and what it promises. `order` has the record numbers, rightmost pad first, and B is their board, with as many ports as pads.
-use Rattle.std.specs.Prelude.{◌≡◌, List, ℕ, ◌+◌, ◌-◌, ◌*◌, ◌≤◌, ◌<◌, min, length, get_or, take, drop}
+-- The code has the sets of the ports that lead each strip, and no figures: what it says holds on every board that the sets mark.
+use Rattle.std.specs.Prelude.{◌≡◌, List, ℕ, ◌+◌, ◌-◌, ◌*◌, ◌≤◌, ◌<◌, min, length, get_or, take, drop, bit_and, Option, MatchOption, Result, Ok, Err}
+use lib.Count.{count_trailing_zeros}
 use Rattle.numbers.specs.Arrangement.{Arrangement}
 use Rattle.numbers.specs.Kept.{KeptFrom}
-use Rattle.strips.specs.Least.{some}
 use Rattle.strips.specs.Lists.{keep}
 use Rattle.strips.specs.Grid.{Grid, Sol, best}
 use Rattle.strips.specs.Prefix.{lies}
@@ -11,12 +12,15 @@ use Rattle.strips.specs.ByPlace.{sum_to}
 use Rattle.ways.specs.Tree.{ways, ways_at}
 use Rattle.ways.specs.Count.{may_take, many, many_at}
 use Rattle.ways.specs.Place.{AtPlace, HowMany}
-use Rattle.pads.specs.Pads.{Pads}
-use Rattle.totals.specs.Cell.{grid_of, corner_of, place, FullFrom, Leads, Marks}
+use Rattle.strips.specs.Least.{Least, some}
+use Rattle.pads.specs.declared.Lists.{Lists}
+use Rattle.pads.specs.Sides.{sides, Square}
+use Rattle.totals.specs.Strip.{grid}
+use Rattle.totals.specs.Cell.{corner_of, place, FullFrom, Leads, Marks}
 use Rattle.places.specs.Places.{port_in}
 use Rattle.counting.specs.declared.Picked.{Picked}
-use Rattle.counting.specs.declared.Reply.{Reply}
-use Rattle.counting.specs.declared.Reply.TheVariants.{Found, Past, TooMany}
+use Rattle.counting.specs.declared.NoPlace.{NoPlace}
+use Rattle.counting.specs.declared.NoPlace.TheVariants.{TooMany, Past}
 
 -- Counts are exact up to this.
 abbrev pub limit : ℕ
@@ -30,10 +34,19 @@ capped c = min c (limit + 1)
 abbrev pub not_yet : ℕ
 not_yet = 4611686018427387904
 
--- A proper board: 64 pads at most, each listed once, and as many ports.
-pub record ProperBoard (order lo hi : List ℕ) : Type 0 where
-  pub pads : Pads order lo hi (length order)
-  pub arranged : Arrangement (length order) order
+-- The least port of a set, and the set of the others: binary digit q is for port q.
+abbrev pub FirstPort : ℕ → Option ℕ → ℕ → Type 0
+FirstPort set r rest =
+    MatchOption r ((set ≡ 0) × (rest ≡ 0)) (λ q. (set ≡ 0 → ⊥) × (q ≡ count_trailing_zeros 64 set) × (rest ≡ bit_and set (set - 1)))
+
+-- The lists of a proper board: each pad is listed once, and there are as many ports.
+pub record ProperBoard (l : Lists) : Type 0 where
+  pub square : Square l
+  pub arranged : Arrangement (length l.order.now) l.order.now
+
+-- Their board, where pad j costs C j q with port q.
+abbrev pub costed : Lists → (ℕ → ℕ → Least) → Grid
+costed l C = grid (sides l) C
 
 module _ (B : Grid) (order : List ℕ) where
   -- The board has a layout.
@@ -147,51 +160,75 @@ module _ (B : Grid) (order : List ℕ) where
     pub above : limit < number
     pub same : v ≡ w
 
-  abbrev pub PlaceIs : List ℕ → ℕ → List ℕ → Reply → Type 0
-  PlaceIs w k v Found = FoundIs w k v
-  PlaceIs w k v Past = PastIs w k v
-  PlaceIs w k v TooMany = AboveIs w v
+  abbrev pub PlaceIs : List ℕ → ℕ → List ℕ → Result (Unit {0}) NoPlace → Type 0
+  PlaceIs w k v (Ok _) = FoundIs w k v
+  PlaceIs w k v (Err Past) = PastIs w k v
+  PlaceIs w k v (Err TooMany) = AboveIs w v
 
--- The lent buffer has a set of ports for each strip, and after these, from base on, a number: how many best layouts the strip has, or that it is not counted
--- yet. A number is right on every board that the sets mark, ..
-abbrev pub CountOf : List ℕ → ℕ → ℕ → ℕ → ℕ → Type 0
-CountOf ms n a b c = (B : Grid) (order : List ℕ) → length order ≡ n → Marked B order ms → Solved B order a b → StripCount B order a b c
+-- The sets of ports of a board: one for each strip.
+pub record SetsOf (B : Grid) (order ms : List ℕ) : Type 0 where
+  pub long : length ms ≡ corner_of (length order + 1)
+  pub marked : Marked B order ms
+
+-- Beside the sets there is a number for each strip, in the same order: how many best layouts the strip has, or that it is not counted yet. A number is right on
+-- every board that the sets mark, ..
+abbrev pub CountOf : List ℕ → ℕ → ℕ → ℕ → Type 0
+CountOf ms a b c = (B : Grid) (order : List ℕ) → SetsOf B order ms → Solved B order a b → StripCount B order a b c
 
 -- .. and to be counted, a strip has a layout on one of them.
-pub record Countable (ms : List ℕ) (n a b : ℕ) : Type 0 where
+pub record Countable (ms : List ℕ) (a b : ℕ) : Type 0 where
   pub board : Grid
   pub order : List ℕ
-  pub long : length order ≡ n
-  pub marked : Marked board order ms
+  pub sets : SetsOf board order ms
   pub solved : Solved board order a b
 
--- Such numbers, of n ports. A strip of no ports has one layout.
-pub record Numbers (n : ℕ) (bf : List ℕ) : Type 0 where
-  pub few : n ≤ 64
-  pub room : corner_of (n + 1) + corner_of (n + 1) ≤ length bf
-  pub small : (a b : ℕ) → a ≤ b → b ≤ n → get_or bf (corner_of (n + 1) + place a b) 0 ≤ not_yet
-  pub right : (a b : ℕ) → a ≤ b → b ≤ n → get_or bf (corner_of (n + 1) + place a b) 0 < not_yet → CountOf bf n a b (get_or bf (corner_of (n + 1) + place a b) 0)
-  pub empty : (b : ℕ) → b ≤ n → get_or bf (corner_of (n + 1) + place b b) 0 ≡ 1
-
--- The sets of ports are kept.
-pub record SamePorts (n : ℕ) (before after : List ℕ) : Type 0 where
-  pub long : length after ≡ length before
-  pub early : (i : ℕ) → i < corner_of (n + 1) → get_or after i 0 ≡ get_or before i 0
-
--- The sets and the numbers of the board that the lists have.
-pub record Buffer (order cs bs lo hi bf : List ℕ) : Type 0 where
-  pub marked : Marked (grid_of order cs bs lo hi) order bf
-  pub numbers : Numbers (length order) bf
-
--- The first i numbers are forgotten, and the sets are kept.
-pub record Cleared (base i : ℕ) (before after : List ℕ) : Type 0 where
-  pub long : length after ≡ length before
-  pub early : (k : ℕ) → k < base → get_or after k 0 ≡ get_or before k 0
-  pub blank : (k : ℕ) → k < i → get_or after (base + k) 0 ≡ not_yet
+-- Such sets, of 64 ports at most, and numbers. A strip of no ports has one layout.
+pub record Numbers (ms ns : List ℕ) : Type 0 where
+  pub few : length ms ≤ 2145
+  pub room : length ms ≤ length ns
+  pub small : (a b : ℕ) → a ≤ b → place a b < length ms → get_or ns (place a b) 0 ≤ not_yet
+  pub right : (a b : ℕ) → a ≤ b → place a b < length ms → get_or ns (place a b) 0 < not_yet → CountOf ms a b (get_or ns (place a b) 0)
+  pub empty : (b : ℕ) → place b b < length ms → get_or ns (place b b) 0 ≡ 1
 
 -- The first n strips of no ports have the number 1, and all else is kept.
-pub record EmptyKept (base n : ℕ) (before after : List ℕ) : Type 0 where
+pub record EmptyKept (n : ℕ) (before after : List ℕ) : Type 0 where
   pub long : length after ≡ length before
-  pub early : (k : ℕ) → k < base → get_or after k 0 ≡ get_or before k 0
-  pub ones : (b : ℕ) → b < n → get_or after (base + place b b) 0 ≡ 1
-  pub others : (a b : ℕ) → a < b → get_or after (base + place a b) 0 ≡ get_or before (base + place a b) 0
+  pub ones : (b : ℕ) → b < n → get_or after (place b b) 0 ≡ 1
+  pub others : (a b : ℕ) → a < b → get_or after (place a b) 0 ≡ get_or before (place a b) 0
+
+-- What is asked of a board with these lists: the buffer has the sets of a board that has a layout.
+pub record Ready (l : Lists) (C : ℕ → ℕ → Least) (bf : List ℕ) : Type 0 where
+  pub marked : Marked (costed l C) l.order.now bf
+  pub solvable : Solvable (costed l C) l.order.now
+
+-- The buffer of n ports has the sets that it had, and right numbers.
+pub record Buffer (n : ℕ) (before after : List ℕ) : Type 0 where
+  pub sets : take (corner_of (n + 1)) after ≡ take (corner_of (n + 1)) before
+  pub numbers : Numbers (take (corner_of (n + 1)) after) (drop (corner_of (n + 1)) after)
+
+-- A pad of a board, by its place.
+pub record Site : Type 0 where
+  pub board : Grid
+  pub order : List ℕ
+  pub place : ℕ
+
+-- The pad is the rightmost of the strip a .. b - 1, each layout of which goes with `others` of the rest, and place k is one of these layouts'.
+pub record Pickable (ms : List ℕ) (a b others k : ℕ) (s : Site) : Type 0 where
+  pub sets : SetsOf s.board s.order ms
+  pub full : FullFrom s.board s.order s.place a b
+  pub solved : Solved s.board s.order a b
+  pub some : 0 < others
+  pub inside : k < sum_to (number_with s.board s.order s.place a b others) b
+  pub few : sum_to (number_with s.board s.order s.place a b others) b ≤ limit
+
+-- On the board with costs C the pads before place m have the ports that w gives them, and `ways` best layouts go on from there.
+pub record Choosable (l : Lists) (C : ℕ → ℕ → Least) (ms w : List ℕ) (m ways : ℕ) : Type 0 where
+  pub sets : SetsOf (costed l C) l.order.now ms
+  pub begun : Begun (costed l C) l.order.now w m
+  pub all : ways ≡ ways_from (costed l C) l.order.now w m
+
+-- The board with costs C has c best layouts, and one at place k.
+pub record Placeable (l : Lists) (C : ℕ → ℕ → Least) (ms : List ℕ) (c k : ℕ) : Type 0 where
+  pub sets : SetsOf (costed l C) l.order.now ms
+  pub solvable : Solvable (costed l C) l.order.now
+  pub walkable : Walkable (costed l C) l.order.now c k

@@ -1,18 +1,19 @@
-// How many best layouts there are, and the layout at any place of their order, over plain numbers, for as many ports as pads:
-// `order` has the record numbers, rightmost pad first; `lo` and `hi` say how many ports lie below a pad, and how many at its
-// height or below.
+// How many best layouts there are, and the layout at any place of their order, over plain numbers, for as many ports as pads.
 // `buffer` is lent. It has for each strip, in the table's order, the ports that lead its rightmost pad in a best layout, as a
-// set: binary digit q for port q. After these it has a number for each strip, in the same order: how many best layouts the
-// strip's pads have in it, or NOT_YET. A number above 10^18 is told by MOST, the first of them.
-// `cost` and `bars`, n × n entries by pad and port, are in the contracts alone: the sets say all that is read of them.
+// set: binary digit q for port q. After these `sets` come the `numbers`, one for each strip, in the same order: how many best
+// layouts the strip's pads have in it, or NOT_YET. A number above 10^18 is told by MOST, the first of them.
+// The sets say all that is read of what a pad costs with a port: the contracts speak of any costs C that have these sets.
 #![tactic(auto)]
 
 ghost use Rattle.std.specs.Prelude.{◌≡◌, ℕ, ◌+◌, ◌*◌, ◌≤◌, ◌<◌, length};
-ghost use Rattle.strips.specs.ByPlace.{sum_to};
-ghost use Rattle.totals.specs.Cell.{grid_of, corner_of, FullFrom};
+ghost use Rattle.std.specs.Iterator.{at_most};
+ghost use Rattle.strips.specs.Least.{Least};
+ghost use Rattle.totals.specs.Cell.{corner_of};
 ghost use Rattle.places.specs.Places.{Placed};
-ghost use Rattle.counting.specs.Counting.{limit, capped, ProperBoard, Solvable, Solved, Marked, CountOf, Countable, Numbers, SamePorts, Buffer, Cleared, EmptyKept, CountIs};
-ghost use Rattle.counting.specs.Counting.{number_with, ways_from, Begun, PickedIs, ChosenIs, Walkable, WalkIs, PlaceIs};
+ghost use Rattle.counting.specs.Counting.{limit, capped, FirstPort, ProperBoard, costed, CountOf, Countable, Numbers, EmptyKept, Ready, Buffer, CountIs};
+ghost use Rattle.counting.specs.Counting.{Site, Pickable, PickedIs, Choosable, ChosenIs, Placeable, WalkIs, PlaceIs};
+
+use pads::Lists;
 
 // A port, how many layouts have it after the ports chosen before, and the place among these.
 #[derive(Clone, Copy)]
@@ -22,14 +23,14 @@ pub struct Picked {
     pub ways: u64,
 }
 
-// What comes of asking for a place: its layout; or it is not below the count; or the count is above the limit.
-#[derive(Clone, Copy)]
-pub enum Reply {
-    Found,
-    Past,
+// Why no layout stands at a place: the count is above the limit; or the place is not below the count.
+#[derive(Clone, Copy, Debug, PartialEq, Eq)]
+pub enum NoPlace {
     TooMany,
+    Past,
 }
 
+// Stays: what the lent buffer holds are plain numbers, so that these two say what they do by their size.
 const MOST: u64 = 1000000000000000001;
 
 const NOT_YET: u64 = 4611686018427387904;
@@ -37,21 +38,32 @@ const NOT_YET: u64 = 4611686018427387904;
 // Two numbers that have less than this together are multiplied, and up to 64 products added, without a look at MOST.
 const SMALL: u64 = 400000000;
 
-// A number up to MOST.
-fn told(x: u64) -> u64
-    ensures { result ≡ capped x }
-{
-    if x < MOST { x } else { MOST }
+// The ports of a set, in rising order.
+#[derive(Drop)]
+struct Ports(u64);
+
+impl Iterator for Ports {
+    type Item = usize;
+
+    ghost next_gives = { λ s r t. FirstPort s.0 r t.0 };
+
+    ghost remaining = { λ s. at_most s.0 };
+
+    fn next(&mut self) -> Option<usize> {
+        if self.0 == 0 {
+            return None;
+        }
+        let q = self.0.trailing_zeros() as usize;
+        self.0 &= self.0 - 1;
+        Some(q)
+    }
 }
 
-// The product, up to MOST: a quotient tells whether it comes that far, before anything can overflow.
+// The product, up to MOST.
 fn times(x: u64, y: u64) -> u64
     ensures { result ≡ capped (x * y) }
 {
-    if x == 0 {
-        return 0;
-    }
-    if MOST / x < y { MOST } else { x * y }
+    x.saturating_mul(y).min(MOST)
 }
 
 // Where the numbers of n pads begin in the buffer: after the sets.
@@ -63,253 +75,184 @@ fn base_of(n: usize) -> usize
 }
 
 // Counts the best layouts of the strip a .. b - 1, and keeps the number: with the strip's rightmost pad on a port that leads
-// it, they are those of the part below the pad's arm, each with each of those of the part above.
-fn count_strip(buffer: &mut [u64], n: usize, base: usize, a: usize, b: usize) -> u64
-    requires numbers { Numbers n buffer.old × (base ≡ corner_of (n + 1)) × (a < b) }
-    requires countable { Countable buffer.old n a b }
-    ensures count_of { CountOf buffer.old n a b result × (result ≤ limit + 1) }
-    ensures numbers_2 { Numbers n buffer.new × SamePorts n buffer.old buffer.new }
+// it, they are those of the part below the pad's arm, each with each of those of the part above. What is called is this, so that
+// a part whose number is kept takes no call.
+#[inline(never)]
+#[cycle(strips)]
+fn count_strip(sets: &[u64], numbers: &mut [u64], a: usize, b: usize) -> u64
+    requires numbers { Numbers sets.now numbers.old × (a < b) }
+    requires countable { Countable sets.now a b }
+    ensures count_of { CountOf sets.now a b result × (result ≤ limit + 1) }
+    ensures numbers_2 { Numbers sets.now numbers.new }
 {
-    let i = totals::corner(b) + a;
-    let above = base + totals::corner(b) + 1;
-    let mut rest = buffer[i];
+    let corner = totals::corner(b);
     let mut sum: u64 = 0;
-    while rest != 0 {
-        let q = u64::trailing_zeros(rest) as usize;
-        rest = rest & (rest - 1);
-        let mut under = buffer[base + totals::corner(q) + a];
-        let mut over = buffer[above + q];
+    for q in Ports(sets[corner + a]) {
+        let under = numbers[totals::corner(q) + a];
+        let over = numbers[corner + q + 1];
         if under + over < SMALL {
             sum += under * over;
         } else {
-            if under == NOT_YET {
-                under = count_strip(buffer, n, base, a, q);
-            }
-            if over == NOT_YET {
-                over = count_strip(buffer, n, base, q + 1, b);
-            }
-            sum = told(told(sum) + times(under, over));
+            let under = number(sets, numbers, a, q);
+            let over = number(sets, numbers, q + 1, b);
+            sum = (sum.min(MOST) + times(under, over)).min(MOST);
             if sum == MOST {
                 // more layouts change nothing
                 break;
             }
         }
     }
-    sum = told(sum);
-    buffer[base + i] = sum;
+    sum = sum.min(MOST);
+    numbers[corner + a] = sum;
     sum
 }
 
 // How many best layouts the strip a .. b - 1 has: the number kept for it, or it is counted.
-fn number(buffer: &mut [u64], n: usize, base: usize, a: usize, b: usize) -> u64
-    requires numbers { Numbers n buffer.old × (base ≡ corner_of (n + 1)) }
-    requires countable { Countable buffer.old n a b }
-    ensures count_of { CountOf buffer.old n a b result × (result ≤ limit + 1) }
-    ensures numbers_2 { Numbers n buffer.new × SamePorts n buffer.old buffer.new }
+#[cycle(strips)]
+fn number(sets: &[u64], numbers: &mut [u64], a: usize, b: usize) -> u64
+    requires numbers { Numbers sets.now numbers.old }
+    requires countable { Countable sets.now a b }
+    ensures count_of { CountOf sets.now a b result × (result ≤ limit + 1) }
+    ensures numbers_2 { Numbers sets.now numbers.new }
 {
-    let k = buffer[base + totals::corner(b) + a];
-    if k < NOT_YET {
-        return k;
+    let kept = numbers[totals::corner(b) + a];
+    if kept == NOT_YET {
+        return count_strip(sets, numbers, a, b);
     }
-    count_strip(buffer, n, base, a, b)
-}
-
-// Forgets the numbers, of as many strips as there are sets, and keeps the sets.
-fn clear(buffer: &mut [u64], base: usize)
-    requires { (base ≤ 2145) × (base + base ≤ length buffer.old) }
-    ensures { Cleared base base buffer.old buffer.new }
-{
-    let mut i = 0;
-    while i < base {
-        buffer[base + i] = NOT_YET;
-        i += 1;
-    }
+    kept
 }
 
 // Keeps the number of each strip of no ports, among those of n ports: it has one layout.
-fn keep_empty(buffer: &mut [u64], base: usize, n: usize)
-    requires { (n ≤ 64) × (base ≡ corner_of (n + 1)) × (base + base ≤ length buffer.old) }
-    ensures { EmptyKept base (n + 1) buffer.old buffer.new }
+fn keep_empty(numbers: &mut [u64], n: usize)
+    requires { (n ≤ 64) × (corner_of (n + 1) ≤ length numbers.old) }
+    ensures { EmptyKept (n + 1) numbers.old numbers.new }
 {
-    let mut b = 0;
-    let mut at = base;
-    while b <= n {
-        buffer[at] = 1;
-        b += 1;
-        at += b + 1;
+    let mut at = 0;
+    for b in 0..n + 1 {
+        numbers[at] = 1;
+        at += b + 2;
     }
 }
 
-// The number of best layouts, up to MOST. What the buffer held after the sets is not read.
-pub fn count(
-    order: &[u8],
-    cost: &[u32],
-    bars: &[u8],
-    lo: &[u8],
-    hi: &[u8],
-    buffer: &mut [u64],
-) -> u64
-    requires proper_board { ProperBoard order.now lo.now hi.now }
-    requires marked { Marked (grid_of order.now cost.now bars.now lo.now hi.now) order.now buffer.old }
-    requires solvable { Solvable (grid_of order.now cost.now bars.now lo.now hi.now) order.now }
-    requires order_in_bounds { 2 * ((length order.now + 2) * (length order.now + 2)) ≤ length buffer.old }
-    ensures count_is { CountIs (grid_of order.now cost.now bars.now lo.now hi.now)
-        order.now result }
-    ensures buffer { Buffer order.now cost.now bars.now lo.now hi.now buffer.new }
+// The number of all best layouts of n pads, up to MOST. What `numbers` held is not read.
+fn count_all(sets: &[u64], numbers: &mut [u64], n: usize) -> u64
+    requires room { (n ≤ 64) × (length sets.now ≡ corner_of (n + 1)) × (length sets.now ≤ length numbers.old) }
+    requires countable { Countable sets.now 0 n }
+    ensures count_of { CountOf sets.now 0 n result × (result ≤ limit + 1) }
+    ensures numbers_2 { Numbers sets.now numbers.new }
 {
-    let n = order.len();
-    let base = base_of(n);
-    clear(buffer, base);
-    keep_empty(buffer, base, n);
-    number(buffer, n, base, 0, n)
+    numbers[..sets.len()].fill(NOT_YET);
+    keep_empty(numbers, n);
+    number(sets, numbers, 0, n)
 }
 
-// The port of the strip a .. b - 1 on which place k falls, for its rightmost pad, at place m. The ports are gone through in
-// rising order, each with its layouts: those of the strip, each with each of `others` of the rest of the board.
-fn pick(
-    order: &[u8],
-    cost: &[u32],
-    bars: &[u8],
-    lo: &[u8],
-    hi: &[u8],
-    buffer: &mut [u64],
-    m: usize,
-    a: usize,
-    b: usize,
-    others: u64,
-    k: u64,
-) -> Picked
-    requires proper_board { ProperBoard order.now lo.now hi.now }
-    requires buffer { Buffer order.now cost.now bars.now lo.now hi.now buffer.old }
-    requires full_from { FullFrom (grid_of order.now cost.now bars.now lo.now hi.now) order.now m a b × (0 < others) }
-    requires solved { Solved (grid_of order.now cost.now bars.now lo.now hi.now) order.now a b }
-    requires k_bound { k < sum_to (number_with (grid_of order.now cost.now bars.now lo.now hi.now) order.now m a b others) b }
-    requires b_bound { sum_to (number_with (grid_of order.now cost.now bars.now lo.now hi.now) order.now m a b others) b ≤ limit }
-    ensures picked_is { PickedIs (grid_of order.now cost.now bars.now lo.now hi.now)
-        order.now m a b others k result }
-    ensures buffer_2 { Buffer order.now cost.now bars.now lo.now hi.now buffer.new }
+// The number of best layouts, up to MOST. What the buffer held after the sets is not read.
+pub fn count(l: &Lists, buffer: &mut [u64]) -> u64
+    requires ready { (C : ℕ → ℕ → Least) × Ready l.now C buffer.old }
+    requires room { 2 * ((length l.now.order.now + 2) * (length l.now.order.now + 2)) ≤ length buffer.old }
+    ensures count_is { (C : ℕ → ℕ → Least) → Ready l.now C buffer.old → CountIs (costed l.now C) l.now.order.now result }
+    ensures buffer { Buffer (length l.now.order.now) buffer.old buffer.new }
 {
-    let n = order.len();
+    let n = l.order.len();
     let base = base_of(n);
-    let mut left = buffer[totals::corner(b) + a];
+    let (sets, numbers) = buffer.split_at_mut(base);
+    count_all(sets, numbers, n)
+}
+
+// The port of the strip a .. b - 1 on which place k falls, for its rightmost pad. The ports are gone through in rising order,
+// each with its layouts: those of the strip, each with each of `others` of the rest of the board.
+fn pick(sets: &[u64], numbers: &mut [u64], a: usize, b: usize, others: u64, k: u64) -> Picked
+    requires numbers { Numbers sets.now numbers.old }
+    requires pickable { (s : Site) × Pickable sets.now a b others k s }
+    ensures picked_is { (s : Site) → Pickable sets.now a b others k s → PickedIs s.board s.order s.place a b others k result }
+    ensures numbers_2 { Numbers sets.now numbers.new }
+{
     let mut rest = k;
-    while left != 0 {
-        let q = u64::trailing_zeros(left) as usize;
-        left = left & (left - 1);
-        let under = number(buffer, n, base, a, q);
-        let over = number(buffer, n, base, q + 1, b);
+    for q in Ports(sets[totals::corner(b) + a]) {
+        let under = number(sets, numbers, a, q);
+        let over = number(sets, numbers, q + 1, b);
         let ways = others * (under * over);
         if rest < ways {
             return Picked {
                 port: q,
-                rest: rest,
-                ways: ways,
+                rest,
+                ways,
             };
         }
         rest -= ways;
     }
-    // never: k is below the sum over all ports
-    Picked {
-        port: b,
-        rest: 0,
-        ways: 0,
-    }
+    // k is below the sum over all ports
+    unreachable!()
 }
 
 // The port on which place k falls, of the `ways` layouts that go on from the ports that w gives to the pads before place m.
 // They are those of the pad's strip, each with each of the rest of the board, so that a quotient has the number of the rest.
 fn choose(
-    order: &[u8],
-    cost: &[u32],
-    bars: &[u8],
-    lo: &[u8],
-    hi: &[u8],
-    buffer: &mut [u64],
+    l: &Lists,
+    sets: &[u64],
+    numbers: &mut [u64],
     w: &[u16],
     at: &[u8],
     m: usize,
     ways: u64,
     k: u64,
 ) -> Picked
-    requires proper_board { ProperBoard order.now lo.now hi.now }
-    requires buffer { Buffer order.now cost.now bars.now lo.now hi.now buffer.old }
-    requires m_in_bounds { (m < length order.now) × Begun (grid_of order.now cost.now bars.now lo.now hi.now) order.now w.now m }
-    requires placed { Placed order.now w.now m at.now × (ways ≡ ways_from (grid_of order.now cost.now bars.now lo.now hi.now) order.now w.now m) }
-    requires ways_le_limit { (ways ≤ limit) × (k < ways) }
-    ensures chosen_is { ChosenIs (grid_of order.now cost.now bars.now lo.now hi.now)
-        order.now w.now m k result }
-    ensures buffer_2 { Buffer order.now cost.now bars.now lo.now hi.now buffer.new }
+    requires proper_board { ProperBoard l.now }
+    requires numbers { Numbers sets.now numbers.old }
+    requires placed { (m < length l.now.order.now) × Placed l.now.order.now w.now m at.now }
+    requires choosable { (C : ℕ → ℕ → Least) × Choosable l.now C sets.now w.now m ways }
+    requires ways_bound { (ways ≤ limit) × (k < ways) }
+    ensures chosen_is { (C : ℕ → ℕ → Least) → Choosable l.now C sets.now w.now m ways → ChosenIs (costed l.now C) l.now.order.now w.now m k result }
+    ensures numbers_2 { Numbers sets.now numbers.new }
 {
-    let n = order.len();
-    let j = order[m] as usize;
+    let j = l.order[m] as usize;
     let before = m as u8;
-    let a = places::low(at, lo[j] as usize, before);
-    let b = places::high(at, hi[j] as usize, before, n);
-    let here = number(buffer, n, base_of(n), a, b);
+    let a = places::low(at, l.lo[j] as usize, before);
+    let b = places::high(at, l.hi[j] as usize, before, l.order.len());
+    let here = number(sets, numbers, a, b);
     let others = ways / here;
-    pick(order, cost, bars, lo, hi, buffer, m, a, b, others, k)
+    pick(sets, numbers, a, b, others, k)
 }
 
-// The layout at place k of the c best layouts, from the rightmost pad on.
-fn walk(
-    order: &[u8],
-    cost: &[u32],
-    bars: &[u8],
-    lo: &[u8],
-    hi: &[u8],
-    buffer: &mut [u64],
-    out: &mut [u16],
-    c: u64,
-    k: u64,
-)
-    requires proper_board { ProperBoard order.now lo.now hi.now × (length order.now ≤ length out.old) }
-    requires buffer { Buffer order.now cost.now bars.now lo.now hi.now buffer.old }
-    requires solvable { Solvable (grid_of order.now cost.now bars.now lo.now hi.now) order.now }
-    requires walkable { Walkable (grid_of order.now cost.now bars.now lo.now hi.now) order.now c k }
-    ensures { WalkIs (grid_of order.now cost.now bars.now lo.now hi.now)
-        order.now out.old k out.new }
+// The layout at place k of the c best layouts, from the rightmost pad on. Its room is not to be added to that of the caller.
+// Stays: of a port that none has `at` says 64, as in `steps`.
+#[inline(never)]
+fn walk(l: &Lists, sets: &[u64], numbers: &mut [u64], out: &mut [u16], c: u64, k: u64)
+    requires proper_board { ProperBoard l.now × (length l.now.order.now ≤ length out.old) }
+    requires numbers { Numbers sets.now numbers.old }
+    requires placeable { (C : ℕ → ℕ → Least) × Placeable l.now C sets.now c k }
+    ensures { (C : ℕ → ℕ → Least) → Placeable l.now C sets.now c k → WalkIs (costed l.now C) l.now.order.now out.old k out.new }
 {
     let mut at = [64u8; 128];
     let mut ways = c;
     let mut rest = k;
-    let mut m = 0;
-    while m < order.len() {
-        let j = order[m] as usize;
-        let p = choose(order, cost, bars, lo, hi, buffer, out, &at, m, ways, rest);
-        let port = p.port;
-        out[j] = (port % 65536) as u16;
-        at[port] = m as u8;
+    for m in 0..l.order.len() {
+        let j = l.order[m] as usize;
+        let p = choose(l, sets, numbers, out, &at, m, ways, rest);
+        out[j] = (p.port % 65536) as u16;
+        at[p.port] = m as u8;
         ways = p.ways;
         rest = p.rest;
-        m += 1;
     }
 }
 
 // The best layout at place k, counted from 0, without those before it. What the buffer held after the sets is not read.
-pub fn place(
-    order: &[u8],
-    cost: &[u32],
-    bars: &[u8],
-    lo: &[u8],
-    hi: &[u8],
-    buffer: &mut [u64],
-    out: &mut [u16],
-    k: u64,
-) -> Reply
-    requires proper_board { ProperBoard order.now lo.now hi.now × (length order.now ≤ length out.old) }
-    requires marked { Marked (grid_of order.now cost.now bars.now lo.now hi.now) order.now buffer.old }
-    requires solvable { Solvable (grid_of order.now cost.now bars.now lo.now hi.now) order.now }
-    requires order_in_bounds { 2 * ((length order.now + 2) * (length order.now + 2)) ≤ length buffer.old }
-    ensures { PlaceIs (grid_of order.now cost.now bars.now lo.now hi.now)
-        order.now out.old k out.new result }
+pub fn place(l: &Lists, buffer: &mut [u64], out: &mut [u16], k: u64) -> Result<(), NoPlace>
+    requires proper_board { ProperBoard l.now × (length l.now.order.now ≤ length out.old) }
+    requires ready { (C : ℕ → ℕ → Least) × Ready l.now C buffer.old }
+    requires room { 2 * ((length l.now.order.now + 2) * (length l.now.order.now + 2)) ≤ length buffer.old }
+    ensures { (C : ℕ → ℕ → Least) → Ready l.now C buffer.old → PlaceIs (costed l.now C) l.now.order.now out.old k out.new result }
 {
-    let c = count(order, cost, bars, lo, hi, buffer);
+    let n = l.order.len();
+    let base = base_of(n);
+    let (sets, numbers) = buffer.split_at_mut(base);
+    let c = count_all(sets, numbers, n);
     if c == MOST {
-        return Reply::TooMany;
+        return Err(NoPlace::TooMany);
     }
     if c <= k {
-        return Reply::Past;
+        return Err(NoPlace::Past);
     }
-    walk(order, cost, bars, lo, hi, buffer, out, c, k);
-    Reply::Found
+    walk(l, sets, numbers, out, c, k);
+    Ok(())
 }

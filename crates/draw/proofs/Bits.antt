@@ -1,25 +1,17 @@
 -- Numbers of the sheet in the machine: signed, 32 or 64 bits, and small. Assumes nothing.
 use mathlib.Core.Path.{◌≡◌}
-use Prim.Native.Nat.{ℕ, ◌^◌, ◌≤◌, ◌<◌}
+use Prim.Native.Nat.{◌^◌, ◌≤◌, ◌<◌}
 use native.Mathlib.Nat.{le_trans, lt_of_le_of_lt}
 use lib.Dec.{T, lit≤, le→leb, lt→ltb}
 use lib.IntN.{ℤ, pos, negsuc, nat_abs}
 use lib.Ieee.{binary32, in_float}
 use mir.Syntax.{Width}
-use mir.Val.{SFits, to_z, of_z, hbits}
-use mir.Facts.{to_z_pos}
-use Rattle.numbers.proofs.Bits.{fits, back}
+use mir.Val.{to_z, of_z, hbits}
+use Rattle.numbers.proofs.Bits.{back}
 
--- A width whose signed numbers go beyond 1,000,000 has each of the sheet.
-pub height_fits : (w : Width) → 1000000 < 2 ^ hbits w → (z : ℤ) → nat_abs z ≤ 1000000 → SFits w z
-height_fits w room z h = fits w z (lt_of_le_of_lt h room)
-
+-- In a width whose signed numbers go beyond 1,000,000 each number of the sheet is read back.
 pub height_back : (w : Width) → 1000000 < 2 ^ hbits w → (z : ℤ) → nat_abs z ≤ 1000000 → to_z w (of_z w z) ≡ z
 height_back w room z h = back w z (lt_of_le_of_lt h room)
-
--- An unsigned number cast to a signed one is itself.
-pub cast_back : (w : Width) → 1000000 < 2 ^ hbits w → (n : ℕ) → n ≤ 1000000 → to_z w n ≡ pos n
-cast_back w room n h = to_z_pos w (lt_of_le_of_lt h room)
 
 -- `f32` counts whole numbers up to 2 ^ 24 without a gap.
 counted : (z : ℤ) → nat_abs z ≤ 2 ^ 24 → T (in_float binary32 z)

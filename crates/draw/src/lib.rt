@@ -1,13 +1,13 @@
 // One leader for the canvas, in 32-bit floats, and its points in the list that a C program lends.
 #![tactic(auto)]
 
-ghost use Rattle.std.specs.Prelude.{◌≡◌, ◌≤◌, length, neg_ℤ, nat_abs};
+ghost use Rattle.std.specs.Prelude.{◌≡◌, ◌≤◌, length, nat_abs};
 ghost use Rattle.paper.specs.Canvas.{coordinates};
 ghost use Rattle.paper.specs.Promises.{overwritten};
 ghost use Rattle.paper.specs.laws.Quarter.{quarter};
 ghost use Rattle.paper.specs.laws.Drawn.{OnSheet, canvas, leader_drawn};
 
-use paper::{Drawn, Point, Three, Two};
+use paper::{Point, Polyline};
 
 // A quarter of a whole number: a quarter of a canvas unit is one job unit. Exact below 2^24. The number has 32 bits, and is
 // cast and multiplied alone: beside another the machine would multiply what the caller left in the register as well, which
@@ -20,28 +20,21 @@ fn quarter_of(v: i32) -> f32
     v as f32 * 0.25
 }
 
-// A height on the canvas, where y grows downward.
-fn downward(y: i32) -> i32
-    requires { nat_abs y ≤ 1000000 }
-    ensures { (result ≡ neg_ℤ y) × (nat_abs result ≤ 1000000) }
-{
-    -y
-}
-
-// The point (x, y) of the sheet on the canvas. The height is reversed before the cast: after it,
+// The point (x, y) of the sheet on the canvas, where y grows downward. The height is reversed before the cast: after it,
 // height 0 would be drawn as -0.
+#[tactic(auto, unfolding(paper::specs::laws::Drawn::canvas))]
 fn on_canvas(x: u32, y: i32) -> Point
     requires { (x ≤ 1000000) × (nat_abs y ≤ 1000000) }
     ensures { result ≡ canvas x y }
 {
-    let down = downward(y);
     Point {
         x: quarter_of(x as i32),
-        y: quarter_of(down),
+        y: quarter_of(-y),
     }
 }
 
 // A height of the sheet in 32 bits.
+// Stays: a height is cut to 32 bits, and From only widens.
 fn short(y: i64) -> i32
     requires { nat_abs y ≤ 1000000 }
     ensures { (result ≡ y) × (nat_abs result ≤ 1000000) }
@@ -50,40 +43,31 @@ fn short(y: i64) -> i32
 }
 
 // The leader of a pad (x, y) to a port of height q.
-pub fn lead(x: u32, y: i64, q: i64) -> Drawn
+pub fn lead(x: u32, y: i64, q: i64) -> Polyline
     requires { OnSheet (record { x = x; y = y; port = q }) }
-    ensures { result ≡ leader_drawn (record { x = x; y = y; port = q }) }
+    ensures { Ok result ≡ leader_drawn (record { x = x; y = y; port = q }) }
 {
     let pad = on_canvas(x, short(y));
     let port = on_canvas(0, short(q));
     if y == q {
-        Drawn::Straight(Two { pad, port })
+        Polyline::Straight { pad, port }
     } else {
         let bend = on_canvas(x, short(q));
-        Drawn::Bent(Three { pad, bend, port })
+        Polyline::Bent { pad, bend, port }
     }
 }
 
-// Writes the points' coordinates, x before y. A refusal has none.
-pub fn put(d: Drawn, out: &mut [f32])
-    requires { length (coordinates d) ≤ length out.old }
-    ensures { out.new ≡ overwritten (coordinates d) out.old }
+// Writes the points' coordinates, x before y.
+pub fn put(line: Polyline, out: &mut [f32])
+    requires { length (coordinates (Ok line)) ≤ length out.old }
+    ensures { out.new ≡ overwritten (coordinates (Ok line)) out.old }
 {
-    match d {
-        Drawn::Straight(p) => {
-            out[0] = p.pad.x;
-            out[1] = p.pad.y;
-            out[2] = p.port.x;
-            out[3] = p.port.y;
+    match line {
+        Polyline::Straight { pad, port } => {
+            out[..4].copy_from_slice(&[pad.x, pad.y, port.x, port.y]);
         }
-        Drawn::Bent(p) => {
-            out[0] = p.pad.x;
-            out[1] = p.pad.y;
-            out[2] = p.bend.x;
-            out[3] = p.bend.y;
-            out[4] = p.port.x;
-            out[5] = p.port.y;
+        Polyline::Bent { pad, bend, port } => {
+            out[..6].copy_from_slice(&[pad.x, pad.y, bend.x, bend.y, port.x, port.y]);
         }
-        Drawn::Refused(_) => {}
     }
 }

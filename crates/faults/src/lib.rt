@@ -1,15 +1,20 @@
-// The tests of the refusals at one record, or at two: each computes the test of its name in paper's laws/Tests.antt. Pads are read from their
-// records; ports from the bytes in which they stand, by the job's form.
+// The tests of the refusals at one record, or at two: each computes the test of its name in paper's laws/Tests.antt.
 #![tactic(auto)]
 
-ghost use Rattle.std.specs.Prelude.{◌≡◌, ◌≤◌, ◌<◌, ltb, length};
-ghost use Rattle.std.specs.Int.Signed.{mag};
-ghost use Rattle.paper.specs.Job.{count, last_of, port_count};
-ghost use Rattle.paper.specs.Layouts.{board_from, held};
-ghost use Rattle.paper.specs.Refusals.{work_needed, buffer_needed};
-ghost use Rattle.paper.specs.laws.Tests.{bad_size, bad_weight, bad_table, outside, bad_last, bad_field, bad_height, not_above, too_close, same_name, same_x, between, leaders_touch, meets, meets_large, records_touch, bad_number};
+mod leader;
 
-use paper::Form;
+ghost use Rattle.std.specs.Prelude.{◌≡◌, ◌≤◌, ◌<◌, ◌-◌, ◌&&◌, ltb, length, pos, ℤ, ◌-ℤ◌};
+ghost use Rattle.std.specs.Int.Signed.{mag, lt_z};
+ghost use Rattle.paper.specs.Job.{count, last_of, port_of};
+ghost use Rattle.paper.specs.Layouts.{held, leader};
+ghost use Rattle.paper.specs.Refusals.{work_needed, buffer_needed};
+ghost use Rattle.paper.specs.laws.Tests.{bad_size, bad_weight, outside, bad_last, bad_field, bad_height, not_above, too_close, between, leaders_touch, meets, meets_large, records_touch, bad_number};
+ghost use Rattle.job.specs.Board.{board_on, pads_on, ports_on};
+ghost use Rattle.faults.specs.Drawn.{leader_of, square_of};
+
+use job::Job;
+use leader::Leader;
+use paper::{Form, Weights};
 
 // 1: the byte count, of records of so many bytes.
 pub fn bad_size(one: usize, most: usize, bytes: &[u8]) -> bool
@@ -36,25 +41,14 @@ pub fn short_buffer(n: usize, numbers: usize) -> bool
 }
 
 // 2: the weights.
-pub fn bad_weight(lw: u32, bw: u32) -> bool
-    ensures { result ≡ bad_weight lw bw }
+pub fn bad_weight(w: Weights) -> bool
+    ensures { result ≡ bad_weight w.length w.bend }
 {
-    (1000 < lw) | (1000 < bw)
-}
-
-// 13: the table's length. The product n * n could wrap before 1 is tried, a quotient and a remainder cannot.
-pub fn bad_table(job: &[u8], figures: usize) -> bool
-    ensures { result ≡ bad_table (count job.now) (count job.now) figures }
-{
-    let n = job.len() / 16;
-    if n == 0 {
-        figures != 0
-    } else {
-        (figures / n != n) | (figures % n != 0)
-    }
+    (1000 < w.length) | (1000 < w.bend)
 }
 
 // 4: the fields of record i.
+#[tactic(auto, unfolding(paper::specs::laws::Tests::outside))]
 fn out_of_range(h: i64) -> bool
     ensures { result ≡ outside h }
 {
@@ -62,76 +56,75 @@ fn out_of_range(h: i64) -> bool
 }
 
 // The last field: a port's height, or 0.
-fn bad_last(form: Form, job: &[u8], i: u16) -> bool
-    requires { i < count job.now }
-    ensures { result ≡ bad_last form (last_of job.now i) }
+#[tactic(auto, unfolding(paper::specs::Job::port_of, paper::specs::Job::last_of))]
+fn bad_last(job: &Job, i: u16) -> bool
+    requires { i < pads_on job.now }
+    ensures { result ≡ bad_last job.now.form (last_of job.now.pads.now i) }
 {
-    match form {
-        Form::Records => out_of_range(job::port(Form::Records, job, i)),
-        Form::Slots => job::last(job, i) != 0,
+    match job.form {
+        Form::Records => out_of_range(Job::of_records(job.pads).port(i)),
+        Form::Slots => job.last(i) != 0,
     }
 }
 
-pub fn bad_field(form: Form, job: &[u8], i: u16) -> bool
-    requires { i < count job.now }
-    ensures { result ≡ bad_field form job.now i }
+pub fn bad_field(job: &Job, i: u16) -> bool
+    requires { i < pads_on job.now }
+    ensures { result ≡ bad_field job.now.form job.now.pads.now i }
 {
-    let x = job::x(job, i);
-    (job::name(job, i) == 0)
-        | (2000 < job::half_side(job, i))
+    let x = job.x(i);
+    (job.name(i) == 0)
+        | (2000 < job.half_side(i))
         | (x < 1)
         | (1000000 < x)
-        | out_of_range(job::y(job, i))
-        | bad_last(form, job, i)
+        | out_of_range(job.y(i))
+        | bad_last(job, i)
 }
 
 // 4: the height of port q.
-pub fn bad_height(form: Form, ports: &[u8], q: u16) -> bool
-    requires { q < port_count form ports.now }
-    ensures { result ≡ bad_height form ports.now q }
+pub fn bad_height(job: &Job, q: u16) -> bool
+    requires { q < ports_on job.now }
+    ensures { result ≡ bad_height job.now.form job.now.ports.now q }
 {
-    out_of_range(job::port(form, ports, q))
+    out_of_range(job.port(q))
+}
+
+// Whether port q stands less than so much above the one before.
+fn rises_less(job: &Job, q: u16, least: i64) -> bool
+    requires { q < ports_on job.now }
+    ensures { result ≡ (ltb 0 q && lt_z (port_of job.now.form job.now.ports.now q -ℤ port_of job.now.form job.now.ports.now (q - 1)) least) }
+{
+    q != 0 && job.port(q) - job.port(q - 1) < least
 }
 
 // 5 and 12: port q's height against the one before.
-pub fn not_above(form: Form, ports: &[u8], q: u16) -> bool
-    requires { q < port_count form ports.now }
-    ensures { result ≡ not_above form ports.now q }
+pub fn not_above(job: &Job, q: u16) -> bool
+    requires { q < ports_on job.now }
+    ensures { result ≡ not_above job.now.form job.now.ports.now q }
 {
-    if q == 0 {
-        false
-    } else {
-        job::port(form, ports, q) <= job::port(form, ports, q - 1)
+    rises_less(job, q, 1)
+}
+
+pub fn too_close(job: &Job, q: u16) -> bool
+    requires { q < ports_on job.now }
+    ensures { result ≡ too_close job.now.form job.now.ports.now q }
+{
+    rises_less(job, q, 8)
+}
+
+// 9: the leader of record i, to the port that the list has for it.
+fn leader_at(job: &Job, list: &[u16], i: u16) -> Leader
+    requires { (i < pads_on job.now) × (i < length list.now) × (held list.now i < ports_on job.now) }
+    ensures { leader_of result ≡ leader (board_on job.now) i (held list.now i) }
+{
+    Leader {
+        x: job.x(i),
+        y: job.y(i),
+        port: job.port(list[usize::from(i)]),
     }
 }
 
-pub fn too_close(form: Form, ports: &[u8], q: u16) -> bool
-    requires { q < port_count form ports.now }
-    ensures { result ≡ too_close form ports.now q }
-{
-    if q == 0 {
-        false
-    } else {
-        job::port(form, ports, q) - job::port(form, ports, q - 1) < 8
-    }
-}
-
-// 6, 7: records i and j.
-pub fn same_name(job: &[u8], i: u16, j: u16) -> bool
-    requires { (i < count job.now) × (j < count job.now) }
-    ensures { result ≡ same_name job.now i j }
-{
-    job::name(job, i) == job::name(job, j)
-}
-
-pub fn same_x(job: &[u8], i: u16, j: u16) -> bool
-    requires { (i < count job.now) × (j < count job.now) }
-    ensures { result ≡ same_x job.now i j }
-{
-    job::x(job, i) == job::x(job, j)
-}
-
-// 9: a pad at (x, y) led to the height port, and one at (x2, y2) led to the height port2.
+// Whether m lies between a and b: the order of m and a leaves one test with b, or none.
+#[tactic(auto, unfolding(paper::specs::laws::Tests::between))]
 fn lies_between(m: i64, a: i64, b: i64) -> bool
     ensures { result ≡ between m a b }
 {
@@ -145,66 +138,58 @@ fn lies_between(m: i64, a: i64, b: i64) -> bool
 }
 
 // x says which arm passes the other pad: one test is enough.
-fn leaders_touch(x: u32, y: i64, port: i64, x2: u32, y2: i64, port2: i64) -> bool
-    ensures { result ≡ leaders_touch (record { x = x; y = y; port = port }) (record { x = x2; y = y2; port = port2 }) }
+#[tactic(auto, unfolding(paper::specs::laws::Tests::leaders_touch))]
+fn leaders_touch(l: &Leader, m: &Leader) -> bool
+    ensures { result ≡ leaders_touch (leader_of l.now) (leader_of m.now) }
 {
-    if x2 < x {
-        lies_between(port, y2, port2)
-    } else if x < x2 {
-        lies_between(port2, y, port)
+    if m.x < l.x {
+        lies_between(l.port, m.y, m.port)
+    } else if l.x < m.x {
+        lies_between(m.port, l.y, l.port)
     } else {
         false
     }
 }
 
-// A pad at (x, y) led to the height port, and a square around (x2, y2): the arm alone can meet it where the hand is right of it.
-fn meets(x: u32, y: i64, port: i64, x2: u32, y2: i64, half: u16) -> bool
-    requires { (mag y < 2147483648) × (mag port < 2147483648) × (mag y2 < 2147483648) }
-    ensures { result ≡ meets (record { x = x; y = y; port = port }) (record { x = x2; y = y2; half = half }) }
+// A leader and the square of a half-side around another's pad: the arm alone can meet it where the hand is right of it.
+fn meets(l: &Leader, m: &Leader, half: u16) -> bool
+    ensures { result ≡ meets (leader_of l.now) (square_of m.now half) }
 {
-    if x as u64 + (half as u64) < x2 as u64 {
+    let x = u64::from(l.x);
+    let x2 = u64::from(m.x);
+    let reach = u64::from(half);
+    if x + reach < x2 {
         return false;
     }
-    let top = job::raised(y2, half);
-    let bottom = job::lowered(y2, half);
-    if x2 as u64 + (half as u64) < x as u64 {
-        (port <= top) & (bottom <= port)
+    let side = i64::from(half);
+    let top = m.y + side;
+    let bottom = m.y - side;
+    if x2 + reach < x {
+        (l.port <= top) & (bottom <= l.port)
     } else {
-        ((port <= top) | (y <= top)) & ((bottom <= port) | (bottom <= y))
+        ((l.port <= top) | (l.y <= top)) & ((bottom <= l.port) | (bottom <= l.y))
     }
 }
 
 // The same where the square is more than a point.
-fn meets_large(x: u32, y: i64, port: i64, x2: u32, y2: i64, half: u16) -> bool
-    requires { (mag y < 2147483648) × (mag port < 2147483648) × (mag y2 < 2147483648) }
-    ensures { result ≡ meets_large (record { x = x; y = y; port = port }) (record { x = x2; y = y2; half = half }) }
+#[tactic(auto, unfolding(paper::specs::laws::Tests::meets_large))]
+fn meets_large(l: &Leader, m: &Leader, half: u16) -> bool
+    ensures { result ≡ meets_large (leader_of l.now) (square_of m.now half) }
 {
-    if half == 0 {
-        false
-    } else {
-        meets(x, y, port, x2, y2, half)
-    }
+    half != 0 && meets(l, m, half)
 }
 
 // Records i and j: their leaders, and the leader of each with the square of the other.
-pub fn touches(form: Form, job: &[u8], ports: &[u8], list: &[u16], i: u16, j: u16) -> bool
-    requires i_bound { (i < count job.now) × (i < length list.now) × (held list.now i < port_count form ports.now) }
-    requires j_bound { (j < count job.now) × (j < length list.now) × (held list.now j < port_count form ports.now) }
-    ensures { result ≡ records_touch (board_from form job.now ports.now) (held list.now) i j }
+pub fn touches(job: &Job, list: &[u16], i: u16, j: u16) -> bool
+    requires i_bound { (i < pads_on job.now) × (i < length list.now) × (held list.now i < ports_on job.now) }
+    requires j_bound { (j < pads_on job.now) × (j < length list.now) × (held list.now j < ports_on job.now) }
+    ensures { result ≡ records_touch (board_on job.now) (held list.now) i j }
 {
-    let x = job::x(job, i);
-    let y = job::y(job, i);
-    let port = job::port(form, ports, list[i as usize]);
-    let x2 = job::x(job, j);
-    let y2 = job::y(job, j);
-    let port2 = job::port(form, ports, list[j as usize]);
-    if leaders_touch(x, y, port, x2, y2, port2) {
-        return true;
-    }
-    if meets_large(x, y, port, x2, y2, job::half_side(job, j)) {
-        return true;
-    }
-    meets_large(x2, y2, port2, x, y, job::half_side(job, i))
+    let l = leader_at(job, list, i);
+    let m = leader_at(job, list, j);
+    leaders_touch(&l, &m)
+        || meets_large(&l, &m, job.half_side(j))
+        || meets_large(&m, &l, job.half_side(i))
 }
 
 // 11: Draw's record number and port number.
@@ -212,5 +197,6 @@ pub fn bad_number(job: &[u8], i: u32, q: u32) -> bool
     ensures { result ≡ bad_number (count job.now) i q }
 {
     let n = job.len() / 16;
+    // Stays: no From makes a usize of a u32.
     (n <= i as usize) | (n <= q as usize)
 }

@@ -1,26 +1,13 @@
 // What stands in a line of a list: a byte, a word, a number, a field, the end. Each function does the step of its name in paper's laws/Parsing.antt
-// at the text from its place on.
+// at the front of a text, and answers the text that follows.
 #![tactic(auto)]
 
-ghost use Rattle.std.specs.Prelude.{◌≡◌, ◌+◌, ◌*◌, ◌-◌, ◌≤◌, length, drop};
-ghost use Rattle.paper.specs.laws.Parsing.{skip, is_digit, cap, word_front, digits_front, natural_front, signed_front, field_front, end_front};
-ghost use Rattle.fields.specs.Cursor.{content_of, Steps, Numbers};
-
-// The place after a byte, or after the end of a line.
-#[derive(Clone, Copy)]
-pub enum Step {
-    At(usize),
-    Nothing,
-}
-
-// What a field says, and the place after it: a number, or for a word 0. A number below 0 is in 32 bits, two's complement.
-#[derive(Clone, Copy)]
-pub enum Number {
-    Got(u32, usize),
-    Nothing,
-}
+ghost use Rattle.std.specs.Prelude.{◌≡◌, ◌+◌, ◌*◌, ◌-◌, ◌≤◌, length, IfSome};
+ghost use Rattle.paper.specs.laws.Parsing.{got, skip, cap, word_front, digits_front, natural_front, signed_front, field_front, end_front};
+ghost use Rattle.fields.specs.Fronts.{content_of, rest_front, Reads};
 
 // What a field has to be: a word of the first line, or a number without a sign or with one.
+// Stays: five arms of one match are plainer than five readers handed in, each with a clause of its own.
 #[derive(Clone, Copy)]
 pub enum Kind {
     Name,
@@ -31,151 +18,112 @@ pub enum Kind {
 }
 
 // One byte.
-pub fn byte(text: &[u8], at: usize, b: u8) -> Step
-    requires { at ≤ length text.now }
-    ensures { Steps text.now (at + 1) (skip b (drop at text.now)) result }
+pub fn byte(text: &[u8], b: u8) -> Option<&[u8]>
+    ensures front { skip b text.now ≡ rest_front result }
+    ensures shorter { IfSome result (λ rest. length rest.now + 1 ≤ length text.now) }
 {
-    if at < text.len() {
-        if text[at] == b {
-            return Step::At(at + 1);
-        }
+    match text {
+        [first, rest @ ..] if *first == b => Some(rest),
+        _ => None,
     }
-    Step::Nothing
 }
 
-// A word.
-fn word(text: &[u8], at: usize, w: &[u8]) -> Number
-    requires { at ≤ length text.now }
-    ensures { Numbers text.now at (word_front w.now (drop at text.now)) result }
+// A word, for which a field says 0.
+#[tactic(auto, using(crate::proofs::Words::word_front_same))]
+fn word<'a>(text: &'a [u8], w: &[u8]) -> Option<(u32, &'a [u8])>
+    ensures { Reads (word_front w.now) text.now result }
 {
-    let mut place = at;
-    let mut k = 0;
-    while k < w.len() {
-        let step = byte(text, place, w[k]);
-        let Step::At(next) = step else {
-            return Number::Nothing;
-        };
-        place = next;
-        k += 1;
-    }
-    Number::Got(0, place)
-}
-
-fn is_digit(c: u8) -> bool
-    ensures { result ≡ is_digit c }
-{
-    (48 <= c) & (c <= 57)
+    Some((0, text.strip_prefix(w)?))
 }
 
 // A number with one digit more: what is above 1,000,000 is as good as 1,000,001.
-fn grown(v: u32, c: u8) -> u32
-    requires { (v ≤ 1000001) × (48 ≤ c) × (c ≤ 57) }
-    ensures { (result ≡ cap (10 * v + (c - 48))) × (result ≤ 1000001) }
+#[tactic(auto, unfolding(paper::specs::laws::Parsing::cap))]
+fn grown(value: u32, c: u8) -> u32
+    requires { (value ≤ 1000001) × (48 ≤ c) × (c ≤ 57) }
+    ensures { (result ≡ cap (10 * value + (c - 48))) × (result ≤ 1000001) }
 {
-    let n = 10 * v + (c - 48) as u32;
-    if 1000001 < n { 1000001 } else { n }
+    let n = 10 * value + u32::from(c - b'0');
+    n.min(1000001)
 }
 
-// The digits that follow those which came to v.
-fn digits(text: &[u8], at: usize, first: u32) -> Number
-    requires { (at ≤ length text.now) × (first ≤ 1000001) }
-    ensures { Numbers text.now at (digits_front first (drop at text.now)) result }
+// The digits that follow those which came to `first`.
+#[tactic(auto, unfolding(paper::specs::laws::Parsing::digits_front))]
+fn digits(text: &[u8], first: u32) -> (u32, &[u8])
+    requires { first ≤ 1000001 }
+    ensures front { digits_front first text.now ≡ got result.0 result.1.now }
+    ensures shorter { length result.1.now ≤ length text.now }
 {
-    let mut v = first;
-    let mut place = at;
-    while place < text.len() {
-        let c = text[place];
-        if !is_digit(c) {
-            return Number::Got(v, place);
+    let mut value = first;
+    for (place, c) in text.iter().enumerate() {
+        if !c.is_ascii_digit() {
+            return (value, &text[place..]);
         }
-        v = grown(v, c);
-        place += 1;
+        value = grown(value, *c);
     }
-    Number::Got(v, place)
+    (value, &text[text.len()..])
 }
 
 // A number without a sign. After a 0 no digit is read.
-fn natural(text: &[u8], at: usize) -> Number
-    requires { at ≤ length text.now }
-    ensures { Numbers text.now at (natural_front (drop at text.now)) result }
+#[tactic(auto, unfolding(paper::specs::laws::Parsing::natural_front))]
+fn natural(text: &[u8]) -> Option<(u32, &[u8])>
+    ensures { Reads natural_front text.now result }
 {
-    if at < text.len() {
-        let c = text[at];
-        if c == 48 {
-            return Number::Got(0, at + 1);
-        }
-        if is_digit(c) {
-            return digits(text, at + 1, (c - 48) as u32);
-        }
+    match text {
+        [b'0', rest @ ..] => Some((0, rest)),
+        [c @ b'1'..=b'9', rest @ ..] => Some(digits(rest, u32::from(*c - b'0'))),
+        _ => None,
     }
-    Number::Nothing
 }
 
 // A number with a sign, or without. -0 is none.
-fn signed(text: &[u8], at: usize) -> Number
-    requires { at ≤ length text.now }
-    ensures { Numbers text.now at (signed_front (drop at text.now)) result }
+#[tactic(auto, unfolding(paper::specs::laws::Parsing::signed_front))]
+fn signed(text: &[u8]) -> Option<(u32, &[u8])>
+    ensures { Reads signed_front text.now result }
 {
-    let minus = byte(text, at, 45);
-    let Step::At(start) = minus else {
-        return natural(text, at);
+    let Some(size) = byte(text, b'-') else {
+        return natural(text);
     };
-    let size = natural(text, start);
-    let Number::Got(v, place) = size else {
-        return Number::Nothing;
-    };
-    if v == 0 {
-        Number::Nothing
-    } else {
-        Number::Got((4294967296 - v as u64) as u32, place)
+    let (n, rest) = natural(size)?;
+    if n == 0 {
+        return None;
     }
+    Some((n.wrapping_neg(), rest))
 }
 
 // What stands in a field.
-fn content(kind: Kind, text: &[u8], at: usize) -> Number
-    requires { at ≤ length text.now }
-    ensures { Numbers text.now at (content_of kind (drop at text.now)) result }
+fn content(kind: Kind, text: &[u8]) -> Option<(u32, &[u8])>
+    ensures { Reads (content_of kind) text.now result }
 {
     match kind {
-        Kind::Name => word(text, at, b"name"),
-        Kind::X => word(text, at, b"x"),
-        Kind::Y => word(text, at, b"y"),
-        Kind::Natural => natural(text, at),
-        Kind::Signed => signed(text, at),
+        Kind::Name => word(text, b"name"),
+        Kind::X => word(text, b"x"),
+        Kind::Y => word(text, b"y"),
+        Kind::Natural => natural(text),
+        Kind::Signed => signed(text),
     }
 }
 
-// A field, between quotes or without.
-pub fn field(kind: Kind, text: &[u8], at: usize) -> Number
-    requires { at ≤ length text.now }
-    ensures { Numbers text.now at (field_front (content_of kind) (drop at text.now)) result }
+// A field, between quotes or without: a number, or for a word 0. A number below 0 is in 32 bits, two's complement.
+#[tactic(auto, unfolding(paper::specs::laws::Parsing::field_front))]
+pub fn field(kind: Kind, text: &[u8]) -> Option<(u32, &[u8])>
+    ensures { Reads (field_front (content_of kind)) text.now result }
 {
-    let open = byte(text, at, 34);
-    let Step::At(start) = open else {
-        return content(kind, text, at);
-    };
-    let said = content(kind, text, start);
-    let Number::Got(v, place) = said else {
-        return Number::Nothing;
-    };
-    let close = byte(text, place, 34);
-    let Step::At(next) = close else {
-        return Number::Nothing;
-    };
-    Number::Got(v, next)
+    let quoted = byte(text, b'"');
+    let (n, rest) = content(kind, quoted.unwrap_or(text))?;
+    if quoted.is_none() {
+        return Some((n, rest));
+    }
+    Some((n, byte(rest, b'"')?))
 }
 
 // The end of a line: CR and LF, or that of the text.
-pub fn end(text: &[u8], at: usize) -> Step
-    requires { at ≤ length text.now }
-    ensures { Steps text.now at (end_front (drop at text.now)) result }
+pub fn end(text: &[u8]) -> Option<&[u8]>
+    ensures front { end_front text.now ≡ rest_front result }
+    ensures shorter { IfSome result (λ rest. length rest.now ≤ length text.now) }
 {
-    if at == text.len() {
-        return Step::At(at);
+    if text.is_empty() {
+        return Some(text);
     }
-    let cr = byte(text, at, 13);
-    let Step::At(next) = cr else {
-        return Step::Nothing;
-    };
-    byte(text, next, 10)
+    let line_feed = byte(text, b'\r')?;
+    byte(line_feed, b'\n')
 }

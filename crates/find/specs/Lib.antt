@@ -1,3 +1,2 @@
--- Search: the first record, or pair, at which a test holds. Dispatch: what the enum of checks stands for, and what the searches take for granted.
+-- The first number, or pair of numbers, at which a test holds.
 pub mod Search
-pub mod Dispatch

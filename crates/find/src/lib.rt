@@ -1,109 +1,60 @@
-// The first record at fault: one loop for all checks of the job's records and ports, and one below it for those on two. `layout` has those of a layout.
+// The first record at fault: the first number, or the first pair of numbers, at which a test holds, and the first bad entry of a layout.
 #![tactic(auto)]
 
-pub mod layout;
+ghost use Rattle.std.specs.Prelude.{◌≡◌, ℕ, ◌≤◌, ◌<◌, Bool, length};
+ghost use Rattle.paper.specs.laws.Tests.{bad_entry};
+ghost use Rattle.find.specs.Search.{first_where, first_pair_where};
 
-ghost use Rattle.std.specs.Prelude.{◌≡◌, ◌≤◌, ◌<◌, length};
-ghost use Rattle.paper.specs.Job.{count};
-ghost use Rattle.paper.specs.laws.Tests.{with_earlier};
-ghost use Rattle.find.specs.Search.{first_where};
-ghost use Rattle.find.specs.Dispatch.{pair_of, test_of, number_of};
-
-use paper::Form;
-
-// What a search for a record finds: the record, and the earlier one found with it (0 where none is looked for).
-#[derive(Clone, Copy)]
-pub enum Found {
-    At(u16, u16),
-    Nowhere,
+// A record at fault, and the earlier one that it was found with.
+#[derive(Clone, Copy, Debug, PartialEq, Eq)]
+pub struct Fault {
+    pub at: u16,
+    pub earlier: u16,
 }
 
-// The checks of a record or of a port, alone or with those before it. What each stands for is in specs/Dispatch.antt.
-#[derive(Clone, Copy)]
-pub enum Check {
-    Field, // 4, of a record
-    Height, // 4, of a port
-    Rise, // 5
-    Space, // 12
-    Name, // 6
-    Place, // 7
-}
-
-// What no two records share.
-#[derive(Clone, Copy)]
-enum Own {
-    Name,
-    Place,
-}
-
-// Whether records i and j share what they should not.
-fn same(o: Own, job: &[u8], i: u16, j: u16) -> bool
-    requires { (i < count job.now) × (j < count job.now) }
-    ensures { result ≡ pair_of o job.now i j }
+// The first number below n at which a test holds.
+pub fn first_where<F: Fn(u16) -> bool>(n: u16, test: F) -> Option<u16>
+    requires { (i : ℕ) → i < n → F.pre test i }
+    ensures { (p : ℕ → Bool) → ((i : ℕ) → i < n → (b : Bool) → F.post test i b → b ≡ p i) → result ≡ first_where p n }
 {
-    match o {
-        Own::Name => faults::same_name(job, i, j),
-        Own::Place => faults::same_x(job, i, j),
-    }
-}
-
-// Whether record i and an earlier one do.
-fn stood(o: Own, job: &[u8], i: u16) -> bool
-    requires { i < count job.now }
-    ensures { result ≡ with_earlier (pair_of o job.now) i }
-{
-    let mut j = 0;
-    while j < i {
-        if same(o, job, i, j) {
-            return true;
+    for i in 0..n {
+        if test(i) {
+            return Some(i);
         }
-        j += 1;
     }
-    false
+    None
 }
 
-// Whether a check fails at i.
-fn fails(c: Check, form: Form, job: &[u8], ports: &[u8], i: u16) -> bool
-    requires { i < number_of c form job.now ports.now }
-    ensures { result ≡ test_of c form job.now ports.now i }
+// The first number below n at which a test of two holds with a smaller one, and the smallest such one.
+pub fn first_pair_where<F: Fn(u16, u16) -> bool>(n: u16, test: F) -> Option<Fault>
+    requires { (i j : ℕ) → i < n → j < i → F.pre test i j }
+    ensures { (q : ℕ → ℕ → Bool) → ((i j : ℕ) → i < n → j < i → (b : Bool) → F.post test i j b → b ≡ q i j) → result ≡ first_pair_where q n }
 {
-    match c {
-        Check::Field => faults::bad_field(form, job, i),
-        Check::Height => faults::bad_height(form, ports, i),
-        Check::Rise => faults::not_above(form, ports, i),
-        Check::Space => faults::too_close(form, ports, i),
-        Check::Name => stood(Own::Name, job, i),
-        Check::Place => stood(Own::Place, job, i),
-    }
-}
-
-// How many it looks at: records or ports.
-fn number(c: Check, form: Form, job: &[u8], ports: &[u8]) -> u16
-    requires { (length job.now ≤ 65536) × (length ports.now ≤ 65536) }
-    ensures { result ≡ number_of c form job.now ports.now }
-{
-    match c {
-        Check::Field => job::records(job),
-        Check::Height => job::ports(form, ports),
-        Check::Rise => job::ports(form, ports),
-        Check::Space => job::ports(form, ports),
-        Check::Name => job::records(job),
-        Check::Place => job::records(job),
-    }
-}
-
-// The first record, or port, that fails a check.
-pub fn first_failing(c: Check, form: Form, job: &[u8], ports: &[u8]) -> Found
-    requires { (length job.now ≤ 65536) × (length ports.now ≤ 65536) }
-    ensures { result ≡ first_where (test_of c form job.now ports.now) (number_of c form job.now ports.now) }
-{
-    let n = number(c, form, job, ports);
-    let mut i = 0;
-    while i < n {
-        if fails(c, form, job, ports, i) {
-            return Found::At(i, 0);
+    let mut found = None;
+    'records: for at in 0..n {
+        for earlier in 0..at {
+            if test(at, earlier) {
+                found = Some(Fault { at, earlier });
+                break 'records;
+            }
         }
-        i += 1;
     }
-    Found::Nowhere
+    found
+}
+
+// The first of the n entries that is the port count p or more, or stood earlier: those that stood are marked.
+pub fn first_bad_entry(list: &[u16], n: u16, p: u16) -> Option<u16>
+    requires { (n ≤ length list.now) × (p ≤ 128) }
+    ensures { result ≡ first_where (bad_entry p list.now) n }
+{
+    // Stays: no call allocates, so there is a mark for each of 128 ports.
+    let mut marks = [false; 128];
+    for k in 0..n {
+        let q = list[usize::from(k)];
+        if p <= q || marks[usize::from(q)] {
+            return Some(k);
+        }
+        marks[usize::from(q)] = true;
+    }
+    None
 }

@@ -5,12 +5,9 @@ use mathlib.Core.List.{List}
 use Prim.Native.Nat.{ℕ, ◌+◌, ◌-◌, ◌≤◌, ◌<◌, zero-le}
 use native.Mathlib.Omega.{arith}
 use lib.ListN.{length, drop, get_or}
-use Rattle.pads.specs.Pads.{Sides, spans, fits, bit, pads_in, Head}
+use Rattle.pads.specs.Pads.{Sides, fits, bit, pads_in, Head}
 use Rattle.heads.specs.Heads.{Top}
 use Rattle.pads.specs.Counts.{count_end, le_or_lt, count-drop, count_step, bit_le}
-
-pub spans_most : (r a b l h : ℕ) → r ≡ bit (spans a b l h) → r ≤ 1
-spans_most r a b l h e = let one = bit_le (spans a b l h) in omega arith
 
 -- m of the strip's pads stand at place k or after it, and b - a were not reached after it
 pub record Scan (S : Sides) (order : List ℕ) (a b k m : ℕ) : Type 0 where

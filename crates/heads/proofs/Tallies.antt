@@ -10,7 +10,7 @@ use lib.ListN.{length, drop, get_or, set, replicate, get_or-replicate, length-dr
 use lib.Seq.{get_or-set_same, get_or-set_other}
 use borrow.Author.Tests.{le-leb, lt-leb}
 use Rattle.pads.specs.Pads.{Sides, spans, fits, bit, pads_in}
-use Rattle.heads.specs.Heads.{Tally, Tallies, Entering, EnteringAll, Rooms}
+use Rattle.heads.specs.Heads.{Tally, Tallies, Entering, EnteringAll}
 use Rattle.pads.specs.Counts.{le_or_lt, spans_by, spans_not_lo, spans_not_hi, count_step, bit_le, count_end}
 
 -- ---- one pad, in the strips from a on and from a + 1 on
@@ -170,14 +170,14 @@ tallies_none S order a h few b l =
     rw (get_or-replicate {A = ℕ} 65 b 0 0 (omega arith)) (record { placed = zero-le; seen = sym (count_none S a b h order); all = sym (count_none S a b h order) })
 
 -- another place for the strip a .. b - 1, with its number of pads
-pub tallies_set : (S : Sides) (order at seen all : List ℕ) (a b k m : ℕ) → Rooms at seen all → length order ≤ 64 → b ≤ length order → k ≤ length order
+pub tallies_set : (S : Sides) (order at seen all : List ℕ) (a b k m : ℕ) → length at ≡ 65 → length seen ≡ 65 → length order ≤ 64 → b ≤ length order → k ≤ length order
     → m ≡ pads_in S a b (drop k order)
     → Tallies S order at seen all a → Tallies S order (set at b k) (set seen b m) all a
-tallies_set S order at seen all a b k m R few bn kn e T b' l =
+tallies_set S order at seen all a b k m la ls few bn kn e T b' l =
     ⊎_elim
     (λ (v : b ≤ b'). ⊎_elim
     (λ (w : b' ≤ b). let q : b' ≡ b = omega arith in
-    rw q (rw (get_or-set_same at b k 0 (omega (arith, R.places)), get_or-set_same seen b m 0 (omega (arith, R.counts)))
+    rw q (rw (get_or-set_same at b k 0 (omega arith), get_or-set_same seen b m 0 (omega arith))
     (record { placed = kn; seen = e; all = (T b bn).all })))
     (λ (w : b < b'). other (λ x. omega arith)) (le_or_lt b' b))
     (λ (v : b' < b). other (λ x. omega arith))

@@ -21,12 +21,6 @@ abbrev pub EnteringAll : Sides → List ℕ → List ℕ → List ℕ → List �
 EnteringAll S order at seen all a i =
     (b : ℕ) → b ≤ length order → Entering S order a i b (get_or at b 0) (get_or seen b 0) × Entering S order a i b 0 (get_or all b 0)
 
--- the three lists have an entry for each b
-pub record Rooms (at seen all : List ℕ) : Type 0 where
-  pub places : length at ≡ 65
-  pub counts : length seen ≡ 65
-  pub wholes : length all ≡ 65
-
 -- k is the place of the rightmost of the strip's b - a leftmost pads
 pub record Top (S : Sides) (order : List ℕ) (a b k : ℕ) : Type 0 where
   pub placed : k < length order

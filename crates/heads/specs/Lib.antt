@@ -1,2 +1,3 @@
--- Heads: the definitions that the contracts cite.
+-- Heads: the definitions that the contracts cite. Given: the same of the lists that the code has.
 pub mod Heads
+pub mod Given

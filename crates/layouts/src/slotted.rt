@@ -1,182 +1,104 @@
-// First and Next on a job of the second form, by weights: the figures and the table of least totals stand in the work list that is lent.
+// A walk by weights, where ports may stay free: the figures and the table of least totals stand in the work list that is lent.
 ghost use Rattle.std.specs.Prelude.{◌≡◌, ◌*◌, ◌≤◌, length};
-ghost use Rattle.paper.specs.Job.{slots, count, port_count};
-ghost use Rattle.paper.specs.Layouts.{board_of, held, Untouching, by_weights, weighted};
-ghost use Rattle.paper.specs.Problem.{labeling_of};
-ghost use Rattle.board.specs.Lists.{RoomFor};
+ghost use Rattle.job.specs.Board.{board_on, pads_on, ports_on, AcceptedOn};
+ghost use Rattle.measure.specs.Given.{InRange};
+ghost use Rattle.paper.specs.Layouts.{by_weights, cost_of, weighted};
+ghost use Rattle.paper.specs.Problem.{labeling};
+ghost use Rattle.paper.specs.Refusals.{work_needed};
+ghost use Rattle.board.specs.Lists.{RoomFor, ListsOf};
 ghost use Rattle.board.specs.Bars.{Clear};
 ghost use Rattle.walks.specs.Walks.{Walks};
-ghost use Rattle.layouts.specs.Replies.{rules_of, Workable, StartOn, FirstOn, NextOn, Tabled};
+ghost use Rattle.layouts.specs.Replies.{rules_of, StartOn, Tabled};
 
-use crate::{Step, first_of, step_of};
-use paper::Form;
+use choices::Tables;
+use choices::given::Search;
+use job::Job;
+use pads::Lists;
+use paper::Weights;
 use walks::{Start, Walked};
 
-// The lists of the board, the figures and the table of least totals, with the least of all. The list lent for the bars has
-// zeros.
-fn fill(
-    pads: &[u8],
-    ports: &[u8],
-    lw: u32,
-    bw: u32,
-    order: &mut [u8],
-    lo: &mut [u8],
-    hi: &mut [u8],
-    bars: &mut [u8],
-    work: &mut [u64],
-) -> u64
-    requires workable { Workable (slots pads.now ports.now) lw bw (length work.old) }
-    requires room_for { RoomFor (count pads.now) order.old lo.old hi.old }
-    requires bars_len { (length bars.old ≡ count pads.now * port_count Form.Slots ports.now) × Clear bars.old }
-    ensures { Tabled (board_of (slots pads.now ports.now)) (weighted (board_of (slots pads.now ports.now)) lw bw)
-        order.new lo.new hi.new work.new result }
+// The figures and the table of least totals, with the least of all. The list lent for the bars has zeros.
+fn fill(job: &Job, weights: Weights, lists: &Lists, bars: &mut [u8], work: &mut [u64]) -> u64
+    requires workable { AcceptedOn job.now × InRange weights × (work_needed (pads_on job.now) (ports_on job.now) ≤ length work.old) }
+    requires lists { ListsOf (board_on job.now) lists.now.order.now lists.now.lo.now lists.now.hi.now × (lists.now.ports ≡ ports_on job.now) }
+    requires bars_len { (length bars.old ≡ pads_on job.now * ports_on job.now) × Clear bars.old }
+    ensures { Tabled (board_on job.now) (weighted (board_on job.now) weights.length weights.bend)
+        lists.now.order.now lists.now.lo.now lists.now.hi.now work.new result }
 {
-    let n = order.len();
-    let p = job::ports(Form::Slots, ports) as usize;
-    board::prepare(Form::Slots, pads, ports, order, lo, hi);
-    board::bars::bar(Form::Slots, pads, ports, bars);
-    weights::fill_work(
-        Form::Slots,
-        pads,
-        ports,
-        lw,
-        bw,
-        bars,
-        work,
-        slots::figures_at(n, p),
-    );
-    slots::fill(work, order, lo, hi, p)
+    board::bars::bar(job, bars);
+    let base = slots::figures_at(lists.order.len(), lists.ports);
+    weights::fill_work(job, weights, bars, work, base);
+    slots::fill(work, lists)
 }
 
 // A walk, with lists lent for those of the board.
-fn walk_at(
+// Stays: the lists are made here; who reads them has them as one type.
+fn walk_at<'a>(
     start: Start,
-    pads: &[u8],
-    ports: &[u8],
-    lw: u32,
-    bw: u32,
-    order: &mut [u8],
-    lo: &mut [u8],
-    hi: &mut [u8],
+    job: &Job,
+    weights: Weights,
+    order: &'a mut [u8],
+    lo: &'a mut [u8],
+    hi: &'a mut [u8],
     bars: &mut [u8],
-    work: &mut [u64],
     w: &mut [u16],
     page: &mut [u16],
-) -> Walked
-    requires workable { Workable (slots pads.now ports.now) lw bw (length work.old) }
-    requires room_for { RoomFor (count pads.now) order.old lo.old hi.old × StartOn start (board_of (slots pads.now ports.now)) w.old }
-    requires bars_len { (length bars.old ≡ count pads.now * port_count Form.Slots ports.now) × Clear bars.old }
-    ensures { Walks (rules_of (labeling_of (slots pads.now ports.now) (by_weights lw bw))) (count pads.now) start w.old
+    work: &'a mut [u64],
+) -> Option<Walked>
+    requires workable { AcceptedOn job.now × InRange weights × (work_needed (pads_on job.now) (ports_on job.now) ≤ length work.old) }
+    requires room_for { RoomFor (pads_on job.now) order.old lo.old hi.old × StartOn start (board_on job.now) w.old }
+    requires bars_len { (length bars.old ≡ pads_on job.now * ports_on job.now) × Clear bars.old }
+    ensures { Walks (rules_of (labeling (board_on job.now) (cost_of (board_on job.now) (by_weights weights.length weights.bend)))) (pads_on job.now) start w.old
         page.old w.new page.new result }
 {
-    let least = fill(pads, ports, lw, bw, order, lo, hi, bars, work);
-    let p = job::ports(Form::Slots, ports) as usize;
-    let heads = [0u8; 1];
-    let cost = [0u32; 1];
-    walks::walk(
-        start,
-        &heads[..0],
-        work,
+    board::prepare(job, order, lo, hi);
+    let ports = usize::from(job.port_count());
+    let lists = Lists {
         order,
-        &cost[..0],
-        bars,
         lo,
         hi,
-        p,
-        w,
-        page,
-        least,
-    )
+        ports,
+    };
+    let least = fill(job, weights, &lists, bars, work);
+    let search = Search {
+        lists,
+        tables: Tables::Slotted { work },
+    };
+    walks::walk(start, &search, w, page, least)
 }
 
-// A walk through the best layouts of a job.
-fn walk(
+// A walk through the best layouts of a job. Its room is not to be added to that of the other form.
+#[inline(never)]
+pub fn walk(
     start: Start,
-    pads: &[u8],
-    ports: &[u8],
-    lw: u32,
-    bw: u32,
-    work: &mut [u64],
+    job: &Job,
+    weights: Weights,
     w: &mut [u16],
     page: &mut [u16],
-) -> Walked
-    requires workable { Workable (slots pads.now ports.now) lw bw (length work.old) }
-    requires start_on { StartOn start (board_of (slots pads.now ports.now)) w.old }
-    ensures { Walks (rules_of (labeling_of (slots pads.now ports.now) (by_weights lw bw))) (count pads.now) start w.old
+    work: &mut [u64],
+) -> Option<Walked>
+    requires workable { AcceptedOn job.now × InRange weights × (work_needed (pads_on job.now) (ports_on job.now) ≤ length work.old) }
+    requires start_on { StartOn start (board_on job.now) w.old }
+    ensures { Walks (rules_of (labeling (board_on job.now) (cost_of (board_on job.now) (by_weights weights.length weights.bend)))) (pads_on job.now) start w.old
         page.old w.new page.new result }
 {
-    let n = pads.len() / 16;
-    let p = job::ports(Form::Slots, ports) as usize;
+    let n = usize::from(job.count());
+    let p = usize::from(job.port_count());
+    // Stays: no call allocates, so the room is that of 64 pads and 128 ports, whatever the job has.
     let mut order = [0u8; 64];
     let mut lo = [0u8; 64];
     let mut hi = [0u8; 64];
     let mut bars = [0u8; 8192];
     walk_at(
         start,
-        pads,
-        ports,
-        lw,
-        bw,
+        job,
+        weights,
         &mut order[..n],
         &mut lo[..n],
         &mut hi[..n],
         &mut bars[..n * p],
-        work,
         w,
         page,
+        work,
     )
-}
-
-// First: a walk from the earliest best layout, with room for none on its page.
-pub fn first_on(
-    pads: &[u8],
-    ports: &[u8],
-    lw: u32,
-    bw: u32,
-    layout: &mut [u16],
-    work: &mut [u64],
-) -> Step
-    requires workable { Workable (slots pads.now ports.now) lw bw (length work.old) }
-    requires pads_in_bounds { count pads.now ≤ length layout.old }
-    ensures { FirstOn (labeling_of (slots pads.now ports.now) (by_weights lw bw)) layout.old layout.new result }
-{
-    let mut page = [0u16; 1];
-    let r = walk(
-        Start::First,
-        pads,
-        ports,
-        lw,
-        bw,
-        work,
-        layout,
-        &mut page[..0],
-    );
-    first_of(r.best, r.total)
-}
-
-// Next: a walk from an untouching layout, with room for one.
-pub fn next_on(
-    pads: &[u8],
-    ports: &[u8],
-    lw: u32,
-    bw: u32,
-    layout: &mut [u16],
-    work: &mut [u64],
-) -> Step
-    requires workable { Workable (slots pads.now ports.now) lw bw (length work.old) }
-    requires pads_in_bounds { (count pads.now ≤ length layout.old) × Untouching (board_of (slots pads.now ports.now)) (held layout.old) }
-    ensures { NextOn (labeling_of (slots pads.now ports.now) (by_weights lw bw)) layout.old layout.new result }
-{
-    let n = pads.len() / 16;
-    let mut page = [0u16; 64];
-    step_of(walk(
-        Start::Given,
-        pads,
-        ports,
-        lw,
-        bw,
-        work,
-        layout,
-        &mut page[..n],
-    ))
 }

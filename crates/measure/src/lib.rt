@@ -1,94 +1,80 @@
-// What a leader measures, and the total of a layout. Pads are read from their records; ports from the bytes in which they stand, by the job's form.
+// What a leader measures, and the total of a layout.
 #![tactic(auto)]
 
 ghost use Rattle.std.specs.Prelude.{◌≡◌, ◌<◌, ◌≤◌};
-ghost use Rattle.paper.specs.Job.{count, y_of, port_count, port_of};
+ghost use Rattle.paper.specs.Job.{y_of, port_of};
+ghost use Rattle.paper.specs.Given.{badness_of};
 ghost use Rattle.paper.specs.Leaders.{distance, length_of, bends_of};
-ghost use Rattle.paper.specs.Layouts.{board_from, leader, cost_of, weighted as weightedCost};
+ghost use Rattle.paper.specs.Layouts.{leader, cost_of, weighted as weightedCost};
 ghost use Rattle.paper.specs.laws.Totals.{total_of};
-ghost use Rattle.paper.specs.laws.Accepted.{Accepted, Fair};
-ghost use Rattle.measure.specs.Given.{given_by, Entries};
+ghost use Rattle.paper.specs.laws.Accepted.{Fair};
+ghost use Rattle.job.specs.Board.{board_on, pads_on, ports_on, AcceptedOn};
+ghost use Rattle.measure.specs.Given.{PadAndPort, InRange, Entries};
 
-use paper::Form;
+use job::Job;
+use paper::{Badness, Weights};
 
 // The hand of the leader of pad i to port q: how long it is.
-fn hand(form: Form, job: &[u8], ports: &[u8], i: u16, q: u16) -> u64
-    requires { (i < count job.now) × (q < port_count form ports.now) }
-    ensures { (result ≡ distance (y_of job.now i) (port_of form ports.now q)) × (result < 4294967296) }
+fn hand(job: &Job, i: u16, q: u16) -> u64
+    requires { PadAndPort job.now i q }
+    ensures { (result ≡ distance (y_of job.now.pads.now i) (port_of job.now.form job.now.ports.now q)) × (result < 4294967296) }
 {
-    job::distance(job::y(job, i), job::port(form, ports, q))
+    job.y(i).abs_diff(job.port(q))
 }
 
 // The length of that leader.
-pub fn length(form: Form, job: &[u8], ports: &[u8], i: u16, q: u16) -> u64
-    requires { (i < count job.now) × (q < port_count form ports.now) }
-    ensures { (result ≡ length_of (leader (board_from form job.now ports.now) i q)) × (result < 8589934592) }
+#[tactic(auto, unfolding(paper::specs::Leaders::length_of))]
+pub fn length(job: &Job, i: u16, q: u16) -> u64
+    requires { PadAndPort job.now i q }
+    ensures { (result ≡ length_of (leader (board_on job.now) i q)) × (result < 8589934592) }
 {
-    (job::x(job, i) as u64) + hand(form, job, ports, i, q)
+    u64::from(job.x(i)) + hand(job, i, q)
 }
 
 // Its bends.
-pub fn bends(form: Form, job: &[u8], ports: &[u8], i: u16, q: u16) -> u64
-    requires { (i < count job.now) × (q < port_count form ports.now) }
-    ensures { (result ≡ bends_of (leader (board_from form job.now ports.now) i q)) × (result ≤ 1) }
+#[tactic(auto, unfolding(paper::specs::Leaders::bends_of))]
+pub fn bends(job: &Job, i: u16, q: u16) -> u64
+    requires { PadAndPort job.now i q }
+    ensures { (result ≡ bends_of (leader (board_on job.now) i q)) × (result ≤ 1) }
 {
-    if hand(form, job, ports, i, q) == 0 {
-        0
-    } else {
-        1
-    }
+    u64::from(hand(job, i, q) != 0)
 }
 
 // What it costs with these weights: 32 bits hold it in every accepted job, and so narrow, the compiler works out four at a time.
-pub fn weighted(form: Form, job: &[u8], ports: &[u8], lw: u32, bw: u32, i: u16, q: u16) -> u32
-    requires { Accepted form job.now ports.now × (lw ≤ 1000) × (bw ≤ 1000) × (i < count job.now) × (q < port_count form ports.now) }
-    ensures { result ≡ weightedCost (board_from form job.now ports.now) lw bw i q }
+#[tactic(auto, unfolding(paper::specs::Layouts::weighted))]
+pub fn weighted(job: &Job, w: Weights, i: u16, q: u16) -> u32
+    requires accepted { AcceptedOn job.now × InRange w }
+    requires leader { PadAndPort job.now i q }
+    ensures { result ≡ weightedCost (board_on job.now) w.length w.bend i q }
 {
-    lw * (length(form, job, ports, i, q) as u32) + bw * (bends(form, job, ports, i, q) as u32)
-}
-
-// What a leader costs by: these weights, length before bend, or the table lent beside.
-#[derive(Clone, Copy)]
-pub enum Badness {
-    Weights(u32, u32),
-    Table,
+    w.length * (length(job, i, q) as u32) + w.bend * (bends(job, i, q) as u32)
 }
 
 // What the leader of pad i to port q costs.
-fn cost(bad: Badness, form: Form, job: &[u8], ports: &[u8], figures: &[u32], i: u16, q: u16) -> u32
-    requires accepted { Accepted form job.now ports.now × Fair (board_from form job.now ports.now) (given_by bad figures.now) }
-    requires i_bound { (i < count job.now) × (q < port_count form ports.now) }
-    ensures { result ≡ cost_of (board_from form job.now ports.now) (given_by bad figures.now) i q }
+fn cost(bad: Badness, job: &Job, i: u16, q: u16) -> u32
+    requires accepted { AcceptedOn job.now × Fair (board_on job.now) (badness_of bad) }
+    requires leader { PadAndPort job.now i q }
+    ensures { result ≡ cost_of (board_on job.now) (badness_of bad.entry) i q }
 {
     match bad {
-        Badness::Weights(lw, bw) => weighted(form, job, ports, lw, bw, i, q),
-        Badness::Table => {
-            let p = job::ports(form, ports);
-            figures[(i as usize) * (p as usize) + q as usize]
+        Badness::Weights(w) => weighted(job, w, i, q),
+        Badness::Table(figures) => {
+            let p = job.port_count();
+            figures[usize::from(i) * usize::from(p) + usize::from(q)]
         }
     }
 }
 
 // The total of the layout that a list holds: entries that are port numbers are enough.
-pub fn total(
-    bad: Badness,
-    form: Form,
-    job: &[u8],
-    ports: &[u8],
-    figures: &[u32],
-    list: &[u16],
-) -> u64
-    requires accepted { Accepted form job.now ports.now × Fair (board_from form job.now ports.now) (given_by bad figures.now) }
-    requires entries { Entries list.now (count job.now) (port_count form ports.now) }
-    ensures { result ≡ total_of (board_from form job.now ports.now) (given_by bad figures.now) list.now }
+pub fn total(bad: Badness, job: &Job, list: &[u16]) -> u64
+    requires accepted { AcceptedOn job.now × Fair (board_on job.now) (badness_of bad) }
+    requires entries { Entries list.now (pads_on job.now) (ports_on job.now) }
+    ensures { result ≡ total_of (board_on job.now) (badness_of bad.entry) list.now }
 {
-    let n = job::records(job);
     let mut sum: u64 = 0;
-    let mut i: u16 = 0;
-    while i < n {
-        let q = list[i as usize];
-        sum += cost(bad, form, job, ports, figures, i, q) as u64;
-        i += 1;
+    for i in 0..job.count() {
+        let q = list[usize::from(i)];
+        sum += u64::from(cost(bad, job, i, q));
     }
     sum
 }

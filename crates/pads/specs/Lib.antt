@@ -1,3 +1,4 @@
--- Pads: the definitions. Counts: their laws.
+-- Pads: the definitions. Sides: those of the lists that the code has. Counts: their laws.
 pub mod Pads
+pub mod Sides
 pub mod Counts

@@ -1,6 +1,6 @@
 -- Pads and the strips that they lie in. Pads are numbers, ports are numbers; a strip is the run of ports a .. b - 1.
 -- A list of pads is in the order right to left, and may have pads that do not lie in the strip: they do not count.
-use Rattle.std.specs.Prelude.{◌≡◌, Bool, true, false, ◌&&◌, List, [], ◌∷◌, ℕ, ◌+◌, ◌-◌, ◌≤◌, ◌<◌, leb, length, get_or, drop}
+use Rattle.std.specs.Prelude.{◌≡◌, Option, None, Some, Bool, true, false, ◌&&◌, List, [], ◌∷◌, ℕ, ◌+◌, ◌-◌, ◌≤◌, ◌<◌, leb, length, get_or, drop}
 
 -- lo j: how many ports lie strictly below pad j; hi j: how many lie at its height or below
 pub record Sides : Type 0 where
@@ -44,3 +44,8 @@ pub record Head (S : Sides) (order : List ℕ) (a b h : ℕ) : Type 0 where
   pub top : h ≤ length order + 1
   pub past : (k : ℕ) → h ≤ k → k ≤ length order → pads_in S a b (drop k order) < b - a
   pub at : (s : ℕ) → h ≡ s + 1 → pads_in S a b (drop s order) ≡ b - a
+
+-- a strip's head from the place of that pad
+abbrev pub head_of : Option ℕ → ℕ
+head_of None = 0
+head_of (Some r) = r + 1

@@ -2,21 +2,16 @@
 -- specs/; the proofs are in laws/, for the prover. A call that keeps its promise, and the code is proved to, has all that is said here.
 --     m is the number that C gets, before and after are what the lent list holds at entry and at exit, bad the weights or the table, work the length of the
 --     work list, if one is lent, numbers the length of the buffer that Count and Place are lent; a job is of either form
-use Rattle.std.specs.Prelude.{◌≡◌, refl, ◌≢◌, ◌⊎◌, ◌↔◌, false, List, [], ◌∷◌, ◌++◌, ℕ, suc, ◌+◌, ◌*◌, ◌/◌, ◌%◌, ◌≤◌, ◌<◌, T, eqb, length, get_or, take, ℤ, pos, negsuc, neg_ℤ, nat_abs, ◌+ℤ◌, ◌≤ℤ◌, Float}
+use Rattle.std.specs.Prelude.{◌≡◌, refl, ◌≢◌, ◌⊎◌, ◌↔◌, false, List, [], ◌∷◌, ◌++◌, ℕ, suc, ◌+◌, ◌*◌, ◌/◌, ◌%◌, ◌≤◌, ◌<◌, T, eqb, length, get_or, take, ℤ, pos, negsuc, neg_ℤ, nat_abs, ◌+ℤ◌, ◌≤ℤ◌, Float, Some, None, Ok}
 use Rattle.std.proofs.Math.Logic.Iff
 use Rattle.std.proofs.Common.{arith}
 use Rattle.std.specs.Float.{binary32, fin}
 use Rattle.std.specs.Float.Ieee.{mul, of_int}
+use Rattle.paper.specs.declared.Point.{Point}
+use Rattle.paper.specs.declared.Polyline.TheVariants.{Straight, Bent}
 use Rattle.paper.specs.declared.Refusal.{Refusal}
-use Rattle.paper.specs.declared.Answer.TheVariants.{Total, End}
-use Rattle.paper.specs.declared.Counted.TheVariants.{Many}
-use Rattle.paper.specs.declared.Two.{Two}
-use Rattle.paper.specs.declared.Three.{Three}
-use Rattle.paper.specs.declared.Drawn.{Drawn}
-use Rattle.paper.specs.declared.Drawn.TheVariants.{Straight, Bent}
+use Rattle.paper.specs.Answers.{Work, Drawn}
 use Rattle.paper.specs.declared.Form.TheVariants.{Records, Slots}
-use Rattle.paper.specs.declared.Work.{Work}
-use Rattle.paper.specs.declared.Work.TheVariants.{Unlent}
 use Rattle.paper.specs.Job.{Job, records, slots, pads_of, count, twos, name_of, half_of, x_of, y_of, port_of, last_of, port_count}
 use Rattle.paper.specs.Leaders.{Leader, Square, Between, Touch, Meets, distance, length_of, bends_of}
 use Rattle.paper.specs.Plane.{Line, TouchIn, MeetsIn}
@@ -55,15 +50,15 @@ page_one_reply job bad work given before =
 
 pub measure_one_reply : (job : Job) (bad : Badness) (list : List ℕ)
     → ((m : ℤ) × MeasurePromise job bad list m) × ((m n : ℤ) → MeasurePromise job bad list m → MeasurePromise job bad list n → m ≡ n)
-measure_one_reply job bad list = (by.Met.measure_met (calls_of job bad Unlent) (regular job bad Unlent) list, by.Determined.measure_determined (calls_of job bad Unlent) list)
+measure_one_reply job bad list = (by.Met.measure_met (calls_of job bad None) (regular job bad None) list, by.Determined.measure_determined (calls_of job bad None) list)
 
 pub count_one_reply : (job : Job) (bad : Badness) (numbers : ℕ)
     → ((m : ℤ) × CountPromise job bad numbers m) × ((m n : ℤ) → CountPromise job bad numbers m → CountPromise job bad numbers n → m ≡ n)
-count_one_reply job bad numbers = (by.Met.count_met (calls_of job bad Unlent) (regular job bad Unlent) numbers, by.Determined.count_determined (calls_of job bad Unlent) numbers)
+count_one_reply job bad numbers = (by.Met.count_met (calls_of job bad None) (regular job bad None) numbers, by.Determined.count_determined (calls_of job bad None) numbers)
 
 pub place_one_reply : (job : Job) (bad : Badness) (numbers place : ℕ) (before : List ℕ) → OneReply (PlacePromise job bad numbers place before)
 place_one_reply job bad numbers place before =
-    (by.Met.place_met (calls_of job bad Unlent) (regular job bad Unlent) numbers place before, by.Determined.place_determined (calls_of job bad Unlent) numbers place before)
+    (by.Met.place_met (calls_of job bad None) (regular job bad None) numbers place before, by.Determined.place_determined (calls_of job bad None) numbers place before)
 
 pub draw_one_reply : (job : List ℕ) (i q : ℕ) (before : List Float) → OneReply (DrawPromise job i q before)
 draw_one_reply job i q before = (by.Met.draw_met job i q before, by.Determined.draw_determined job i q before)
@@ -89,16 +84,16 @@ pub page_refuses : (job : Job) (bad : Badness) (work : Work) (given before : Lis
 page_refuses job bad work given before m after = by.Numbers.page_refuses (calls_of job bad work) (numbered job bad work) given before after m
 
 pub measure_refuses : (job : Job) (bad : Badness) (list : List ℕ) (m : ℤ) → MeasurePromise job bad list m
-    → RefusesBy (measure_trials job bad Unlent list) m (Unit {0})
-measure_refuses job bad = by.Numbers.measure_refuses (calls_of job bad Unlent) (numbered job bad Unlent)
+    → RefusesBy (measure_trials job bad None list) m (Unit {0})
+measure_refuses job bad = by.Numbers.measure_refuses (calls_of job bad None) (numbered job bad None)
 
 pub count-refuses : (job : Job) (bad : Badness) (numbers : ℕ) (m : ℤ) → CountPromise job bad numbers m
-    → RefusesBy (count_trials (calls_of job bad Unlent) numbers) m (Unit {0})
-count-refuses job bad = by.Numbers.count-refuses (calls_of job bad Unlent) (numbered job bad Unlent)
+    → RefusesBy (count_trials (calls_of job bad None) numbers) m (Unit {0})
+count-refuses job bad = by.Numbers.count-refuses (calls_of job bad None) (numbered job bad None)
 
 pub place-refuses : (job : Job) (bad : Badness) (numbers place : ℕ) (before : List ℕ) (m : ℤ) (after : List ℕ) → PlacePromise job bad numbers place before m after
-    → RefusesBy (place_trials (calls_of job bad Unlent) numbers place (length before)) m (after ≡ before)
-place-refuses job bad numbers place before m after = by.Numbers.place-refuses (calls_of job bad Unlent) (numbered job bad Unlent) numbers place before after m
+    → RefusesBy (place_trials (calls_of job bad None) numbers place (length before)) m (after ≡ before)
+place-refuses job bad numbers place before m after = by.Numbers.place-refuses (calls_of job bad None) (numbered job bad None) numbers place before after m
 
 pub draw_refuses : (job : List ℕ) (i q : ℕ) (before : List Float) (m : ℤ) (after : List Float) → DrawPromise job i q before m after
     → RefusesBy (draw_trials job i q (length before)) m (after ≡ before)
@@ -133,19 +128,19 @@ next_keeps_work job bad work before m after lent left p w n =
 -- The buffer that Count is lent holds what it held after every refusal but 16, and Place's after every one but 16 and 17 (02): these come where First's trials are
 -- passed and the buffer is long enough.
 pub count_keeps_buffer : (job : Job) (bad : Badness) (numbers : ℕ) (m : ℤ) (lent left : List ℕ) → CountPromise job bad numbers m → BufferPromise m lent left
-    → ¬ (Passed (first_trials job bad Unlent (board_of job).pads) × (buffer_needed (board_of job).pads ≤ numbers)) → left ≡ lent
+    → ¬ (Passed (first_trials job bad None (board_of job).pads) × (buffer_needed (board_of job).pads ≤ numbers)) → left ≡ lent
 count_keeps_buffer job bad numbers m lent left p w n =
     let refused = count-refuses job bad numbers m p in
-    let low = refused.exactly.1 (λ q. n (by.Places.count_opened (calls_of job bad Unlent) numbers q)) in
+    let low = refused.exactly.1 (λ q. n (by.Places.count_opened (calls_of job bad None) numbers q)) in
     let (many, past) = by.Named.count_kept job bad numbers (refusal_in m) n (refused.named low).0 in
     w low many past
 
 pub place_keeps_buffer : (job : Job) (bad : Badness) (numbers place : ℕ) (before : List ℕ) (m : ℤ) (after lent left : List ℕ)
     → PlacePromise job bad numbers place before m after → BufferPromise m lent left
-    → ¬ (Passed (first_trials job bad Unlent (length before)) × (buffer_needed (board_of job).pads ≤ numbers)) → left ≡ lent
+    → ¬ (Passed (first_trials job bad None (length before)) × (buffer_needed (board_of job).pads ≤ numbers)) → left ≡ lent
 place_keeps_buffer job bad numbers place before m after lent left p w n =
     let refused = place-refuses job bad numbers place before m after p in
-    let low = refused.exactly.1 (λ q. n (by.Places.place_opened (calls_of job bad Unlent) numbers place (length before) q)) in
+    let low = refused.exactly.1 (λ q. n (by.Places.place_opened (calls_of job bad None) numbers place (length before) q)) in
     let (many, past) = by.Named.place_kept job bad numbers place (length before) (refusal_in m) n (refused.named low).0 in
     w low many past
 
@@ -157,11 +152,11 @@ pub first_none : (job : Job) (bad : Badness) (work : Work) (before : List ℕ) (
 first_none job bad work before m after = by.Named.first_none job bad work before after m
 
 pub count_none : (job : Job) (bad : Badness) (numbers : ℕ) (m : ℤ) → CountPromise job bad numbers m
-    → (m ≡ refusal_number (refusal 15 0 0)) ↔ (Passed (sound_trials job bad Unlent (board_of job).pads) × ((f : ℕ → ℕ) → ¬ Untouching (board_of job) f))
+    → (m ≡ refusal_number (refusal 15 0 0)) ↔ (Passed (sound_trials job bad None (board_of job).pads) × ((f : ℕ → ℕ) → ¬ Untouching (board_of job) f))
 count_none = by.Named.count_none
 
 pub place_none : (job : Job) (bad : Badness) (numbers place : ℕ) (before : List ℕ) (m : ℤ) (after : List ℕ) → PlacePromise job bad numbers place before m after
-    → (m ≡ refusal_number (refusal 15 0 0)) ↔ (Passed (sound_trials job bad Unlent (length before)) × ((f : ℕ → ℕ) → ¬ Untouching (board_of job) f))
+    → (m ≡ refusal_number (refusal 15 0 0)) ↔ (Passed (sound_trials job bad None (length before)) × ((f : ℕ → ℕ) → ¬ Untouching (board_of job) f))
 place_none job bad numbers place before m after = by.Named.place_none job bad numbers place before after m
 
 -- Next needs no 15: where 1 to 7 are passed and no layout is untouching it refuses by 8 or 9. So do Page, Measure and Svg.
@@ -180,18 +175,18 @@ page_none job bad work given before m after p sound none =
     by.Named.next_none job bad work given sound none (refusal_in m) (refused.named low).0
 
 pub measure_none : (job : Job) (bad : Badness) (list : List ℕ) (m : ℤ) → MeasurePromise job bad list m
-    → Passed (sound_trials job bad Unlent (length list)) → ((f : ℕ → ℕ) → ¬ Untouching (board_of job) f) → ((refusal_in m).reason ≡ 8) ⊎ ((refusal_in m).reason ≡ 9)
+    → Passed (sound_trials job bad None (length list)) → ((f : ℕ → ℕ) → ¬ Untouching (board_of job) f) → ((refusal_in m).reason ≡ 8) ⊎ ((refusal_in m).reason ≡ 9)
 measure_none job bad list m p sound none =
     let refused = measure_refuses job bad list m p in
-    let low = refused.exactly.1 (by.Named.not_measured job bad Unlent list sound none) in
-    by.Named.measure_none job bad Unlent list sound none (refusal_in m) (refused.named low).0
+    let low = refused.exactly.1 (by.Named.not_measured job bad None list sound none) in
+    by.Named.measure_none job bad None list sound none (refusal_in m) (refused.named low).0
 
 pub svg_none : (job list before : List ℕ) (m : ℤ) (after : List ℕ) → SvgPromise job list before m after
-    → Passed (sound_trials (records job) (by_weights 0 0) Unlent (length list)) → ((f : ℕ → ℕ) → ¬ Untouching (board_of (records job)) f)
+    → Passed (sound_trials (records job) (by_weights 0 0) None (length list)) → ((f : ℕ → ℕ) → ¬ Untouching (board_of (records job)) f)
     → ((refusal_in m).reason ≡ 8) ⊎ ((refusal_in m).reason ≡ 9)
 svg_none job list before m after p sound none =
     let refused = svg_refuses job list before m after p in
-    let low = refused.exactly.1 (λ q. by.Named.not_measured (records job) (by_weights 0 0) Unlent list sound none (by.Exported.svg_measured job list (length before) q).0) in
+    let low = refused.exactly.1 (λ q. by.Named.not_measured (records job) (by_weights 0 0) None list sound none (by.Exported.svg_measured job list (length before) q).0) in
     by.Named.svg_none job list (length before) sound none (refusal_in m) (refused.named low).0
 
 -- ---- both records of 9 (02)
@@ -204,7 +199,7 @@ first_pair = by.Named.first_pair
 -- Svg's, by 19 record 0, and it is never 2: Svg is given no weights.
 pub measure_names : (job : Job) (bad : Badness) (list : List ℕ) (m : ℤ) → MeasurePromise job bad list m → m ≤ℤ neg_ℤ (pos 65536)
     → Named (board_of job) (held list) (refusal_in m)
-measure_names job bad list m p l = by.Named.measure_named job bad Unlent list (refusal_in m) ((measure_refuses job bad list m p).named l).0
+measure_names job bad list m p l = by.Named.measure_named job bad None list (refusal_in m) ((measure_refuses job bad list m p).named l).0
 
 pub next_names : (job : Job) (bad : Badness) (work : Work) (before : List ℕ) (m : ℤ) (after : List ℕ) → NextPromise job bad work before m after → m ≤ℤ neg_ℤ (pos 65536)
     → Named (board_of job) (held before) (refusal_in m)
@@ -250,25 +245,25 @@ pub first_answers : (job : Job) (bad : Badness) (work : Work) (before : List ℕ
     → FirstPromise job bad work before (pos t) after
     ↔ (Passed (first_trials job bad work (length before)) × FirstBest (labeling_of job bad) (held after)
     × (t ≡ total (board_of job) (cost_of (board_of job) bad) (held after)) × Kept (board_of job).pads before after)
-first_answers job bad work before t after = (by.Numbers.total-told (calls_of job bad work) (numbered job bad work) before after t, λ a. (Total t, a, refl))
+first_answers job bad work before t after = (by.Numbers.total-told (calls_of job bad work) (numbered job bad work) before after t, λ a. (Ok (Some t), a, refl))
 
 -- Next answers t exactly if it then holds the earliest best layout after the given one, and end (-1) exactly if no best layout comes after it.
 pub next_answers : (job : Job) (bad : Badness) (work : Work) (before : List ℕ) (t : ℕ) (after : List ℕ)
     → NextPromise job bad work before (pos t) after
     ↔ (Passed (next_trials job bad work before) × NextBest (labeling_of job bad) (held before) (held after)
     × (t ≡ total (board_of job) (cost_of (board_of job) bad) (held after)) × Kept (board_of job).pads before after)
-next_answers job bad work before t after = (by.Numbers.next_total-told (calls_of job bad work) (numbered job bad work) before after t, λ a. (Total t, a, refl))
+next_answers job bad work before t after = (by.Numbers.next_total-told (calls_of job bad work) (numbered job bad work) before after t, λ a. (Ok (Some t), a, refl))
 
 pub next_ends : (job : Job) (bad : Badness) (work : Work) (before after : List ℕ)
     → NextPromise job bad work before (negsuc 0) after
     ↔ (Passed (next_trials job bad work before) × LastBest (labeling_of job bad) (held before) × (after ≡ before))
-next_ends job bad work before after = (by.Numbers.end_told (calls_of job bad work) (numbered job bad work) before after, λ a. (End, a, refl))
+next_ends job bad work before after = (by.Numbers.end_told (calls_of job bad work) (numbered job bad work) before after, λ a. (Ok None, a, refl))
 
 -- Measure answers t exactly if the list holds an untouching layout, best or not, and t is its total.
 pub measure_answers : (job : Job) (bad : Badness) (list : List ℕ) (t : ℕ)
     → MeasurePromise job bad list (pos t)
-    ↔ (Passed (measure_trials job bad Unlent list) × (t ≡ total (board_of job) (cost_of (board_of job) bad) (held list)))
-measure_answers job bad list t = (by.Numbers.measure_told (calls_of job bad Unlent) (numbered job bad Unlent) list t, λ a. (Total t, a, refl))
+    ↔ (Passed (measure_trials job bad None list) × (t ≡ total (board_of job) (cost_of (board_of job) bad) (held list)))
+measure_answers job bad list t = (by.Numbers.measure_told (calls_of job bad None) (numbered job bad None) list t, λ a. (Ok (Some t), a, refl))
 
 -- What is passed: First's exactly if 1 to 7 are and some layout is untouching; 8 and 9 exactly if the list holds one; Next's trials exactly if First's are, and the
 -- list holds a best one.
@@ -279,9 +274,9 @@ first_passed job bad work room = (
   (λ (p, (f, u)). by.Accepted.first_passed job bad work room p (λ none. none f u)),
 )
 
-pub measure_passed : (job : Job) (bad : Badness) (list : List ℕ) → Passed (measure_trials job bad Unlent list)
-    ↔ (Passed (sound_trials job bad Unlent (length list)) × Untouching (board_of job) (held list))
-measure_passed job bad list = (by.Accepted.measure_accepted job bad Unlent list, λ (p, u). by.Accepted.untouching_passed job bad Unlent list p u)
+pub measure_passed : (job : Job) (bad : Badness) (list : List ℕ) → Passed (measure_trials job bad None list)
+    ↔ (Passed (sound_trials job bad None (length list)) × Untouching (board_of job) (held list))
+measure_passed job bad list = (by.Accepted.measure_accepted job bad None list, λ (p, u). by.Accepted.untouching_passed job bad None list p u)
 
 pub next_passed : (job : Job) (bad : Badness) (work : Work) (list : List ℕ) → Passed (next_trials job bad work list)
     ↔ (Passed (first_trials job bad work (length list)) × Best (labeling_of job bad) (held list))
@@ -345,50 +340,50 @@ total_is = by.Totals.total_is
 pub no_bend : (l : Leader) → (bends_of l ≡ 0) ↔ (l.y ≡ l.port)
 no_bend = by.Totals.bends_iff
 
-pub total_bound : (job : Job) (lw bw : ℕ) (list : List ℕ) → Passed (measure_trials job (by_weights lw bw) Unlent list)
+pub total_bound : (job : Job) (lw bw : ℕ) (list : List ℕ) → Passed (measure_trials job (by_weights lw bw) None list)
     → total (board_of job) (weighted (board_of job) lw bw) (held list) ≤ 192000064000
 total_bound job lw bw list p =
-    let (accepted, fair, room) = by.Accepted.measure_facts job (by_weights lw bw) Unlent list p in
-    by.Accepted.accepted_bound accepted lw bw fair.0 fair.1 (held list) (by.Accepted.measure_accepted job (by_weights lw bw) Unlent list p).1.layout
+    let (accepted, fair, room) = by.Accepted.measure_facts job (by_weights lw bw) None list p in
+    by.Accepted.accepted_bound accepted lw bw fair.0 fair.1 (held list) (by.Accepted.measure_accepted job (by_weights lw bw) None list p).1.layout
 
-pub table_bound : (job : Job) (figures list : List ℕ) → ((k : ℕ) → get_or figures k 0 < 4294967296) → Passed (measure_trials job (by_table figures) Unlent list)
+pub table_bound : (job : Job) (figures list : List ℕ) → ((k : ℕ) → get_or figures k 0 < 4294967296) → Passed (measure_trials job (by_table figures) None list)
     → total (board_of job) (figure (board_of job) figures) (held list) ≤ 274877906880
-table_bound job figures list narrow p = by.Bounds.measure_bounded job (by_table figures) Unlent narrow list (Total _) (p, refl)
+table_bound job figures list narrow p = by.Bounds.measure_bounded job (by_table figures) None narrow list (Ok (Some _)) (p, refl)
 
 -- So is each number that First, Next, Place and Measure by such a table give to C.
 pub first_bound : (job : Job) (figures : List ℕ) (work : Work) (before : List ℕ) (t : ℕ) (after : List ℕ) → ((k : ℕ) → get_or figures k 0 < 4294967296)
     → FirstPromise job (by_table figures) work before (pos t) after → t ≤ 274877906880
 first_bound job figures work before t after narrow p =
-    by.Bounds.first_bounded job (by_table figures) work narrow before (Total t) after ((first_answers job (by_table figures) work before t after).0 p)
+    by.Bounds.first_bounded job (by_table figures) work narrow before (Ok (Some t)) after ((first_answers job (by_table figures) work before t after).0 p)
 
 pub next_bound : (job : Job) (figures : List ℕ) (work : Work) (before : List ℕ) (t : ℕ) (after : List ℕ) → ((k : ℕ) → get_or figures k 0 < 4294967296)
     → NextPromise job (by_table figures) work before (pos t) after → t ≤ 274877906880
 next_bound job figures work before t after narrow p =
-    by.Bounds.next_bounded job (by_table figures) work narrow before (Total t) after ((next_answers job (by_table figures) work before t after).0 p)
+    by.Bounds.next_bounded job (by_table figures) work narrow before (Ok (Some t)) after ((next_answers job (by_table figures) work before t after).0 p)
 
 pub place_bound : (job : Job) (figures : List ℕ) (numbers place : ℕ) (before : List ℕ) (t : ℕ) (after : List ℕ) → ((k : ℕ) → get_or figures k 0 < 4294967296)
     → PlacePromise job (by_table figures) numbers place before (pos t) after → t ≤ 274877906880
 place_bound job figures numbers place before t after narrow p =
-    by.Bounds.place_bounded job (by_table figures) narrow numbers place before (Total t) after
-    (by.Numbers.place-told (calls_of job (by_table figures) Unlent) (numbered job (by_table figures) Unlent) numbers place before after t p)
+    by.Bounds.place_bounded job (by_table figures) narrow numbers place before (Ok (Some t)) after
+    (by.Numbers.place-told (calls_of job (by_table figures) None) (numbered job (by_table figures) None) numbers place before after t p)
 
 pub measure_bound : (job : Job) (figures list : List ℕ) (t : ℕ) → ((k : ℕ) → get_or figures k 0 < 4294967296)
     → MeasurePromise job (by_table figures) list (pos t) → t ≤ 274877906880
 measure_bound job figures list t narrow p =
-    by.Bounds.measure_bounded job (by_table figures) Unlent narrow list (Total t) ((measure_answers job (by_table figures) list t).0 p)
+    by.Bounds.measure_bounded job (by_table figures) None narrow list (Ok (Some t)) ((measure_answers job (by_table figures) list t).0 p)
 
 -- Draw answers 2 exactly if the first four places then hold the two points of a leader without a bend, and 3 exactly if the six hold the three of one with a bend.
 pub draw_straight : (job : List ℕ) (i q : ℕ) (before after : List Float)
     → DrawPromise job i q before (pos 2) after
-    ↔ ((d : Two) × (Passed (draw_trials job i q (length before)) × DrawnStraight (leader (board_of (records job)) i q) d
-    × (after ≡ overwritten (coordinates (Straight d)) before)))
-draw_straight job i q before after = (by.Numbers.straight_told job i q before after, λ (d, a). (Straight d, a, refl))
+    ↔ ((a : Point) × (c : Point) × (Passed (draw_trials job i q (length before)) × DrawnStraight (leader (board_of (records job)) i q) a c
+    × (after ≡ overwritten (coordinates (Ok (Straight a c))) before)))
+draw_straight job i q before after = (by.Numbers.straight_told job i q before after, λ (a, c, d). (Ok (Straight a c), d, refl))
 
 pub draw_bent : (job : List ℕ) (i q : ℕ) (before after : List Float)
     → DrawPromise job i q before (pos 3) after
-    ↔ ((d : Three) × (Passed (draw_trials job i q (length before)) × DrawnBent (leader (board_of (records job)) i q) d
-    × (after ≡ overwritten (coordinates (Bent d)) before)))
-draw_bent job i q before after = (by.Numbers.bent_told job i q before after, λ (d, a). (Bent d, a, refl))
+    ↔ ((a : Point) × (b : Point) × (c : Point) × (Passed (draw_trials job i q (length before)) × DrawnBent (leader (board_of (records job)) i q) a b c
+    × (after ≡ overwritten (coordinates (Ok (Bent a b c))) before)))
+draw_bent job i q before after = (by.Numbers.bent_told job i q before after, λ (a, b, c, d). (Ok (Bent a b c), d, refl))
 
 -- They fill the first places of the list, and the places after those keep their content. So do the bytes of a text, and of records.
 pub drawn_places : {A : Type 0} (cs before : List A) (k : ℕ) (d : A)
@@ -454,13 +449,13 @@ paged_on job bad work = by.ByNext.paged_on (calls_of job bad work) (regular job 
 
 -- Count answers k exactly if its trials are passed and there are k best layouts: one more than the last place. It is 1 to 1,000,000,000,000,000,000.
 pub count_answers : (job : Job) (bad : Badness) (numbers k : ℕ) → CountPromise job bad numbers (pos k)
-    ↔ (Passed (count_trials (calls_of job bad Unlent) numbers) × CountBest (labeling_of job bad) k)
-count_answers job bad numbers k = (by.Numbers.count-told (calls_of job bad Unlent) (numbered job bad Unlent) numbers k, λ a. (Many k, a, refl))
+    ↔ (Passed (count_trials (calls_of job bad None) numbers) × CountBest (labeling_of job bad) k)
+count_answers job bad numbers k = (by.Numbers.count-told (calls_of job bad None) (numbered job bad None) numbers k, λ a. (Ok k, a, refl))
 
 pub count_bound : (job : Job) (bad : Badness) (numbers k : ℕ) → CountPromise job bad numbers (pos k) → (0 < k) × (k ≤ 1000000000000000000)
 count_bound job bad numbers k p =
     let (passed, is) = (count_answers job bad numbers k).0 p in
-    (by.Places.count_some (labeling_of job bad) k is, by.Places.count_few (calls_of job bad Unlent) numbers k passed is)
+    (by.Places.count_some (labeling_of job bad) k is, by.Places.count_few (calls_of job bad None) numbers k passed is)
 
 -- It takes no list and no place: it never refuses by 3 or by 17.
 pub count-free : (job : Job) (bad : Badness) (numbers : ℕ) (m : ℤ) → CountPromise job bad numbers m → m ≤ℤ neg_ℤ (pos 65536)
@@ -470,37 +465,37 @@ count-free job bad numbers m p l = by.Named.count-free job bad numbers (refusal_
 -- Place answers t exactly if its trials are passed and the list then holds the layout at that place, t its total, the other entries kept.
 pub place_answers : (job : Job) (bad : Badness) (numbers place : ℕ) (before : List ℕ) (t : ℕ) (after : List ℕ)
     → PlacePromise job bad numbers place before (pos t) after
-    ↔ (Passed (place_trials (calls_of job bad Unlent) numbers place (length before)) × PlaceBest (labeling_of job bad) place (held after)
+    ↔ (Passed (place_trials (calls_of job bad None) numbers place (length before)) × PlaceBest (labeling_of job bad) place (held after)
     × (t ≡ total (board_of job) (cost_of (board_of job) bad) (held after)) × Kept (board_of job).pads before after)
 place_answers job bad numbers place before t after =
-    (by.Numbers.place-told (calls_of job bad Unlent) (numbered job bad Unlent) numbers place before after t, λ a. (Total t, a, refl))
+    (by.Numbers.place-told (calls_of job bad None) (numbered job bad None) numbers place before after t, λ a. (Ok (Some t), a, refl))
 
 -- Place k answers what First followed by k calls of Next answers, from the same list, and leaves what they leave; and so place 0 is First's.
 pub place_by_next : (job : Job) (bad : Badness) (numbers place : ℕ) (before : List ℕ) (t : ℕ) (after : List ℕ)
     → PlacePromise job bad numbers place before (pos t) after
-    ↔ (Passed (place_trials (calls_of job bad Unlent) numbers place (length before)) × AskedTo (calls_of job bad Unlent) before place (pos t) after)
-place_by_next job bad numbers place before t after = by.ByNext.place_by_next (calls_of job bad Unlent) (regular job bad Unlent) before numbers place t after
+    ↔ (Passed (place_trials (calls_of job bad None) numbers place (length before)) × AskedTo (calls_of job bad None) before place (pos t) after)
+place_by_next job bad numbers place before t after = by.ByNext.place_by_next (calls_of job bad None) (regular job bad None) before numbers place t after
 
 pub place-first : (job : Job) (bad : Badness) (numbers : ℕ) (before : List ℕ) (t : ℕ) (after : List ℕ)
     → PlacePromise job bad numbers 0 before (pos t) after
-    ↔ (Passed (place_trials (calls_of job bad Unlent) numbers 0 (length before)) × FirstPromise job bad Unlent before (pos t) after)
+    ↔ (Passed (place_trials (calls_of job bad None) numbers 0 (length before)) × FirstPromise job bad None before (pos t) after)
 place-first job bad numbers = place_by_next job bad numbers 0
 
 -- The count is how many lists First and then Next until the end leave, and Place k answers with the layout of the one at k.
 pub count_of_run : (job : Job) (bad : Badness) (numbers k : ℕ) (list : List ℕ) (ls : List (List ℕ))
-    → CountPromise job bad numbers (pos k) → Run (calls_of job bad Unlent) list ls → k ≡ length ls
+    → CountPromise job bad numbers (pos k) → Run (calls_of job bad None) list ls → k ≡ length ls
 count_of_run job bad numbers k list ls p r =
     by.Places.count_one (labeling_of job bad) k (length ls) ((count_answers job bad numbers k).0 p).1
-    (by.ByNext.run_count (calls_of job bad Unlent) (regular job bad Unlent) list ls r)
+    (by.ByNext.run_count (calls_of job bad None) (regular job bad None) list ls r)
 
 pub place_of_run : (job : Job) (bad : Badness) (numbers place : ℕ) (before : List ℕ) (t : ℕ) (after list : List ℕ) (ls : List (List ℕ))
-    → PlacePromise job bad numbers place before (pos t) after → Run (calls_of job bad Unlent) list ls
+    → PlacePromise job bad numbers place before (pos t) after → Run (calls_of job bad None) list ls
     → (place < length ls) × Same (board_of job) (held after) (held (get_or ls place []))
 place_of_run job bad numbers place before t after list ls p r =
     let at = ((place_answers job bad numbers place before t after).0 p).1 in
-    let count = by.ByNext.run_count (calls_of job bad Unlent) (regular job bad Unlent) list ls r in
+    let count = by.ByNext.run_count (calls_of job bad None) (regular job bad None) list ls r in
     let below = by.Places.place-below (labeling_of job bad) (length ls) place (held after) count at in
-    let run = by.ByNext.run_place (calls_of job bad Unlent) (regular job bad Unlent) list ls r place below in
+    let run = by.ByNext.run_place (calls_of job bad None) (regular job bad None) list ls r place below in
     (below, by.Places.place_one (labeling_of job bad) place (held after) (held (get_or ls place [])) at run)
 
 -- Where Count answers k, every best layout has a place below k, its rank among them, and no other; places rise in 01's order; and with that buffer and room for a
@@ -509,44 +504,44 @@ pub every_best_has_a_place : (job : Job) (bad : Badness) (numbers k : ℕ) (f : 
     → (place : ℕ) × (place < k) × PlaceBest (labeling_of job bad) place f × ((other : ℕ) → PlaceBest (labeling_of job bad) other f → other ≡ place)
 every_best_has_a_place job bad numbers k f p best =
     let (passed, is) = (count_answers job bad numbers k).0 p in
-    let S = (regular job bad Unlent).searchable (board_of job).pads (by.Places.count_opened (calls_of job bad Unlent) numbers passed).0 in
+    let S = (regular job bad None).searchable (board_of job).pads (by.Places.count_opened (calls_of job bad None) numbers passed).0 in
     by.Places.only_place (labeling_of job bad) S.differ S.steady k is f best
 
 pub places_rise : (job : Job) (bad : Badness) (numbers k : ℕ) → CountPromise job bad numbers (pos k)
     → (i j : ℕ) (f g : ℕ → ℕ) → i < j → PlaceBest (labeling_of job bad) i f → PlaceBest (labeling_of job bad) j g → Before (board_of job) f g
 places_rise job bad numbers k p =
-    let first = (by.Places.count_opened (calls_of job bad Unlent) numbers ((count_answers job bad numbers k).0 p).0).0 in
-    by.Places.place-before (labeling_of job bad) ((regular job bad Unlent).searchable (board_of job).pads first).differ
+    let first = (by.Places.count_opened (calls_of job bad None) numbers ((count_answers job bad numbers k).0 p).0).0 in
+    by.Places.place-before (labeling_of job bad) ((regular job bad None).searchable (board_of job).pads first).differ
 
 pub place_accepts : (job : Job) (bad : Badness) (numbers k : ℕ) → CountPromise job bad numbers (pos k) → (place room : ℕ) → (board_of job).pads ≤ room
-    → Passed (place_trials (calls_of job bad Unlent) numbers place room) ↔ (place < k)
+    → Passed (place_trials (calls_of job bad None) numbers place room) ↔ (place < k)
 place_accepts job bad numbers k p =
     let (passed, is) = (count_answers job bad numbers k).0 p in
-    by.Places.place_accepts (calls_of job bad Unlent) numbers k passed is (regular job bad Unlent)
+    by.Places.place_accepts (calls_of job bad None) numbers k passed is (regular job bad None)
 
 -- Count refuses by 18, record 0, exactly if First's trials are passed and the buffer is too short, and by 16 exactly if it is not and there are more best layouts than
 -- 1,000,000,000,000,000,000; so does Place, and by 17 exactly if there are no more, and the place is at or past their number.
 pub count_too_short : (job : Job) (bad : Badness) (numbers : ℕ) (m : ℤ) → CountPromise job bad numbers m
-    → (m ≡ refusal_number (refusal 18 0 0)) ↔ (Passed (first_trials job bad Unlent (board_of job).pads) × (numbers < buffer_needed (board_of job).pads))
+    → (m ≡ refusal_number (refusal 18 0 0)) ↔ (Passed (first_trials job bad None (board_of job).pads) × (numbers < buffer_needed (board_of job).pads))
 count_too_short = by.Named.count_too_short
 
 pub count_too_many : (job : Job) (bad : Badness) (numbers : ℕ) (m : ℤ) → CountPromise job bad numbers m
     → (m ≡ refusal_number (refusal 16 0 0))
-    ↔ (Passed (first_trials job bad Unlent (board_of job).pads) × (buffer_needed (board_of job).pads ≤ numbers) × TooMany (labeling_of job bad))
+    ↔ (Passed (first_trials job bad None (board_of job).pads) × (buffer_needed (board_of job).pads ≤ numbers) × TooMany (labeling_of job bad))
 count_too_many = by.Named.count_too_many
 
 pub place_too_short : (job : Job) (bad : Badness) (numbers place : ℕ) (before : List ℕ) (m : ℤ) (after : List ℕ) → PlacePromise job bad numbers place before m after
-    → (m ≡ refusal_number (refusal 18 0 0)) ↔ (Passed (first_trials job bad Unlent (length before)) × (numbers < buffer_needed (board_of job).pads))
+    → (m ≡ refusal_number (refusal 18 0 0)) ↔ (Passed (first_trials job bad None (length before)) × (numbers < buffer_needed (board_of job).pads))
 place_too_short job bad numbers place before m after = by.Named.place_too_short job bad numbers place before after m
 
 pub place_too_many : (job : Job) (bad : Badness) (numbers place : ℕ) (before : List ℕ) (m : ℤ) (after : List ℕ) → PlacePromise job bad numbers place before m after
     → (m ≡ refusal_number (refusal 16 0 0))
-    ↔ (Passed (first_trials job bad Unlent (length before)) × (buffer_needed (board_of job).pads ≤ numbers) × TooMany (labeling_of job bad))
+    ↔ (Passed (first_trials job bad None (length before)) × (buffer_needed (board_of job).pads ≤ numbers) × TooMany (labeling_of job bad))
 place_too_many job bad numbers place before m after = by.Named.place_too_many job bad numbers place before after m
 
 pub place_past_count : (job : Job) (bad : Badness) (numbers place : ℕ) (before : List ℕ) (m : ℤ) (after : List ℕ) → PlacePromise job bad numbers place before m after
     → (m ≡ refusal_number (refusal 17 0 0))
-    ↔ (Passed (first_trials job bad Unlent (length before)) × (buffer_needed (board_of job).pads ≤ numbers)
+    ↔ (Passed (first_trials job bad None (length before)) × (buffer_needed (board_of job).pads ≤ numbers)
     × (¬ TooMany (labeling_of job bad)) × PastCount (labeling_of job bad) place)
 place_past_count job bad numbers place before m after = by.Named.place_past_count job bad numbers place before after m
 
@@ -586,16 +581,16 @@ pub page_on_points : (job : Job) (bad : Badness) (work : Work) → Points (board
 page_on_points job bad work points = by.OnPoints.page_on_points job bad points work
 
 pub count_on_points : (job : Job) (bad : Badness) → Points (board_of job) → (numbers : ℕ) (m : ℤ)
-    → CountPromise job bad numbers m ↔ CountReplies (point_calls_of job bad Unlent) numbers m
-count_on_points job bad points = by.OnPoints.count_on_points job bad points Unlent
+    → CountPromise job bad numbers m ↔ CountReplies (point_calls_of job bad None) numbers m
+count_on_points job bad points = by.OnPoints.count_on_points job bad points None
 
 pub place_on_points : (job : Job) (bad : Badness) → Points (board_of job) → (numbers place : ℕ) (before : List ℕ) (m : ℤ) (after : List ℕ)
-    → PlacePromise job bad numbers place before m after ↔ PlaceReplies (point_calls_of job bad Unlent) numbers place before m after
-place_on_points job bad points = by.OnPoints.place_on_points job bad points Unlent
+    → PlacePromise job bad numbers place before m after ↔ PlaceReplies (point_calls_of job bad None) numbers place before m after
+place_on_points job bad points = by.OnPoints.place_on_points job bad points None
 
 pub measure_on_points : (job : Job) (bad : Badness) → Points (board_of job) → (list : List ℕ) (m : ℤ)
-    → MeasurePromise job bad list m ↔ MeasureReplies (point_calls_of job bad Unlent) list m
-measure_on_points job bad points = by.OnPoints.measure_on_points job bad points Unlent
+    → MeasurePromise job bad list m ↔ MeasureReplies (point_calls_of job bad None) list m
+measure_on_points job bad points = by.OnPoints.measure_on_points job bad points None
 
 -- ---- the weighted calls are the table of weighted lengths and bends (02)
 
@@ -643,10 +638,10 @@ pub svg_answers : (job list before : List ℕ) (k : ℕ) (after : List ℕ) → 
     ↔ (Passed (svg_trials job list (length before))
     × ((s : List ℕ) × (SheetWritten (board_of (records job)) (held list) s × (k ≡ length s)) × (after ≡ overwritten s before)))
 svg_answers job list before k after =
-    (by.Numbers.fill_told (svg_trials job list (length before)) (by.Numbers.svg_small job list (length before)) (SvgFills job list) before after k, λ a. (Many k, a, refl))
+    (by.Numbers.fill_told (svg_trials job list (length before)) (by.Numbers.svg_small job list (length before)) (SvgFills job list) before after k, λ a. (Ok k, a, refl))
 
 pub svg_passed : (job list : List ℕ) (room : ℕ) → Passed (svg_trials job list room)
-    ↔ (Passed (measure_trials (records job) (by_weights 0 0) Unlent list) × ((s : List ℕ) × SheetWritten (board_of (records job)) (held list) s × (length s ≤ room)))
+    ↔ (Passed (measure_trials (records job) (by_weights 0 0) None list) × ((s : List ℕ) × SheetWritten (board_of (records job)) (held list) s × (length s ≤ room)))
 svg_passed = by.Exported.svg_passed
 
 pub one_text : (b : Board) (f : ℕ → ℕ) (s t : List ℕ) → SheetWritten b f s → SheetWritten b f t → s ≡ t
@@ -655,7 +650,7 @@ one_text = by.Texts.sheet_one
 -- By 19 it refuses exactly if Measure's are passed and the text is too long. It answers at most 76 bytes for each record, and so 4,864; with room for 76 a record, or
 -- for 4,864, it never refuses by 19.
 pub svg_too_long : (job list before : List ℕ) (m : ℤ) (after : List ℕ) → SvgPromise job list before m after
-    → (m ≡ refusal_number (refusal 19 0 0)) ↔ (Passed (measure_trials (records job) (by_weights 0 0) Unlent list) × TooLong (board_of (records job)) (held list) (length before))
+    → (m ≡ refusal_number (refusal 19 0 0)) ↔ (Passed (measure_trials (records job) (by_weights 0 0) None list) × TooLong (board_of (records job)) (held list) (length before))
 svg_too_long job list before m after = by.Named.svg_too_long job list before after m
 
 pub svg_bound : (job list before : List ℕ) (k : ℕ) (after : List ℕ) → SvgPromise job list before (pos k) after → (k ≤ 76 * count job) × (k ≤ 4864)
@@ -732,7 +727,7 @@ one_first_bad text = by.Trials.smallest_one (BadLine text)
 pub csv_answers : (text before : List ℕ) (k : ℕ) (after : List ℕ) → CsvPromise text before (pos k) after
     ↔ (Passed (csv_trials text (length before)) × ((s : List ℕ) × CsvFills text s k × (after ≡ overwritten s before)))
 csv_answers text before k after =
-    (by.Numbers.fill_told (csv_trials text (length before)) (by.Numbers.csv_small text (length before)) (CsvFills text) before after k, λ a. (Many k, a, refl))
+    (by.Numbers.fill_told (csv_trials text (length before)) (by.Numbers.csv_small text (length before)) (CsvFills text) before after k, λ a. (Ok k, a, refl))
 
 pub csv_passed : (text : List ℕ) (room : ℕ) → Passed (csv_trials text room) ↔ ((length text ≤ 16384) × ReadWith text (λ pads. ValidPads pads room))
 csv_passed = by.Readable.csv_passed
@@ -765,11 +760,11 @@ plain_reads pads = (by.Written.plain_reads pads, by.Written.plain_reads_on pads)
 
 pub round_trip : (pads : List Pad) (before : List ℕ) → ValidPads pads (length before)
     → CsvPromise (plain_text pads) before (pos (length pads)) (overwritten (records_of pads) before)
-round_trip pads before v = (Many (length pads), by.Readable.round_trip pads before v, refl)
+round_trip pads before v = (Ok (length pads), by.Readable.round_trip pads before v, refl)
 
 pub records_round_trip : (l before : List ℕ) → ((k : ℕ) → k < length l → get_or l k 0 < 256) → Passed (pad_trials l) → ((i : ℕ) → i < count l → half_of l i ≡ 0)
     → length l ≤ length before → CsvPromise (plain_text (pads_in l)) before (pos (count l)) (overwritten l before)
-records_round_trip l before bytes passed points fits = (Many (count l), by.Readable.records_trip l before bytes passed points fits, refl)
+records_round_trip l before bytes passed points fits = (Ok (count l), by.Readable.records_trip l before bytes passed points fits, refl)
 
 -- What was read is a pad list for the slots calls: it passes 1, 4, 6 and 7, half-sides are 0, and SlotsFirst accepts it exactly if its other trials, those of the ports, the
 -- weights and the room, are passed: 15 never comes.

@@ -1,14 +1,12 @@
 -- DEFINITIONS. 01, "The calls", Draw: one canvas unit is four job units and y grows downward; all numbers are 32-bit floats, in the kit's
 -- account of IEEE 754.
-use Rattle.std.specs.Prelude.{◌≡◌, ◌≢◌, Bool, true, false, List, [], ◌∷◌, ℕ, T, ℤ, pos, negsuc, nat_abs, neg_ℤ, Float}
+use Rattle.std.specs.Prelude.{◌≡◌, ◌≢◌, Bool, true, false, List, [], ◌∷◌, ℕ, T, ℤ, pos, negsuc, nat_abs, neg_ℤ, Float, Ok, Err}
 use Rattle.std.specs.Float.{binary32}
 use Rattle.std.specs.Float.Ieee.{fits}
 use Rattle.std.specs.Float.Ieee.Exact.{HasValue}
 use Rattle.paper.specs.declared.Point.{Point}
-use Rattle.paper.specs.declared.Two.{Two}
-use Rattle.paper.specs.declared.Three.{Three}
-use Rattle.paper.specs.declared.Drawn.{Drawn}
-use Rattle.paper.specs.declared.Drawn.TheVariants.{Straight, Bent, Refused as NotDrawn}
+use Rattle.paper.specs.declared.Polyline.TheVariants.{Straight, Bent}
+use Rattle.paper.specs.Answers.{Drawn}
 use Rattle.paper.specs.Leaders.{Leader}
 
 abbrev pub negative : ℤ → Bool
@@ -27,25 +25,25 @@ pub record StandsFor (a : Point) (x : ℕ) (y : ℤ) : Type 0 where
   pub down : FourTimesIs a.y (neg_ℤ y)
 
 -- A leader is straight exactly if there is no bend: two points, pad and port. Else three: pad, bend and port.
-pub record DrawnStraight (l : Leader) (d : Two) : Type 0 where
+pub record DrawnStraight (l : Leader) (p q : Point) : Type 0 where
   pub level : l.y ≡ l.port
-  pub pad : StandsFor d.pad l.x l.y
-  pub port : StandsFor d.port 0 l.port
+  pub pad : StandsFor p l.x l.y
+  pub port : StandsFor q 0 l.port
 
-pub record DrawnBent (l : Leader) (d : Three) : Type 0 where
+pub record DrawnBent (l : Leader) (p m q : Point) : Type 0 where
   pub bends : l.y ≢ l.port
-  pub pad : StandsFor d.pad l.x l.y
-  pub bend : StandsFor d.bend l.x l.port
-  pub port : StandsFor d.port 0 l.port
+  pub pad : StandsFor p l.x l.y
+  pub bend : StandsFor m l.x l.port
+  pub port : StandsFor q 0 l.port
 
 -- The answer d draws the leader l.
 abbrev pub Draws : Leader → Drawn → Type 0
-Draws l (Straight d) = DrawnStraight l d
-Draws l (Bent d) = DrawnBent l d
-Draws l (NotDrawn r) = ⊥
+Draws l (Ok (Straight p q)) = DrawnStraight l p q
+Draws l (Ok (Bent p m q)) = DrawnBent l p m q
+Draws l (Err r) = ⊥
 
 -- The points' coordinates, x before y.
 abbrev pub coordinates : Drawn → List Float
-coordinates (Straight d) = d.pad.x ∷ d.pad.y ∷ d.port.x ∷ d.port.y ∷ []
-coordinates (Bent d) = d.pad.x ∷ d.pad.y ∷ d.bend.x ∷ d.bend.y ∷ d.port.x ∷ d.port.y ∷ []
-coordinates (NotDrawn r) = []
+coordinates (Ok (Straight p q)) = p.x ∷ p.y ∷ q.x ∷ q.y ∷ []
+coordinates (Ok (Bent p m q)) = p.x ∷ p.y ∷ m.x ∷ m.y ∷ q.x ∷ q.y ∷ []
+coordinates (Err r) = []

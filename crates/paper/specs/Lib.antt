@@ -3,12 +3,15 @@ pub mod Job
 pub mod Leaders
 pub mod Plane
 pub mod Layouts
+pub mod Given
 pub mod Problem
 pub mod Canvas
 pub mod Svg
 pub mod Csv
 pub mod Refusals
+pub mod Reasons
 pub mod Points
+pub mod Answers
 pub mod Promises
 pub mod Runs
 pub mod Sheets

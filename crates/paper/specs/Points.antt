@@ -1,8 +1,7 @@
 -- DEFINITIONS. Pads as points: jobs whose half-sides are all 0, and the calls as 01 has them, where only leaders touch and no job is refused by 15. On such jobs the
 -- promises say the same (`first_on_points` ..).
-use Rattle.std.specs.Prelude.{◌≡◌, List, [], ◌∷◌, ◌++◌, ℕ, ◌<◌, length}
-use Rattle.paper.specs.declared.Work.{Work}
-use Rattle.paper.specs.declared.Work.TheVariants.{Unlent}
+use Rattle.std.specs.Prelude.{◌≡◌, List, [], ◌∷◌, ◌++◌, ℕ, ◌<◌, length, None}
+use Rattle.paper.specs.Answers.{Work}
 use Rattle.paper.specs.Job.{Job}
 use Rattle.paper.specs.Layouts.{Board, board_of, held, LeadersTouch, Layout, Badness, cost_of, total}
 use Rattle.paper.specs.Problem.{Problem}
@@ -28,6 +27,6 @@ abbrev pub point_calls_of : Job → Badness → Work → Calls
 point_calls_of job bad work = record {
   problem = point_labeling_of job bad;
   first = sound_trials job bad work;
-  measure = point_measure job bad Unlent;
+  measure = point_measure job bad None;
   next = λ list. point_measure job bad work list ++ (best_trial (point_labeling_of job bad) list ∷ []);
 }

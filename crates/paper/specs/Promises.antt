@@ -1,16 +1,10 @@
 -- DEFINITIONS. 01, "The calls": what each call promises for every input, by cases of its answer, and the number that C gets.
 -- A call is given a job, numbers or a table, and a lent list that holds `before` at entry and `after` at exit. Page is given a layout besides, which is only read.
 -- Of the work list that First and Next may be lent, and of the buffer of Count and Place, a promise knows the length alone: what it holds on entry changes no answer.
-use Rattle.std.specs.Prelude.{◌≡◌, ◌≢◌, ◌⊎◌, ◌↔◌, List, ◌++◌, ℕ, zero, suc, ◌+◌, ◌*◌, ◌/◌, ◌%◌, ◌≤◌, ◌<◌, length, get_or, drop, ℤ, pos, negsuc, neg_ℤ, nat_abs, ◌≤ℤ◌, Float}
+use Rattle.std.specs.Prelude.{◌≡◌, ◌≢◌, ◌⊎◌, ◌↔◌, List, ◌++◌, ℕ, zero, suc, ◌+◌, ◌*◌, ◌/◌, ◌%◌, ◌≤◌, ◌<◌, length, get_or, drop, ℤ, pos, negsuc, neg_ℤ, nat_abs, ◌≤ℤ◌, Float, Some, None, Ok, Err}
 use Rattle.paper.specs.declared.Refusal.{Refusal}
-use Rattle.paper.specs.declared.Answer.{Answer}
-use Rattle.paper.specs.declared.Answer.TheVariants.{Total, End, Refused}
-use Rattle.paper.specs.declared.Counted.{Counted}
-use Rattle.paper.specs.declared.Counted.TheVariants.{Many, Refused as NotCounted}
-use Rattle.paper.specs.declared.Drawn.{Drawn}
-use Rattle.paper.specs.declared.Drawn.TheVariants.{Straight, Bent, Refused as NotDrawn}
-use Rattle.paper.specs.declared.Work.{Work}
-use Rattle.paper.specs.declared.Work.TheVariants.{Unlent}
+use Rattle.paper.specs.declared.Polyline.TheVariants.{Straight, Bent}
+use Rattle.paper.specs.Answers.{Work, Answer, Counted, Drawn}
 use Rattle.paper.specs.Job.{Job, records}
 use Rattle.paper.specs.Layouts.{board_of, held, leader, Badness}
 use Rattle.paper.specs.Problem.{Problem, FirstBest, NextBest, LastBest, PlaceBest, CountBest}
@@ -31,20 +25,20 @@ refusal_in c = refusal (nat_abs c / 65536 % 65536) (nat_abs c % 65536) (nat_abs 
 
 -- the total as itself, end as -1
 abbrev pub number : Answer → ℤ
-number (Total t) = pos t
-number End = negsuc 0
-number (Refused r) = refusal_number r
+number (Ok (Some t)) = pos t
+number (Ok None) = negsuc 0
+number (Err r) = refusal_number r
 
 -- Page's, Count's, Svg's and ReadCsv's: how many layouts, bytes or pads, as itself, or the refusal's
 abbrev pub counted_number : Counted → ℤ
-counted_number (Many k) = pos k
-counted_number (NotCounted r) = refusal_number r
+counted_number (Ok k) = pos k
+counted_number (Err r) = refusal_number r
 
 -- Draw's: its number of points as itself, or the refusal's
 abbrev pub drawn_number : Drawn → ℤ
-drawn_number (Straight d) = pos 2
-drawn_number (Bent d) = pos 3
-drawn_number (NotDrawn r) = refusal_number r
+drawn_number (Ok (Straight p q)) = pos 2
+drawn_number (Ok (Bent p m q)) = pos 3
+drawn_number (Err r) = refusal_number r
 
 -- ---- lent lists
 
@@ -68,18 +62,18 @@ overwritten cs before = cs ++ drop (length cs) before
 
 -- FIRST: the earliest best layout fills the first n entries, and the answer is its value: on a job, its total.
 abbrev pub FirstOver : Calls → List ℕ → Answer → List ℕ → Type 0
-FirstOver c before (Total t) after =
+FirstOver c before (Ok (Some t)) after =
     Passed (c.first (length before)) × FirstBest c.problem (held after) × (t ≡ c.problem.value (held after)) × Kept (entries c) before after
-FirstOver c before End after = ⊥
-FirstOver c before (Refused r) after = RefusedBy (c.first (length before)) r × (after ≡ before)
+FirstOver c before (Ok None) after = ⊥
+FirstOver c before (Err r) after = RefusedBy (c.first (length before)) r × (after ≡ before)
 
 -- NEXT: the earliest best layout after the given one replaces it, and the answer is its value; or no best layout comes after the given one, and
 -- the answer is end.
 abbrev pub NextOver : Calls → List ℕ → Answer → List ℕ → Type 0
-NextOver c before (Total t) after =
+NextOver c before (Ok (Some t)) after =
     Passed (c.next before) × NextBest c.problem (held before) (held after) × (t ≡ c.problem.value (held after)) × Kept (entries c) before after
-NextOver c before End after = Passed (c.next before) × LastBest c.problem (held before) × (after ≡ before)
-NextOver c before (Refused r) after = RefusedBy (c.next before) r × (after ≡ before)
+NextOver c before (Ok None) after = Passed (c.next before) × LastBest c.problem (held before) × (after ≡ before)
+NextOver c before (Err r) after = RefusedBy (c.next before) r × (after ≡ before)
 
 -- PAGE: k layouts stand on the page, each the earliest best layout after the one before it, the first of them after the given one. They are as many
 -- as fit, or fewer where the end comes: no best layout comes after the last of them. Whatever part of the page is not filled is unchanged.
@@ -91,26 +85,26 @@ pub record Following (p : Problem) (given before : List ℕ) (k : ℕ) (after : 
 
 -- Its trials are Next's, of the given layout: none speaks of the page.
 abbrev pub PageOver : Calls → List ℕ → List ℕ → Counted → List ℕ → Type 0
-PageOver c given before (Many k) after = Passed (c.next given) × Following c.problem given before k after
-PageOver c given before (NotCounted r) after = RefusedBy (c.next given) r × (after ≡ before)
+PageOver c given before (Ok k) after = Passed (c.next given) × Following c.problem given before k after
+PageOver c given before (Err r) after = RefusedBy (c.next given) r × (after ≡ before)
 
 -- MEASURE: the value of a layout that counts, best or not. Its list is only read.
 abbrev pub MeasureOver : Calls → List ℕ → Answer → Type 0
-MeasureOver c list (Total t) = Passed (c.measure list) × (t ≡ c.problem.value (held list))
-MeasureOver c list End = ⊥
-MeasureOver c list (Refused r) = RefusedBy (c.measure list) r
+MeasureOver c list (Ok (Some t)) = Passed (c.measure list) × (t ≡ c.problem.value (held list))
+MeasureOver c list (Ok None) = ⊥
+MeasureOver c list (Err r) = RefusedBy (c.measure list) r
 
 -- COUNT, with a buffer of so many numbers: how many best layouts there are.
 abbrev pub CountOver : Calls → ℕ → Counted → Type 0
-CountOver c numbers (Many k) = Passed (count_trials c numbers) × CountBest c.problem k
-CountOver c numbers (NotCounted r) = RefusedBy (count_trials c numbers) r
+CountOver c numbers (Ok k) = Passed (count_trials c numbers) × CountBest c.problem k
+CountOver c numbers (Err r) = RefusedBy (count_trials c numbers) r
 
 -- PLACE: the layout at that place fills the first n entries, and the answer is its value.
 abbrev pub PlaceOver : Calls → ℕ → ℕ → List ℕ → Answer → List ℕ → Type 0
-PlaceOver c numbers place before (Total t) after =
+PlaceOver c numbers place before (Ok (Some t)) after =
     Passed (place_trials c numbers place (length before)) × PlaceBest c.problem place (held after) × (t ≡ c.problem.value (held after)) × Kept (entries c) before after
-PlaceOver c numbers place before End after = ⊥
-PlaceOver c numbers place before (Refused r) after = RefusedBy (place_trials c numbers place (length before)) r × (after ≡ before)
+PlaceOver c numbers place before (Ok None) after = ⊥
+PlaceOver c numbers place before (Err r) after = RefusedBy (place_trials c numbers place (length before)) r × (after ≡ before)
 
 -- ---- what C sees: the number m of such an answer, and the list
 
@@ -138,9 +132,9 @@ OpenAfter r s m before after = m ≤ℤ neg_ℤ (pos 65536) → ((refusal_in m).
 
 -- A work list: 10 and 15; and the buffer of Count and Place: 16 and 17.
 abbrev pub WorkAfter : Answer → List ℕ → List ℕ → Type 0
-WorkAfter (Total t) before after = Unit {0}
-WorkAfter End before after = Unit {0}
-WorkAfter (Refused r) before after = (r.reason ≢ 10) → (r.reason ≢ 15) → after ≡ before
+WorkAfter (Ok (Some t)) before after = Unit {0}
+WorkAfter (Ok None) before after = Unit {0}
+WorkAfter (Err r) before after = (r.reason ≢ 10) → (r.reason ≢ 15) → after ≡ before
 
 abbrev pub WorkPromise : ℤ → List ℕ → List ℕ → Type 0
 WorkPromise = OpenAfter 10 15
@@ -160,13 +154,13 @@ abbrev pub PageAnswers : Job → Badness → Work → List ℕ → List ℕ → 
 PageAnswers job bad work = PageOver (calls_of job bad work)
 
 abbrev pub MeasureAnswers : Job → Badness → List ℕ → Answer → Type 0
-MeasureAnswers job bad = MeasureOver (calls_of job bad Unlent)
+MeasureAnswers job bad = MeasureOver (calls_of job bad None)
 
 abbrev pub CountAnswers : Job → Badness → ℕ → Counted → Type 0
-CountAnswers job bad = CountOver (calls_of job bad Unlent)
+CountAnswers job bad = CountOver (calls_of job bad None)
 
 abbrev pub PlaceAnswers : Job → Badness → ℕ → ℕ → List ℕ → Answer → List ℕ → Type 0
-PlaceAnswers job bad = PlaceOver (calls_of job bad Unlent)
+PlaceAnswers job bad = PlaceOver (calls_of job bad None)
 
 abbrev pub FirstPromise : Job → Badness → Work → List ℕ → ℤ → List ℕ → Type 0
 FirstPromise job bad work = FirstReplies (calls_of job bad work)
@@ -178,29 +172,31 @@ abbrev pub PagePromise : Job → Badness → Work → List ℕ → List ℕ → 
 PagePromise job bad work = PageReplies (calls_of job bad work)
 
 abbrev pub MeasurePromise : Job → Badness → List ℕ → ℤ → Type 0
-MeasurePromise job bad = MeasureReplies (calls_of job bad Unlent)
+MeasurePromise job bad = MeasureReplies (calls_of job bad None)
 
 abbrev pub CountPromise : Job → Badness → ℕ → ℤ → Type 0
-CountPromise job bad = CountReplies (calls_of job bad Unlent)
+CountPromise job bad = CountReplies (calls_of job bad None)
 
 abbrev pub PlacePromise : Job → Badness → ℕ → ℕ → List ℕ → ℤ → List ℕ → Type 0
-PlacePromise job bad = PlaceReplies (calls_of job bad Unlent)
+PlacePromise job bad = PlaceReplies (calls_of job bad None)
 
 -- DRAW: the leader of the pad of record i to port q.
 abbrev pub DrawAnswers : List ℕ → ℕ → ℕ → List Float → Drawn → List Float → Type 0
-DrawAnswers job i q before (Straight d) after =
-    Passed (draw_trials job i q (length before)) × DrawnStraight (leader (board_of (records job)) i q) d × (after ≡ overwritten (coordinates (Straight d)) before)
-DrawAnswers job i q before (Bent d) after =
-    Passed (draw_trials job i q (length before)) × DrawnBent (leader (board_of (records job)) i q) d × (after ≡ overwritten (coordinates (Bent d)) before)
-DrawAnswers job i q before (NotDrawn r) after = RefusedBy (draw_trials job i q (length before)) r × (after ≡ before)
+DrawAnswers job i q before (Ok (Straight a c)) after =
+    Passed (draw_trials job i q (length before)) × DrawnStraight (leader (board_of (records job)) i q) a c
+    × (after ≡ overwritten (coordinates (Ok (Straight a c))) before)
+DrawAnswers job i q before (Ok (Bent a b c)) after =
+    Passed (draw_trials job i q (length before)) × DrawnBent (leader (board_of (records job)) i q) a b c
+    × (after ≡ overwritten (coordinates (Ok (Bent a b c))) before)
+DrawAnswers job i q before (Err r) after = RefusedBy (draw_trials job i q (length before)) r × (after ≡ before)
 
 abbrev pub DrawPromise : List ℕ → ℕ → ℕ → List Float → ℤ → List Float → Type 0
 DrawPromise job i q before c after = (d : Drawn) × DrawAnswers job i q before d after × (c ≡ drawn_number d)
 
 -- Svg and ReadCsv fill the first bytes of what they are lent, by such trials: `Is s k` says that s is what fills them, and k the answer.
 abbrev pub FillOver : List Trial → (List ℕ → ℕ → Type 0) → List ℕ → Counted → List ℕ → Type 0
-FillOver ts Is before (Many k) after = Passed ts × ((s : List ℕ) × Is s k × (after ≡ overwritten s before))
-FillOver ts Is before (NotCounted r) after = RefusedBy ts r × (after ≡ before)
+FillOver ts Is before (Ok k) after = Passed ts × ((s : List ℕ) × Is s k × (after ≡ overwritten s before))
+FillOver ts Is before (Err r) after = RefusedBy ts r × (after ≡ before)
 
 abbrev pub FillReplies : List Trial → (List ℕ → ℕ → Type 0) → List ℕ → ℤ → List ℕ → Type 0
 FillReplies ts Is before m after = (a : Counted) × FillOver ts Is before a after × (m ≡ counted_number a)

@@ -1,10 +1,9 @@
 -- DEFINITIONS. 01, "Refusal numbers", and of 02, 12 to 22, 24 and both records of 9: what is at fault for each number, and each call's trials, in their order.
-use Rattle.std.specs.Prelude.{◌≡◌, ◌≢◌, ◌⊎◌, List, [], ◌∷◌, ◌++◌, ℕ, ◌+◌, ◌*◌, ◌-◌, ◌%◌, ◌≤◌, ◌<◌, length, ℤ, pos, nat_abs, ◌-ℤ◌, ◌≤ℤ◌, ◌<ℤ◌}
+use Rattle.std.specs.Prelude.{◌≡◌, ◌≢◌, ◌⊎◌, List, [], ◌∷◌, ◌++◌, ℕ, ◌+◌, ◌*◌, ◌-◌, ◌%◌, ◌≤◌, ◌<◌, length, ℤ, pos, nat_abs, ◌-ℤ◌, ◌≤ℤ◌, ◌<ℤ◌, Some, None}
 use Rattle.paper.specs.declared.Refusal.{Refusal}
 use Rattle.paper.specs.declared.Form.{Form}
 use Rattle.paper.specs.declared.Form.TheVariants.{Records, Slots}
-use Rattle.paper.specs.declared.Work.{Work}
-use Rattle.paper.specs.declared.Work.TheVariants.{Unlent, Lent}
+use Rattle.paper.specs.Answers.{Work}
 use Rattle.paper.specs.Job.{Job, records, slots, pads_of, twos, count, name_of, half_of, x_of, y_of, last_of, port_count, port_of}
 use Rattle.paper.specs.Layouts.{Board, board_of, held, Touching, Badness, by_weights, by_table}
 use Rattle.paper.specs.Problem.{Problem, Best, CountBest, labeling_of}
@@ -125,8 +124,8 @@ abbrev pub work_needed : ℕ → ℕ → ℕ
 work_needed n p = 2 * ((n + 1) * ((p + 2) * (p + 2)))
 
 abbrev pub work_trials : Board → Work → List Trial
-work_trials b Unlent = []
-work_trials b (Lent numbers) = of_whole 24 (numbers < work_needed b.pads b.ports) ∷ []
+work_trials b None = []
+work_trials b (Some numbers) = of_whole 24 (numbers < work_needed b.pads b.ports) ∷ []
 
 -- 4: the records; or the pads and then the ports, and then the record number is the port's
 abbrev pub field_trials : Job → List Trial
@@ -220,7 +219,7 @@ abbrev pub calls_of : Job → Badness → Work → Calls
 calls_of job bad work = record {
   problem = labeling_of job bad;
   first = first_trials job bad work;
-  measure = measure_trials job bad Unlent;
+  measure = measure_trials job bad None;
   next = next_trials job bad work;
 }
 
@@ -259,7 +258,7 @@ TooLong b f room = (s : List ℕ) × SheetWritten b f s × (room < length s)
 -- Svg, of the layout that the list holds with room for so many bytes: Measure's without 2, since no weights are given (0 and 0 are never at fault), and 19
 abbrev pub svg_trials : List ℕ → List ℕ → ℕ → List Trial
 svg_trials bytes list room =
-    measure_trials (records bytes) (by_weights 0 0) Unlent list ++ (of_whole 19 (TooLong (board_of (records bytes)) (held list) room) ∷ [])
+    measure_trials (records bytes) (by_weights 0 0) None list ++ (of_whole 19 (TooLong (board_of (records bytes)) (held list) room) ∷ [])
 
 -- ---- import (02)
 

@@ -1,9 +1,8 @@
 -- DEFINITIONS. 02: "Some board designers still believe that untouching leaders must be longer. For bend weight 0 we want it shown that no layout at
 -- all, touching or not, has a smaller total than the one First returns." "No. 5 does not speak of these tables", and "is kept for jobs whose half-sides are all 0":
 -- by examples, with a bend weight, with a table and with a square untouching leaders can cost more.
-use Rattle.std.specs.Prelude.{◌≡◌, List, [], ◌∷◌, ℕ, ◌+◌, ◌*◌, ◌≤◌, ◌<◌, pos}
-use Rattle.paper.specs.declared.Work.{Work}
-use Rattle.paper.specs.declared.Work.TheVariants.{Unlent}
+use Rattle.std.specs.Prelude.{◌≡◌, List, [], ◌∷◌, ℕ, ◌+◌, ◌*◌, ◌≤◌, ◌<◌, pos, None}
+use Rattle.paper.specs.Answers.{Work}
 use Rattle.paper.specs.Job.{Job, records, count}
 use Rattle.paper.specs.Layouts.{Board, board_of, held, Touching, Layout, EachOnce, Badness, by_weights, by_table, cost_of, total}
 use Rattle.paper.specs.Promises.{FirstPromise}
@@ -21,7 +20,7 @@ CostsNothing job bad work = (before after : List ℕ) (t : ℕ) → FirstPromise
 
 -- On records it costs something: First answers t, and a list in which each port number stands once, and two records touch, has the smaller total u.
 pub record Costs (bytes : List ℕ) (bad : Badness) (t : ℕ) (list : List ℕ) (u : ℕ) : Type 0 where
-  pub first : (before : List ℕ) × (after : List ℕ) × FirstPromise (records bytes) bad Unlent before (pos t) after
+  pub first : (before : List ℕ) × (after : List ℕ) × FirstPromise (records bytes) bad None before (pos t) after
   pub once : EachOnce (board_of (records bytes)) (held list)
   pub touch : (i : ℕ) × (j : ℕ) × (j < i) × (i < count bytes) × Touching (board_of (records bytes)) (held list) i j
   pub sums : u ≡ total (board_of (records bytes)) (cost_of (board_of (records bytes)) bad) (held list)

@@ -1,11 +1,11 @@
 -- DEFINITIONS. 02, No. 11: a sheet as text, one line of SVG for each leader, over the numbers that Draw gives. Text is bytes: `bytes` and `decimal` of crates/text.
-use Rattle.std.specs.Prelude.{◌≡◌, Bool, true, false, cond, ◌||◌, List, [], ◌∷◌, ◌++◌, map, ℕ, zero, suc, ◌^◌, ◌/◌, ◌%◌, ◌<◌, eqb, length, get_or, ℤ, Float}
+use Rattle.std.specs.Prelude.{◌≡◌, Bool, true, false, cond, ◌||◌, List, [], ◌∷◌, ◌++◌, map, ℕ, zero, suc, ◌^◌, ◌/◌, ◌%◌, ◌<◌, eqb, length, get_or, ℤ, Float, Ok, Err}
 use Rattle.std.specs.Float.{binary32}
 use Rattle.std.specs.Float.Ieee.{round}
 use Rattle.text.specs.Text.{bytes, decimal, with_minus, joined, read_digits}
 use Rattle.paper.specs.declared.Point.{Point}
-use Rattle.paper.specs.declared.Drawn.{Drawn}
-use Rattle.paper.specs.declared.Drawn.TheVariants.{Straight, Bent, Refused as NotDrawn}
+use Rattle.paper.specs.declared.Polyline.TheVariants.{Straight, Bent}
+use Rattle.paper.specs.Answers.{Drawn}
 use Rattle.paper.specs.Layouts.{Board, leader}
 use Rattle.paper.specs.Canvas.{FourTimesIs, Draws}
 
@@ -42,11 +42,11 @@ line points = bytes "<polyline points=\"" ++ points ++ bytes "\"/>"
 
 -- What Draw answers, written s: the pad's point first, the port's last, a blank between two.
 abbrev pub LineWritten : Drawn → List ℕ → Type 0
-LineWritten (Straight d) s = (pad port : List ℕ) × PointWritten d.pad pad × PointWritten d.port port × (s ≡ line (pad ++ bytes " " ++ port))
-LineWritten (Bent d) s =
-    (pad bend port : List ℕ) × PointWritten d.pad pad × PointWritten d.bend bend × PointWritten d.port port
+LineWritten (Ok (Straight p q)) s = (pad port : List ℕ) × PointWritten p pad × PointWritten q port × (s ≡ line (pad ++ bytes " " ++ port))
+LineWritten (Ok (Bent p m q)) s =
+    (pad bend port : List ℕ) × PointWritten p pad × PointWritten m bend × PointWritten q port
     × (s ≡ line (pad ++ bytes " " ++ bend ++ bytes " " ++ port))
-LineWritten (NotDrawn r) s = ⊥
+LineWritten (Err r) s = ⊥
 
 -- The text s of a layout: for each record in file order the line of what Draw answers for its leader, and a newline.
 pub record SheetWritten (b : Board) (f : ℕ → ℕ) (s : List ℕ) : Type 0 where

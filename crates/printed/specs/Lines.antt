@@ -1,11 +1,9 @@
 -- What follows from the definitions.
-use Rattle.std.specs.Prelude.{◌≡◌, List, ℕ, ◌+◌, ◌≤◌, length, replicate, take}
+use Rattle.std.specs.Prelude.{◌≡◌, List, ℕ, ◌+◌, ◌≤◌, length, replicate, take, Some, None, Ok, Err}
 use Rattle.std.proofs.Common.{ap, sym, subst, ◌∙◌, arith}
 use Rattle.std.proofs.lemmas.List.Edits.{sets}
 use Rattle.paper.specs.declared.Refusal.{Refusal}
-use Rattle.paper.specs.declared.Answer.{Answer}
-use Rattle.paper.specs.declared.Answer.TheVariants.{Total, End, Refused}
-use Rattle.paper.specs.declared.Work.TheVariants.{Unlent}
+use Rattle.paper.specs.Answers.{Answer}
 use Rattle.paper.specs.Job.{records, count, name_of}
 use Rattle.paper.specs.Leaders.{length_of, bends_of}
 use Rattle.paper.specs.Layouts.{by_weights, board_of, leader, held}
@@ -23,7 +21,7 @@ use Rattle.printed.specs.Printed.{field, line, lines, lengths, bends, sheet, ref
 -- THEOREM: what is printed for a job is determined.
 pub printed_one : (job s t : List ℕ) → Printed job s → Printed job t → s ≡ t
 printed_one job s t p q =
-    let (a, l) = first_answer (calls_of (records job) (by_weights 1 0) Unlent) (replicate 64 0) p.answer q.answer p.list q.list p.first q.first in
+    let (a, l) = first_answer (calls_of (records job) (by_weights 1 0) None) (replicate 64 0) p.answer q.answer p.list q.list p.first q.first in
     p.says ∙ ap (λ (m : List ℕ). told job m p.answer) l ∙ ap (told job q.list) a ∙ sym q.says
 
 -- THEOREM: so are its length and every byte of the list that it is printed into.
@@ -68,28 +66,28 @@ pub sheet_written : (job list : List ℕ) {b₀ b₁ b₂ b₃ b₄ : List ℕ} 
 sheet_written job list e f w₀ w₁ w₂ w₃ = rw (← e, ← f) (writes_then (writes_then (writes_then w₀ w₁) w₂) w₃)
 
 -- From First's answer to what is printed.
-module _ (job list : List ℕ) (a : Answer) (f : FirstAnswers (records job) (by_weights 1 0) Unlent (replicate 64 0) a list) where
+module _ (job list : List ℕ) (a : Answer) (f : FirstAnswers (records job) (by_weights 1 0) None (replicate 64 0) a list) where
   -- A layout: what the sheet goes by,
-  pub first_passed : (t : ℕ) → a ≡ Total t → Passed (measure_trials (records job) (by_weights 0 1) Unlent list) × (t ≡ lengths job list)
+  pub first_passed : (t : ℕ) → a ≡ Ok (Some t) → Passed (measure_trials (records job) (by_weights 0 1) None list) × (t ≡ lengths job list)
   first_passed t e =
-      let (p, b, s, k) : FirstAnswers (records job) (by_weights 1 0) Unlent (replicate 64 0) (Total t) list = rw e at f in
-      let q = first_sound (records job) (by_weights 1 0) Unlent 64 p in
-      let (sizes, given, roomy, passed) = (sound_parts (records job) (by_weights 1 0) Unlent 64).0 q in
+      let (p, b, s, k) : FirstAnswers (records job) (by_weights 1 0) None (replicate 64 0) (Ok (Some t)) list = rw e at f in
+      let q = first_sound (records job) (by_weights 1 0) None 64 p in
+      let (sizes, given, roomy, passed) = (sound_parts (records job) (by_weights 1 0) None 64).0 q in
       let fair = (fair_iff (board_of (records job)) (by_weights 0 1)).1 (omega arith, omega arith) in
-      let room = (sound_accepted (records job) (by_weights 1 0) Unlent 64 q).2 in
-      let other = sound_other_room (records job) (by_weights 0 1) Unlent 64 (length list) ((sound_parts (records job) (by_weights 0 1) Unlent 64).1 (sizes, fair, roomy, passed)) (omega (arith, k.long)) in
-      (untouching_passed (records job) (by_weights 0 1) Unlent list other b.best.counts, lengths_are job list t s)
+      let room = (sound_accepted (records job) (by_weights 1 0) None 64 q).2 in
+      let other = sound_other_room (records job) (by_weights 0 1) None 64 (length list) ((sound_parts (records job) (by_weights 0 1) None 64).1 (sizes, fair, roomy, passed)) (omega (arith, k.long)) in
+      (untouching_passed (records job) (by_weights 0 1) None list other b.best.counts, lengths_are job list t s)
 
   -- and its text is what is printed;
-  pub prints_sheet : (t : ℕ) → a ≡ Total t → {before after : List ℕ} {r : ℕ} → Writes before 0 (sheet job list) r after
+  pub prints_sheet : (t : ℕ) → a ≡ Ok (Some t) → {before after : List ℕ} {r : ℕ} → Writes before 0 (sheet job list) r after
       → Prints job before r after
   prints_sheet t e w = record { text = sheet job list; printed = record { answer = a; list = list; first = f; says = rw e }; written = w }
 
   -- a refusal: its line;
-  pub prints_refusal : (g : Refusal) → a ≡ Refused g → {before after : List ℕ} {r : ℕ} → Writes before 0 (refused g) r after
+  pub prints_refusal : (g : Refusal) → a ≡ Err g → {before after : List ℕ} {r : ℕ} → Writes before 0 (refused g) r after
       → Prints job before r after
   prints_refusal g e w = record { text = refused g; printed = record { answer = a; list = list; first = f; says = rw e }; written = w }
 
   -- never end.
-  pub no_end : ¬ (a ≡ End)
+  pub no_end : ¬ (a ≡ (Ok None))
   no_end e = rw e at f

@@ -1,10 +1,8 @@
 -- DEFINITIONS. 01, "The printing program": what it prints for a job.
-use Rattle.std.specs.Prelude.{◌≡◌, List, [], ◌++◌, ℕ, replicate}
+use Rattle.std.specs.Prelude.{◌≡◌, List, [], ◌++◌, ℕ, replicate, Some, None, Ok, Err}
 use Prim.Native.String.{String}
 use Rattle.paper.specs.declared.Refusal.{Refusal}
-use Rattle.paper.specs.declared.Answer.{Answer}
-use Rattle.paper.specs.declared.Answer.TheVariants.{Total, End, Refused}
-use Rattle.paper.specs.declared.Work.TheVariants.{Unlent}
+use Rattle.paper.specs.Answers.{Answer}
 use Rattle.paper.specs.Job.{records, count, name_of}
 use Rattle.paper.specs.Leaders.{length_of, bends_of}
 use Rattle.paper.specs.Layouts.{by_weights, board_of, leader, held, sum}
@@ -40,15 +38,15 @@ refused r = bytes "refused " ++ field r.reason " " ++ bytes "record " ++ field r
 
 -- What is printed where First answers a and leaves a list. (It never answers end.)
 abbrev pub told : List ℕ → List ℕ → Answer → List ℕ
-told job list (Total t) = sheet job list
-told job list End = []
-told job list (Refused r) = refused r
+told job list (Ok (Some t)) = sheet job list
+told job list (Ok None) = []
+told job list (Err r) = refused r
 
 -- What is printed for a job: what First says of it with weights 1, 0 and a list of 64 zeros.
 pub record Printed (job text : List ℕ) : Type 0 where
   pub answer : Answer
   pub list : List ℕ
-  pub first : FirstAnswers (records job) (by_weights 1 0) Unlent (replicate 64 0) answer list
+  pub first : FirstAnswers (records job) (by_weights 1 0) None (replicate 64 0) answer list
   pub says : text ≡ told job list answer
 
 -- It is printed into a lent list of bytes: it stands at the start, r is its length, and every byte after it is kept.

@@ -1,7 +1,7 @@
 -- The table of least totals of n pads on p ports, which may stay free: what the work list holds, and what the inputs are.
 -- The work list has n + 1 layers of (p + 2) × (p + 2) numbers. In layer k the strip of the ports a .. b - 1 stands in column b, at a: the least total of those
 -- pads from place k of `order` on that lie in it. After the layers come the open figures, place by place, and then the figures, pad by pad.
-use Rattle.std.specs.Prelude.{◌≡◌, Bool, false, cond, ◌&&◌, ◌||◌, List, [], ◌∷◌, ℕ, zero, suc, ◌+◌, ◌-◌, ◌*◌, ◌^◌, ◌≤◌, ◌<◌, min, leb, ltb, eqb, length, get_or, drop}
+use Rattle.std.specs.Prelude.{◌≡◌, Bool, false, cond, ◌&&◌, ◌||◌, List, [], ◌∷◌, ℕ, zero, suc, ◌+◌, ◌-◌, ◌*◌, ◌^◌, ◌≤◌, ◌<◌, min, leb, ltb, length, get_or, drop}
 use Rattle.std.proofs.Common.{arith}
 use Rattle.numbers.specs.Kept.{KeptFrom}
 use Rattle.strips.specs.Least.{Least, none, some}
@@ -59,18 +59,14 @@ barred S q (j ∷ js) = level S q j || barred S q js
 abbrev pub open_figure : Sides → (ℕ → ℕ → Least) → List ℕ → ℕ → ℕ → Least
 open_figure S C order k q = cond (barred S q (drop (k + 1) order)) none (C (get_or order k 0) q)
 
--- The same from a figure x and a mark s, 0 where the port is not barred.
-abbrev pub opened_of : ℕ → ℕ → ℕ
-opened_of s x = stored (cond (eqb s 0) (figure_of x) none)
+-- The same from a figure x and a mark s, which says whether the port is barred.
+abbrev pub opened_of : Bool → ℕ → ℕ
+opened_of s x = stored (cond s none (figure_of x))
 
 -- The smallest of f a, .., f (a + k - 1) and 2 ^ 62.
 unfoldable pub lowest : (ℕ → ℕ) → ℕ → ℕ → ℕ
 lowest f a zero = no_sum
 lowest f a (suc k) = min (lowest f a k) (f (a + k))
-
--- The smallest of v and f q, .., f (q + 3).
-abbrev pub with_four : (ℕ → ℕ) → ℕ → ℕ → ℕ
-with_four f v q = min (min (min (min v (f q)) (f (q + 1))) (f (q + 2))) (f (q + 3))
 
 -- The work list is long enough.
 pub record Room (n p size : ℕ) : Type 0 where
@@ -87,10 +83,15 @@ pub record Written (w v : List ℕ) (base count : ℕ) (f : ℕ → ℕ) (i : �
 abbrev pub follows : List ℕ → ℕ → ℕ → ℕ
 follows w m i = get_or w (m + i) 0
 
-abbrev pub opened_from : List ℕ → List ℕ → ℕ → ℕ → ℕ
-opened_from shut w m q = opened_of (get_or shut q 0) (follows w m q)
+abbrev pub opened_from : List Bool → List ℕ → ℕ → ℕ → ℕ
+opened_from shut w m q = opened_of (get_or shut q false) (follows w m q)
 
--- v is w, with 1 from place l to place h - 1: here the ports of a pad's height.
+-- The marks v are those of w, and set from place l to place h - 1: here the ports of a pad's height.
+pub record Shuts (l h : ℕ) (w v : List Bool) : Type 0 where
+  pub long : length v ≡ length w
+  pub marks : (q : ℕ) → q < length w → get_or v q false ≡ ((leb l q && ltb q h) || get_or w q false)
+
+-- v is w, with 1 from place l to place h - 1.
 pub record Shut (l h : ℕ) (w v : List ℕ) : Type 0 where
   pub long : length v ≡ length w
   pub marks : (q : ℕ) → q < length w → get_or v q 0 ≡ cond (leb l q && ltb q h) 1 (get_or w q 0)

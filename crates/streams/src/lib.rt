@@ -14,6 +14,7 @@ pub fn read_full<R: Read>(input: &mut R, buf: &mut [u8]) -> io::Result<usize>
     ensures end { IfOk result (λ n. n < length buf.new → IsAtEnd (R.remaining input.new)) }
 {
     let mut n = 0;
+    // Stays: a read moves the place by as many bytes as came, so no `for` counts it.
     while n < buf.len() {
         let k = input.read(&mut buf[n..])?;
         if k == 0 {

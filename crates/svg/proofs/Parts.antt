@@ -8,11 +8,10 @@ use lib.IntN.{ℤ, pos, negsuc, nat_abs, neg_ℤ, ℤ_discrete}
 use lib.Signed.{lt_z}
 use borrow.Author.Tests.{ltb-true}
 use native.Mathlib.Omega.{arith}
+use Rattle.std.specs.Prelude.{None, Ok}
 use Rattle.text.specs.Text.{bytes, decimal, Writes}
 use Rattle.text.specs.Writing.{writes_then, writes_whole, writes_over}
 use Rattle.paper.specs.Leaders.{Leader}
-use Rattle.paper.specs.declared.Counted.TheVariants.{Many}
-use Rattle.paper.specs.declared.Work.TheVariants.{Unlent}
 use Rattle.paper.specs.Job.{records}
 use Rattle.paper.specs.Layouts.{Board, board_of, held, leader, by_weights}
 use Rattle.paper.specs.Refusals.{Passed, measure_trials}
@@ -110,7 +109,7 @@ pub lines_room : (b : Board) (f : ℕ → ℕ) → AllOnSheet b f → b.pads ≤
 lines_room b f on few i h = omega (arith, lines_short b f on i (omega arith), line_short (leader b i (f i)) (on i h))
 
 -- The lines that were made, r bytes in m, are copied to the lent bytes, and that is Svg's answer.
-module _ (job list : List ℕ) (p : Passed (measure_trials (records job) (by_weights 0 0) Unlent list)) {o m : List ℕ} {r : ℕ}
+module _ (job list : List ℕ) (p : Passed (measure_trials (records job) (by_weights 0 0) None list)) {o m : List ℕ} {r : ℕ}
     (made : Writes o 0 (sheet_text (board_of (records job)) (held list)) r m) (room : length o ≡ 4864) where
   abbrev text : List ℕ
   text = sheet_text (board_of (records job)) (held list)
@@ -121,7 +120,7 @@ module _ (job list : List ℕ) (p : Passed (measure_trials (records job) (by_wei
   pub made_long : (r ≡ length text) × (r ≡ length (take r m))
   made_long = let e : r ≡ length text = omega (arith, made.stop) in (e, e ∙ sym (ap length made_is))
 
-  pub copied : {before after : List ℕ} {q : ℕ} → r ≤ length before → Writes before 0 (take r m) q after → SvgAnswers job list before (Many q) after
+  pub copied : {before after : List ℕ} {q : ℕ} → r ≤ length before → Writes before 0 (take r m) q after → SvgAnswers job list before (Ok q) after
   copied {before} {after} {q} h w =
       let v : Writes before 0 text q after = rw made_is at w in
       let fits : length text ≤ length before = omega (arith, made_long.0) in

@@ -4,7 +4,6 @@
 
 ghost use Rattle.std.specs.Prelude.{◌++◌, ◌+◌, ◌≤◌, length, nat_abs};
 ghost use Rattle.text.specs.Text.{bytes, Writes};
-ghost use Rattle.paper.specs.declared.Work.TheVariants.{Unlent};
 ghost use Rattle.paper.specs.Job.{records};
 ghost use Rattle.paper.specs.Layouts.{by_weights, board_of, held};
 ghost use Rattle.paper.specs.Refusals.{Passed, measure_trials};
@@ -13,25 +12,22 @@ ghost use Rattle.paper.specs.Svg.{quarters as quarters-of, numeral as numeral-of
 ghost use Rattle.paper.specs.laws.Drawn.{OnSheet};
 ghost use Rattle.paper.specs.laws.Texts.{point_text, line_text, sheet_text};
 
-use paper::{Counted, Form, Refusal};
+use job::Job;
+use paper::{Counted, Form, Reason, Refusal};
 
 // So many quarters in decimal.
+// Stays: bytes and a place are apart, as in `text`.
 fn quarters(n: u64, out: &mut [u8], at: usize) -> usize
     requires { at + length (quarters-of n) ≤ length out.old }
     ensures { Writes out.old at (quarters-of n) result out.new }
 {
     let point = text::decimal(n / 4, out, at);
-    let over = n % 4;
-    if over == 0 {
-        return point;
+    match n % 4 {
+        0 => point,
+        1 => text::word(b".25", out, point),
+        2 => text::word(b".5", out, point),
+        _ => text::word(b".75", out, point),
     }
-    if over == 1 {
-        return text::word(b".25", out, point);
-    }
-    if over == 2 {
-        return text::word(b".5", out, point);
-    }
-    text::word(b".75", out, point)
 }
 
 // The same with a sign: a minus stands before what is below 0.
@@ -39,12 +35,8 @@ fn numeral(v: i64, out: &mut [u8], at: usize) -> usize
     requires { (nat_abs v ≤ 1000000) × (at + length (numeral-of v) ≤ length out.old) }
     ensures { Writes out.old at (numeral-of v) result out.new }
 {
-    let n = job::size(v);
-    if v < 0 {
-        let digits = text::word(b"-", out, at);
-        return quarters(n, out, digits);
-    }
-    quarters(n, out, at)
+    let digits = if v < 0 { text::word(b"-", out, at) } else { at };
+    quarters(v.unsigned_abs(), out, digits)
 }
 
 // The point (x, y) of the sheet on the canvas, where y grows downward.
@@ -52,7 +44,7 @@ fn point(x: u32, y: i64, out: &mut [u8], at: usize) -> usize
     requires { (nat_abs y ≤ 1000000) × (at + length (point_text x y) ≤ length out.old) }
     ensures { Writes out.old at (point_text x y) result out.new }
 {
-    let comma = quarters(x as u64, out, at);
+    let comma = quarters(u64::from(x), out, at);
     let down = text::word(b",", out, comma);
     numeral(-y, out, down)
 }
@@ -73,46 +65,39 @@ fn line(x: u32, y: i64, q: i64, out: &mut [u8], at: usize) -> usize
 {
     let start = text::word(b"<polyline points=\"", out, at);
     let pad = point(x, y, out, start);
-    if y == q {
-        let port = further(0, q, out, pad);
-        return text::word(b"\"/>\n", out, port);
-    }
-    let bend = further(x, q, out, pad);
+    let bend = if y == q { pad } else { further(x, q, out, pad) };
     let port = further(0, q, out, bend);
     text::word(b"\"/>\n", out, port)
 }
 
 // The lines of all records, in file order.
 fn lines(job: &[u8], list: &[u16], out: &mut [u8]) -> usize
-    requires { Passed (measure_trials (records job.now) (by_weights 0 0) Unlent list.now) × (4864 ≤ length out.old) }
+    requires { Passed (measure_trials (records job.now) (by_weights 0 0) None list.now) × (4864 ≤ length out.old) }
     ensures { Writes out.old 0 (sheet_text (board_of (records job.now)) (held list.now)) result out.new × (result ≤ 4864) }
 {
-    let n = job::records(job);
-    let mut at: usize = 0;
-    let mut i: u16 = 0;
-    while i < n {
-        let x = job::x(job, i);
-        let y = job::y(job, i);
-        let q = job::port(Form::Records, job, list[i as usize]);
-        at = line(x, y, q, out, at);
-        i += 1;
+    let job = Job {
+        form: Form::Records,
+        pads: job,
+        ports: job,
+    };
+    let mut at = 0;
+    for i in 0..job.count() {
+        let q = job.port(list[usize::from(i)]);
+        at = line(job.x(i), job.y(i), q, out, at);
     }
     at
 }
 
 // Svg, of a layout that passed Measure's checks: its text in the first bytes of `out`, or 19 where it does not fit.
 pub fn sheet(job: &[u8], list: &[u16], out: &mut [u8]) -> Counted
-    requires { Passed (measure_trials (records job.now) (by_weights 0 0) Unlent list.now) }
+    requires { Passed (measure_trials (records job.now) (by_weights 0 0) None list.now) }
     ensures { SvgAnswers job.now list.now out.old result out.new }
 {
+    // Stays: no call allocates, so there is room for 64 lines, whatever the job has.
     let mut made = [0u8; 4864];
     let end = lines(job, list, &mut made);
     if out.len() < end {
-        return Counted::Refused(Refusal {
-            reason: 19,
-            at: 0,
-            earlier: 0,
-        });
+        return Err(Refusal::of_whole(Reason::TextTooLong));
     }
-    Counted::Many(text::word(&made[..end], out, 0) as u64)
+    Ok(text::word(&made[..end], out, 0) as u64)
 }

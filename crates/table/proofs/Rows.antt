@@ -10,15 +10,17 @@ use lib.Dec.{eqb}
 use lib.ListN.{length, get_or, set, length-set}
 use lib.Seq.{get_or-set_same, get_or-set_other}
 use borrow.Author.Tests.{eqb-false}
+use Rattle.std.proofs.Common.{Option, None}
 use Rattle.strips.proofs.Lists.{keep_same}
 use Rattle.strips.specs.Grid.{Grid}
 use Rattle.strips.specs.Grid as strip
-use Rattle.pads.specs.Pads.{Sides, fits, bit, pads_in, sides_of, Pads}
+use Rattle.pads.specs.Pads.{Sides, fits, bit, pads_in, sides_of, Pads, head_of}
 use Rattle.totals.specs.Strip.{best_within}
-use Rattle.totals.specs.Cell.{no_total, figures, grid_of, corner_of, place, coded, Sizes, Cell, Rows, Parts, CopiedRow, Table, Marks, MarkedFrom}
+use Rattle.totals.specs.Cell.{no_total, figures, grid_of, corner_of, place, coded, Cell, Rows, CopiedRow, Table, Marks, MarkedFrom}
 use Rattle.pads.specs.Counts.{le_or_lt, spans_by}
 use Rattle.totals.proofs.Corners.{corner_mono, corner_top, place-listed, place_start, place_end}
 use Rattle.totals.proofs.Cells.{cell_right}
+use Rattle.table.specs.Noted.{Stored}
 
 -- the rows after a are right, and the row of a is right before b
 pub record Row (S : Sides) (C : ℕ → ℕ → Least) (order hs ts : List ℕ) (a b : ℕ) : Type 0 where
@@ -30,18 +32,7 @@ pub long_enough : (n l : ℕ) → n ≤ 64 → l ≡ 2145 → corner_of (n + 1) 
 unfolding corner_of
 long_enough n l few e = omega (arith, corner_mono (n + 1) 65 (omega arith))
 
--- other tables of the same length
-pub sizes_with : {hs ts hs' ts' order cs bs : List ℕ} → Sizes hs ts order cs bs → length hs' ≡ 2145 → corner_of (length order + 1) ≤ length ts'
-    → Sizes hs' ts' order cs bs
-sizes_with Z h t = record { heads = h; totals = t; square = Z.square; bars = Z.bars; cheap = Z.cheap }
-
 module _ (S : Sides) (C : ℕ → ℕ → Least) (order : List ℕ) where
-  pub row_start : (hs ts : List ℕ) (a : ℕ) → Rows S C order hs ts (a + 1) → Row S C order hs ts a a
-  row_start hs ts a R = record { after = R; done = λ b' u v. absurd (omega arith) }
-
-  pub row_parts : (hs ts : List ℕ) (a b : ℕ) → b ≤ length order → Row S C order hs ts a b → Parts S C order hs ts a b
-  row_parts hs ts a b bn R q aq qb = (R.done q aq qb, R.after (q + 1) b (omega arith) (omega arith) bn)
-
   -- a cell elsewhere is as it was
   cell_kept : (hs ts : List ℕ) (p h v a b : ℕ) → place a b ≢ p → Cell S C order a b (get_or hs (place a b) 0) (get_or ts (place a b) 0)
       → Cell S C order a b (get_or (set hs p h) (place a b) 0) (get_or (set ts p v) (place a b) 0)
@@ -60,18 +51,7 @@ module _ (S : Sides) (C : ℕ → ℕ → Least) (order : List ℕ) where
         (le_or_lt b b');
   })
 
-  pub row_end : (hs ts : List ℕ) (a b : ℕ) → length order < b → Row S C order hs ts a b → Rows S C order hs ts a
-  row_end hs ts a b h R a' b' u v w =
-      ⊎_elim
-      (λ (x : a' ≤ a). let e : a ≡ a' = omega arith in
-      subst (λ (k : ℕ). Cell S C order k b' (get_or hs (place k b') 0) (get_or ts (place k b') 0)) e (R.done b' (omega arith) (omega arith)))
-      (λ (x : a < a'). R.after a' b' (omega arith) v w)
-      (le_or_lt a' a)
-
 -- the row's short lists get each cell that the tables get
-pub copied_start : (rh rt hs ts : List ℕ) (a : ℕ) → length rh ≡ 65 → length rt ≡ 65 → CopiedRow rh rt hs ts a a
-copied_start rh rt hs ts a lh lt = record { heads = lh; totals = lt; same = λ q u v. absurd (omega arith) }
-
 same_after : (rs hs : List ℕ) (a b h p q : ℕ) → p ≡ place a b → length rs ≡ 65 → place a b < length hs → a ≤ b → b ≤ 64 → a ≤ q → q < b + 1
     → (q < b → get_or rs q 0 ≡ get_or hs (place a q) 0) → get_or (set rs b h) q 0 ≡ get_or (set hs p h) (place a q) 0
 same_after rs hs a b h p q e lr lh ab b64 aq qb was = rw e (⊎_elim
@@ -94,19 +74,20 @@ copied_step rh rt hs ts a b h v p e ab b64 lh lt K = record {
 
 -- ---- the ports of each strip
 
--- ms got m at the place p, as far as it goes
-pub record Stored (ms ms' : List ℕ) (p m : ℕ) : Type 0 where
-  pub long : length ms' ≡ length ms
-  pub here : p < length ms → get_or ms' p 0 ≡ m
-  pub other : (i : ℕ) → i ≢ p → get_or ms' i 0 ≡ get_or ms i 0
-
 pub stored : (ms : List ℕ) (p m : ℕ) → Stored ms (set ms p m) p m
 stored ms p m = record { long = length-set ms p m; here = λ h. get_or-set_same ms p m 0 h; other = λ i ne. get_or-set_other ms p i m 0 ne }
 
 pub passed_by : (ms : List ℕ) (p m : ℕ) → length ms ≤ p → Stored ms ms p m
 passed_by ms p m h = record { long = refl; here = λ l. absurd (omega arith); other = λ i ne. refl }
 
--- the head is stored only where there is a layout
+-- the head that is stored, and that it is stored only where there is a layout
+pub kept_head : (v : ℕ) (head : Option ℕ) → head_of (cond (eqb v no_total) None head) ≡ cond (eqb v no_total) 0 (head_of head)
+kept_head v head = go (eqb v no_total)
+  where
+    go : (x : Bool) → head_of (cond x None head) ≡ cond x 0 (head_of head)
+    go true = refl
+    go false = refl
+
 pub kept_marks : (B : Grid) (order : List ℕ) (a b h v m k : ℕ) → k ≡ cond (eqb v no_total) 0 h → ((v ≡ no_total → ⊥) → a < b → Marks B order (h - 1) a b m)
     → a < b → 0 < k → Marks B order (k - 1) a b m
 kept_marks B order a b h v m k e marks ab = rw e (go (eqb v no_total) refl)
@@ -124,9 +105,6 @@ module _ (order cs bs lo hi : List ℕ) where
     pub after : MarkedFrom order cs bs lo hi hs ms (a + 1)
     pub done : (b' : ℕ) → a < b' → b' < b → place a b' < length ms → 0 < get_or hs (place a b') 0
         → Marks B order (get_or hs (place a b') 0 - 1) a b' (get_or ms (place a b') 0)
-
-  pub marked_start : (hs ms : List ℕ) (a : ℕ) → MarkedFrom order cs bs lo hi hs ms (a + 1) → MarkedRow hs ms a a
-  marked_start hs ms a R = record { after = R; done = λ b' u v. absurd (omega arith) }
 
   -- a strip elsewhere is as it was
   marks_kept : (hs ms ms' : List ℕ) (p h m a b : ℕ) → place a b ≢ p → Stored ms ms' p m
@@ -149,15 +127,6 @@ module _ (order cs bs lo hi : List ℕ) where
       here : a < b → place a b < length ms' → 0 < get_or (set hs p h) (place a b) 0 → Marks B order (get_or (set hs p h) (place a b) 0 - 1) a b (get_or ms' (place a b) 0)
       here u l = let t = corner_top b (omega arith) in
           rw (sym e, get_or-set_same hs p h 0 (omega arith), N.here (omega (arith, N.long))) (λ w. marks (omega (arith, N.long)) u w)
-
-  pub marked_end : (hs ms : List ℕ) (a b : ℕ) → length order < b → MarkedRow hs ms a b → MarkedFrom order cs bs lo hi hs ms a
-  marked_end hs ms a b h R a' b' u v w =
-      ⊎_elim
-      (λ (x : a' ≤ a). let e : a ≡ a' = omega arith in
-      subst (λ (k : ℕ). place k b' < length ms → 0 < get_or hs (place k b') 0 → Marks B order (get_or hs (place k b') 0 - 1) k b' (get_or ms (place k b') 0)) e
-      (R.done b' (omega arith) (omega arith)))
-      (λ (x : a < a'). R.after a' b' (omega arith) v w)
-      (le_or_lt a' a)
 
 -- ---- the whole board
 

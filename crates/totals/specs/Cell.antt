@@ -8,7 +8,6 @@ use Rattle.strips.specs.Grid as strip
 use Rattle.strips.specs.Prefix.{lies, Lies}
 use Rattle.pads.specs.Pads.{Sides, pads_in, sides_of, Head}
 use Rattle.totals.specs.Strip.{grid, best_within, local_within}
-use Rattle.totals.specs.declared.Laid.{Laid}
 use Rattle.totals.specs.declared.Best.{Best}
 
 -- the figures that slices hold: none where a bar, a number other than 0, says that the pad may not use the port
@@ -121,19 +120,11 @@ pub record BestOf (f : ℕ → Least) (a b : ℕ) (v : Best) : Type 0 where
 abbrev pub Rows : Sides → (ℕ → ℕ → Least) → List ℕ → List ℕ → List ℕ → ℕ → Type 0
 Rows S C order hs ts a = (a' b' : ℕ) → a ≤ a' → a' ≤ b' → b' ≤ length order → Cell S C order a' b' (get_or hs (place a' b') 0) (get_or ts (place a' b') 0)
 
--- the same of the lists that the code has
-abbrev pub RowsOf : List ℕ → List ℕ → List ℕ → List ℕ → List ℕ → List ℕ → List ℕ → ℕ → Type 0
-RowsOf order cs bs lo hi hs ts a = Rows (sides_of lo hi) (figures cs bs (length order)) order hs ts a
-
 -- the strips that a port q of a .. b - 1 leaves below and above it are right
 abbrev pub Parts : Sides → (ℕ → ℕ → Least) → List ℕ → List ℕ → List ℕ → ℕ → ℕ → Type 0
 Parts S C order hs ts a b =
     (q : ℕ) → a ≤ q → q < b
     → Cell S C order a q (get_or hs (place a q) 0) (get_or ts (place a q) 0) × Cell S C order (q + 1) b (get_or hs (place (q + 1) b) 0) (get_or ts (place (q + 1) b) 0)
-
--- the same of the lists that the code has
-abbrev pub PartsOf : List ℕ → List ℕ → List ℕ → List ℕ → List ℕ → List ℕ → List ℕ → ℕ → ℕ → Type 0
-PartsOf order cs bs lo hi hs ts a b = Parts (sides_of lo hi) (figures cs bs (length order)) order hs ts a b
 
 -- the short lists rh and rt have at q what the tables have of the strip a .. q - 1, for each q from a to b - 1
 pub record CopiedRow (rh rt hs ts : List ℕ) (a b : ℕ) : Type 0 where
@@ -152,16 +143,6 @@ pub record FullFrom (B : Grid) (order : List ℕ) (r a b : ℕ) : Type 0 where
   pub listed : r < length order
   pub here : Lies B a b (get_or order r 0)
   pub full : length (keep (lies B a b) (drop (r + 1) order)) + 1 ≡ b - a
-
--- such a strip, with where the pad's figures begin and the best total of the pads
-abbrev pub laid_of : List ℕ → List ℕ → List ℕ → List ℕ → List ℕ → ℕ → ℕ → ℕ → Laid
-laid_of order cs bs lo hi r a b = record {
-  r = r;
-  a = a;
-  b = b;
-  row = get_or order r 0 * length order;
-  best = coded (best_within (sides_of lo hi) (figures cs bs (length order)) (drop r order) a b);
-}
 
 -- port q is a locally best one for the pad at place r, in the strip a .. b - 1
 abbrev pub Leads : Grid → List ℕ → ℕ → ℕ → ℕ → ℕ → Type 0

@@ -1,11 +1,12 @@
 -- A walk by some rules is one by all rules that follow from them.
 use Rattle.std.proofs.Common.{inl, inr, ⊎_elim}
-use Rattle.std.specs.Prelude.{◌↔◌, Bool, true, false, List}
+use Rattle.std.specs.Prelude.{◌↔◌, Bool, true, false, List, Option, Some, None}
+use Rattle.std.specs.Option.{is_some}
 use Prim.Native.Nat.{ℕ, zero, suc}
 use Rattle.walks.specs.declared.Start.{Start}
 use Rattle.walks.specs.declared.Start.TheVariants.{First, Given}
 use Rattle.walks.specs.declared.Walked.{Walked}
-use Rattle.walks.specs.Walks.{Rules, Begins, SteppedOn, Turns, Walks}
+use Rattle.walks.specs.Walks.{Rules, Begins, SteppedOn, Turned, Turns, Walks}
 
 -- What R says, S says as well.
 pub record Says (R S : Rules) : Type 0 where
@@ -28,18 +29,18 @@ module _ {R S : Rules} (says : Says R S) where
   stepped_said n w page v after zero s = s
   stepped_said n w page v after (suc k) (u, half, s, next, here) = (u, half, stepped_said n w page u half k s, says.next u v next, here)
 
-  turns_said : (n : ℕ) (w page v after : List ℕ) (r : Bool) (k : ℕ) → Turns R n w page v after r k → Turns S n w page v after r k
-  turns_said n w page v after true k T = record {
+  turned_said : (n : ℕ) (w page v after : List ℕ) (k : ℕ) → Turned R n w page v after k → Turned S n w page v after k
+  turned_said n w page v after k T = record {
     fit = T.fit;
     steps = stepped_said n w page v after k T.steps;
     all = ⊎_elim inl (λ l. inr (says.last v l)) T.all;
   }
-  turns_said n w page v after false k T = T
 
-  pub walks_said : (n : ℕ) (start : Start) (w page v after : List ℕ) (r : Walked) → Walks R n start w page v after r → Walks S n start w page v after r
-  walks_said n start w page v after r W = record {
-    from = W.from;
-    begins = begins_said start w W.from r.best W.begins;
-    turns = turns_said n W.from page v after r.best r.count W.turns;
-    least = says.least r.total W.least;
-  }
+  turns_said : (n : ℕ) (w page v after : List ℕ) (r : Option Walked) → Turns R n w page v after r → Turns S n w page v after r
+  turns_said n w page v after (Some r) (T, l) = (turned_said n w page v after r.count T, says.least r.total l)
+  turns_said n w page v after None T = T
+
+  pub walks_said : (n : ℕ) (start : Start) (w page v after : List ℕ) (r : Option Walked) → Walks R n start w page v after r
+      → Walks S n start w page v after r
+  walks_said n start w page v after r W =
+      record { from = W.from; begins = begins_said start w W.from (is_some r) W.begins; turns = turns_said n W.from page v after r W.turns }

@@ -1,5 +1,6 @@
 -- What a walk from layout to layout comes to. It is said for any rules of what its layouts are; those of the lists are in the words of `steps`.
-use Rattle.std.specs.Prelude.{◌≡◌, ◌⊎◌, Bool, true, false, List, ℕ, zero, suc, ◌*◌, ◌≤◌, ◌<◌, length}
+use Rattle.std.specs.Prelude.{◌≡◌, ◌⊎◌, Bool, true, false, List, ℕ, zero, suc, ◌*◌, ◌≤◌, ◌<◌, length, Option, Some, None}
+use Rattle.std.specs.Option.{is_some}
 use Rattle.choices.specs.Source.{Source}
 use Rattle.steps.specs.Steps.{IsLeast, UntouchingLayout, Solvable, BestLayout, FirstIs, NextIs, EndIs, SaysWhether}
 use Rattle.numbers.specs.Copies.{Copied}
@@ -51,14 +52,13 @@ pub record Turned (R : Rules) (n : ℕ) (w page v after : List ℕ) (k : ℕ) : 
   pub steps : SteppedOn R n w page v after k
   pub all : (length page < suc k * n) ⊎ R.Last v
 
--- Where it starts at none, none came.
-abbrev pub Turns : Rules → ℕ → List ℕ → List ℕ → List ℕ → List ℕ → Bool → ℕ → Type 0
-Turns R n w page v after true k = Turned R n w page v after k
-Turns R n w page v after false k = (v ≡ w) × (after ≡ page) × (k ≡ 0)
+-- A walk that starts at a best layout says how many came, and the total of all; where it starts at none, none came.
+abbrev pub Turns : Rules → ℕ → List ℕ → List ℕ → List ℕ → List ℕ → Option Walked → Type 0
+Turns R n w page v after (Some r) = Turned R n w page v after r.count × R.Least r.total
+Turns R n w page v after None = (v ≡ w) × (after ≡ page)
 
 -- A walk, with its first layout.
-pub record Walks (R : Rules) (n : ℕ) (start : Start) (w page v after : List ℕ) (r : Walked) : Type 0 where
+pub record Walks (R : Rules) (n : ℕ) (start : Start) (w page v after : List ℕ) (r : Option Walked) : Type 0 where
   pub from : List ℕ
-  pub begins : Begins R start w from r.best
-  pub turns : Turns R n from page v after r.best r.count
-  pub least : R.Least r.total
+  pub begins : Begins R start w from (is_some r)
+  pub turns : Turns R n from page v after r

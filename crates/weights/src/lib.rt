@@ -1,72 +1,61 @@
-// The table of weighted lengths and bends: what the calls by weights hand to the search. Pads are read from their records; ports from the bytes
-// in which they stand, by the job's form.
+// The table of weighted lengths and bends: what the calls by weights hand to the search.
 #![tactic(auto)]
 
 ghost use Rattle.std.specs.Prelude.{◌+◌, ◌*◌, ◌≤◌, ◌<◌, ◌≡◌, length};
-ghost use Rattle.paper.specs.Job.{count, port_count};
-ghost use Rattle.paper.specs.Layouts.{board_from, weighted, TableOf};
-ghost use Rattle.paper.specs.laws.Accepted.{Accepted};
+ghost use Rattle.paper.specs.Layouts.{weighted, TableOf};
+ghost use Rattle.job.specs.Board.{board_on, pads_on, ports_on, AcceptedOn};
+ghost use Rattle.measure.specs.Given.{InRange};
 ghost use Rattle.weights.specs.Rows.{FilledTo, lent_figure, FiguresFrom};
 
-use paper::Form;
+use job::Job;
+use paper::Weights;
 
 // The figures of pad j with each port.
-fn fill_row(form: Form, job: &[u8], ports: &[u8], lw: u32, bw: u32, figures: &mut [u32], j: u16)
-    requires accepted { Accepted form job.now ports.now × (lw ≤ 1000) × (bw ≤ 1000) × (j < count job.now) }
-    requires filled_to { FilledTo (board_from form job.now ports.now) (weighted (board_from form job.now ports.now) lw bw) figures.old (j * port_count form ports.now) }
-    ensures { FilledTo (board_from form job.now ports.now) (weighted (board_from form job.now ports.now) lw bw) figures.new ((j + 1) * port_count form ports.now) }
+// Stays: a row is found by its place, since four figures at a time come of a port number of 16 bits.
+fn fill_row(job: &Job, w: Weights, figures: &mut [u32], j: u16)
+    requires accepted { AcceptedOn job.now × InRange w × (j < pads_on job.now) }
+    requires filled_to { FilledTo (board_on job.now) (weighted (board_on job.now) w.length w.bend) figures.old (j * ports_on job.now) }
+    ensures { FilledTo (board_on job.now) (weighted (board_on job.now) w.length w.bend) figures.new ((j + 1) * ports_on job.now) }
 {
-    let p = job::ports(form, ports);
-    let row = (j as usize) * (p as usize);
-    let mut q: u16 = 0;
-    while q < p {
-        figures[row + q as usize] = measure::weighted(form, job, ports, lw, bw, j, q);
-        q += 1;
+    let p = job.port_count();
+    let row = usize::from(j) * usize::from(p);
+    for q in 0..p {
+        figures[row + usize::from(q)] = measure::weighted(job, w, j, q);
     }
 }
 
 // The figures of each pad with each port.
-pub fn fill(form: Form, job: &[u8], ports: &[u8], lw: u32, bw: u32, figures: &mut [u32])
-    requires { Accepted form job.now ports.now × (lw ≤ 1000) × (bw ≤ 1000) × (length figures.old ≡ count job.now * port_count form ports.now) }
-    ensures { TableOf (board_from form job.now ports.now) (weighted (board_from form job.now ports.now) lw bw) figures.new }
+pub fn fill(job: &Job, w: Weights, figures: &mut [u32])
+    requires { AcceptedOn job.now × InRange w × (length figures.old ≡ pads_on job.now * ports_on job.now) }
+    ensures { TableOf (board_on job.now) (weighted (board_on job.now) w.length w.bend) figures.new }
 {
-    let n = job::records(job);
-    let mut j: u16 = 0;
-    while j < n {
-        fill_row(form, job, ports, lw, bw, figures, j);
-        j += 1;
+    for j in 0..job.count() {
+        fill_row(job, w, figures, j);
     }
 }
 
 // A figure as a work list has it: 2 ^ 32 where the port is barred, which is none.
+// Stays: a work list is lent as numbers, so that none is one of them too.
 fn lent(bar: u8, figure: u32) -> u64
     ensures { result ≡ lent_figure bar figure }
 {
-    if bar == 0 { figure as u64 } else { 4294967296 }
+    if bar == 0 {
+        u64::from(figure)
+    } else {
+        4294967296
+    }
 }
 
 // The same figures in a lent work list, from place `base` on, but for the pads with ports that are barred for them.
-pub fn fill_work(
-    form: Form,
-    job: &[u8],
-    ports: &[u8],
-    lw: u32,
-    bw: u32,
-    bars: &[u8],
-    work: &mut [u64],
-    base: usize,
-)
-    requires accepted { Accepted form job.now ports.now × (lw ≤ 1000) × (bw ≤ 1000) × (base + count job.now * port_count form ports.now ≤ length work.old) }
-    requires bars_len { length bars.now ≡ count job.now * port_count form ports.now }
-    ensures { (length work.new ≡ length work.old) × FiguresFrom (board_from form job.now ports.now) (weighted (board_from form job.now ports.now) lw bw) bars.now base work.new }
+pub fn fill_work(job: &Job, w: Weights, bars: &[u8], work: &mut [u64], base: usize)
+    requires accepted { AcceptedOn job.now × InRange w × (base + pads_on job.now * ports_on job.now ≤ length work.old) }
+    requires bars_len { length bars.now ≡ pads_on job.now * ports_on job.now }
+    ensures { (length work.new ≡ length work.old) × FiguresFrom (board_on job.now) (weighted (board_on job.now) w.length w.bend) bars.now base work.new }
 {
-    let n = job::records(job);
-    let p = job::ports(form, ports);
-    let all = n * p;
-    let mut k: u16 = 0;
-    while k < all {
-        let figure = measure::weighted(form, job, ports, lw, bw, k / p, k % p);
-        work[base + k as usize] = lent(bars[k as usize], figure);
-        k += 1;
+    let n = job.count();
+    let p = job.port_count();
+    for k in 0..n * p {
+        let figure = measure::weighted(job, w, k / p, k % p);
+        work[base + usize::from(k)] = lent(bars[usize::from(k)], figure);
     }
 }

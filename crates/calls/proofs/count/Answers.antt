@@ -1,24 +1,72 @@
 -- `calls::count` meets its contract. Assumes nothing.
-use mathlib.Core.Path.{refl}
+use mathlib.Core.Path.{refl, subst}
 use lib.ListN.{length}
+use borrow.Author.Rules.{rules}
+use Rattle.std.specs.Prelude.{None, Ok, Err}
+use Rattle.std.proofs.lemmas.Result.{err_from_is_err_and}
 use Rattle.paper.specs.Job.{records, count}
-use Rattle.paper.specs.declared.Work.TheVariants.{Unlent}
-use Rattle.paper.specs.Layouts.{by_weights}
+use Rattle.paper.specs.Given.{badness_of}
+use Rattle.paper.specs.Layouts.{board_of, by_table}
+use Rattle.paper.specs.Problem.{labeling_of}
 use Rattle.paper.specs.Refusals.{sound_trials}
-use Rattle.paper.proofs.laws.Numbers.{buffer_kept}
+use Rattle.paper.specs.laws.Accepted.{AcceptedJob, Fair}
+use Rattle.paper.proofs.laws.Accepted.{sound_accepted}
+use Rattle.paper.proofs.laws.Numbers.{buffer_open, buffer_kept}
 use Rattle.paper.proofs.laws.Places.{count-refused}
+use Rattle.numbering.specs.Outcomes.{CountOn, refused_for as not_told}
 use Rattle.checks.specs.Judged.{Judged, judged_sound, judged_refused, sound_judged}
+use Rattle.calls.proofs.Facts.{count_answers, count_refuses, count_leaves}
+use Rattle.calls.proofs.Figured.{sound_by, count_back}
 use Rattle.calls.proofs.count.Goals as goal
 
-pub count-requires : goal.count-requires
-count-requires c =
-    let judged : Judged c.of_first-v.result (sound_trials (records c.args.job.now) (by_weights c.args.lw c.args.bw) Unlent (count c.args.job.now)) = rw (c.of_first-v.ensures, c.of_weights.ensures) (sound_judged (records c.args.job.now) (by_weights c.args.lw c.args.bw) Unlent (count c.args.job.now)) in
-    judged_sound _ _ judged c.in-Sound.is
-
-pub returns-in-Refused : goal.returns-in-Refused
-returns-in-Refused c =
-    let judged : Judged c.of_first-v.result (sound_trials (records c.args.job.now) (by_weights c.args.lw c.args.bw) Unlent (count c.args.job.now)) = rw (c.of_first-v.ensures, c.of_weights.ensures) (sound_judged (records c.args.job.now) (by_weights c.args.lw c.args.bw) Unlent (count c.args.job.now)) in
-    let r = judged_refused _ _ _ judged c.in-Refused.is in record {
-      count_answers = count-refused (records c.args.job.now) (by_weights c.args.lw c.args.bw) (length c.args.buffer.now) _ r;
+pub returns-in_err-of_first : goal.returns-in_err-of_first
+returns-in_err-of_first c =
+    let judged : Judged c.of_first.result (sound_trials (records c.args.job.now) (badness_of c.args.bad) None (count c.args.job.now)) = rw (c.of_first.ensures, c.of_records.ensures) (sound_judged (records c.args.job.now) (badness_of c.args.bad) None (count c.args.job.now)) in
+    let refused = judged_refused _ _ _ judged c.in_err-of_first.was in
+    let p = err_from_is_err_and c.from_residual.result c.from_residual.ensures.1 in
+    rw (p.1, p.2) (record {
+      count_answers = count-refused (records c.args.job.now) (badness_of c.args.bad) (length c.args.buffer.now) _ refused;
       buffer_promise = buffer_kept _ _ _ refl;
+    })
+
+pub with_figures-requires : goal.with_figures-requires
+with_figures-requires c =
+    let judged : Judged c.of_first.result (sound_trials (records c.args.job.now) (badness_of c.args.bad) None (count c.args.job.now)) = rw (c.of_first.ensures, c.of_records.ensures) (sound_judged (records c.args.job.now) (badness_of c.args.bad) None (count c.args.job.now)) in
+    let passed = judged_sound _ _ judged c.in_ok-of_first.was in
+    let facts = sound_accepted (records c.args.job.now) (badness_of c.args.bad) None (count c.args.job.now) passed in
+    record {
+      accepted = (facts.0, facts.1);
+      callable = λ p l b t e f.
+          let able : AcceptedJob (records c.args.job.now) × Fair (board_of (records c.args.job.now)) (by_table p.now) = (facts.0, t.long) in
+          search rules;
+    }
+
+pub returns-in_err-count : goal.returns-in_err-count
+returns-in_err-count c =
+    let judged : Judged c.of_first.result (sound_trials (records c.args.job.now) (badness_of c.args.bad) None (count c.args.job.now)) = rw (c.of_first.ensures, c.of_records.ensures) (sound_judged (records c.args.job.now) (badness_of c.args.bad) None (count c.args.job.now)) in
+    let passed = judged_sound _ _ judged c.in_ok-of_first.was in
+    let facts = sound_accepted (records c.args.job.now) (badness_of c.args.bad) None (count c.args.job.now) passed in
+    let (p, l, b, after, left, t, e, f, ran, g, h) = c.with_figures.ensures in
+    let found : CountOn (labeling_of (records c.args.job.now) (by_table p.now)) b.now left.now c.with_figures.result = search rules in
+    let known : CountOn (labeling_of (records c.args.job.now) (by_table p.now)) c.args.buffer.now c.with_figures.new.buffer c.with_figures.result = rw (← f, ← h) found in
+    let by = sound_by c.args.job.now (badness_of c.args.bad) facts.1 t _ passed in
+    let told = subst (CountOn _ _ _) c.in_err-count.was known in
+    let q = err_from_is_err_and c.from_residual-in_err-count.result c.from_residual-in_err-count.ensures.1 in
+    rw (q.1, q.2) (record {
+      count_answers = count_back c.args.job.now (badness_of c.args.bad) facts.1 t (length c.args.buffer.now) (Err (not_told c.in_err-count.field-0.0)) (count_refuses (records c.args.job.now) (by_table p.now) c.args.buffer.now c.with_figures.new.buffer by _ told);
+      buffer_promise = count_leaves (records c.args.job.now) (by_table p.now) c.args.buffer.now c.with_figures.new.buffer by _ told;
+    })
+
+pub returns : goal.returns
+returns c =
+    let judged : Judged c.of_first.result (sound_trials (records c.args.job.now) (badness_of c.args.bad) None (count c.args.job.now)) = rw (c.of_first.ensures, c.of_records.ensures) (sound_judged (records c.args.job.now) (badness_of c.args.bad) None (count c.args.job.now)) in
+    let passed = judged_sound _ _ judged c.in_ok-of_first.was in
+    let facts = sound_accepted (records c.args.job.now) (badness_of c.args.bad) None (count c.args.job.now) passed in
+    let (p, l, b, after, left, t, e, f, ran, g, h) = c.with_figures.ensures in
+    let found : CountOn (labeling_of (records c.args.job.now) (by_table p.now)) b.now left.now c.with_figures.result = search rules in
+    let known : CountOn (labeling_of (records c.args.job.now) (by_table p.now)) c.args.buffer.now c.with_figures.new.buffer c.with_figures.result = rw (← f, ← h) found in
+    let by = sound_by c.args.job.now (badness_of c.args.bad) facts.1 t _ passed in
+    record {
+      count_answers = count_back c.args.job.now (badness_of c.args.bad) facts.1 t (length c.args.buffer.now) (Ok c.in_ok-count.count) (count_answers (records c.args.job.now) (by_table p.now) c.args.buffer.now c.with_figures.new.buffer by _ (subst (CountOn _ _ _) c.in_ok-count.was known));
+      buffer_promise = buffer_open _ _ _;
     }

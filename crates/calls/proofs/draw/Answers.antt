@@ -1,7 +1,10 @@
 -- `calls::draw` meets its contract. Assumes nothing.
-use mathlib.Core.Path.{refl}
+use mathlib.Core.Path.{refl, sym, subst}
 use native.Mathlib.Omega.{arith}
 use lib.ListN.{length}
+use Rattle.std.specs.Prelude.{Ok}
+use Rattle.std.proofs.lemmas.Result.{err_from_is_err_and}
+use Rattle.paper.specs.Answers.{Drawn}
 use Rattle.paper.specs.Job.{records}
 use Rattle.paper.specs.Layouts.{board_of, leader}
 use Rattle.paper.specs.Refusals.{draw_trials}
@@ -11,26 +14,28 @@ use Rattle.paper.proofs.laws.Drawn.{drawn_is, coordinates_few, passed_on_sheet, 
 use Rattle.paper.proofs.laws.Accepted.{draw_accepted}
 use Rattle.calls.proofs.draw.Goals as goal
 
-pub lead-d-requires : goal.lead-d-requires
-lead-d-requires c =
-    let judged : Judged c.of_draw-v.result (draw_trials c.args.job.now c.args.i c.args.q (length c.args.points.now)) = rw c.of_draw-v.ensures (draw_judged c.args.job.now c.args.i c.args.q (length c.args.points.now)) in
-    judged_sound _ _ judged c.in-Sound.is
+pub returns-in_err-of_draw : goal.returns-in_err-of_draw
+returns-in_err-of_draw c =
+    let judged : Judged c.of_draw.result (draw_trials c.args.job.now c.args.i c.args.q (length c.args.points.now)) = rw c.of_draw.ensures (draw_judged c.args.job.now c.args.i c.args.q (length c.args.points.now)) in
+    let p = err_from_is_err_and c.from_residual.result c.from_residual.ensures.1 in
+    rw (p.1, p.2) (judged_refused _ _ _ judged c.in_err-of_draw.was, refl)
+
+pub lead-line-requires : goal.lead-line-requires
+lead-line-requires c =
+    let judged : Judged c.of_draw.result (draw_trials c.args.job.now c.args.i c.args.q (length c.args.points.now)) = rw c.of_draw.ensures (draw_judged c.args.job.now c.args.i c.args.q (length c.args.points.now)) in
+    judged_sound _ _ judged c.in_ok-of_draw.was
 
 pub put-requires : goal.put-requires
 put-requires c =
-    let judged : Judged c.of_draw-v.result (draw_trials c.args.job.now c.args.i c.args.q (length c.args.points.now)) = rw c.of_draw-v.ensures (draw_judged c.args.job.now c.args.i c.args.q (length c.args.points.now)) in
-    let p = judged_sound _ _ judged c.in-Sound.is in
-    omega (arith, coordinates_few c.lead-d.result, (draw_accepted c.args.job.now c.args.i c.args.q (length c.args.points.now) p).1)
+    let judged : Judged c.of_draw.result (draw_trials c.args.job.now c.args.i c.args.q (length c.args.points.now)) = rw c.of_draw.ensures (draw_judged c.args.job.now c.args.i c.args.q (length c.args.points.now)) in
+    let p = judged_sound _ _ judged c.in_ok-of_draw.was in
+    omega (arith, coordinates_few (Ok c.lead-line.result), (draw_accepted c.args.job.now c.args.i c.args.q (length c.args.points.now) p).1)
 
-pub returns-in-Sound : goal.returns-in-Sound
-returns-in-Sound c =
-    let judged : Judged c.of_draw-v.result (draw_trials c.args.job.now c.args.i c.args.q (length c.args.points.now)) = rw c.of_draw-v.ensures (draw_judged c.args.job.now c.args.i c.args.q (length c.args.points.now)) in
-    let p = judged_sound _ _ judged c.in-Sound.is in
+pub returns : goal.returns
+returns c =
+    let judged : Judged c.of_draw.result (draw_trials c.args.job.now c.args.i c.args.q (length c.args.points.now)) = rw c.of_draw.ensures (draw_judged c.args.job.now c.args.i c.args.q (length c.args.points.now)) in
+    let p = judged_sound _ _ judged c.in_ok-of_draw.was in
     let l = leader (board_of (records c.args.job.now)) c.args.i c.args.q in
-    let is : Draws l c.lead-d.result = rw c.lead-d.ensures (drawn_is l (passed_on_sheet c.args.job.now c.args.i c.args.q (length c.args.points.now) p)) in
-    rw c.put.ensures (draw_answers c.args.job.now c.args.i c.args.q c.args.points.now c.lead-d.result p is)
-
-pub returns-in-Refused : goal.returns-in-Refused
-returns-in-Refused c =
-    let judged : Judged c.of_draw-v.result (draw_trials c.args.job.now c.args.i c.args.q (length c.args.points.now)) = rw c.of_draw-v.ensures (draw_judged c.args.job.now c.args.i c.args.q (length c.args.points.now)) in
-    (judged_refused _ _ _ judged c.in-Refused.is, refl)
+    let drawn : Drawn = Ok c.lead-line.result in
+    let is : Draws l drawn = subst (λ (d : Drawn). Draws l d) (sym c.lead-line.ensures) (drawn_is l (passed_on_sheet c.args.job.now c.args.i c.args.q (length c.args.points.now) p)) in
+    rw c.put.ensures (draw_answers c.args.job.now c.args.i c.args.q c.args.points.now drawn p is)

@@ -1,20 +1,64 @@
 -- `calls::first` meets its contract. Assumes nothing.
-use mathlib.Core.Path.{refl}
+use mathlib.Core.Path.{refl, subst}
+use Prim.Native.Nat.{◌≤◌}
 use lib.ListN.{length}
-use Rattle.paper.specs.Job.{records}
-use Rattle.paper.specs.declared.Work.TheVariants.{Unlent}
-use Rattle.paper.specs.Layouts.{by_weights}
+use borrow.Author.Rules.{rules}
+use Rattle.std.specs.Prelude.{None, Some, Ok, Err}
+use Rattle.std.proofs.lemmas.Result.{err_from_is_err_and}
+use Rattle.paper.specs.Job.{records, count}
+use Rattle.paper.specs.Given.{badness_of}
+use Rattle.paper.specs.Layouts.{board_of, by_table}
+use Rattle.paper.specs.Problem.{labeling_of}
 use Rattle.paper.specs.Refusals.{sound_trials}
-use Rattle.paper.proofs.laws.Accepted.{sound_refused}
+use Rattle.paper.specs.laws.Accepted.{AcceptedJob, Fair}
+use Rattle.paper.proofs.laws.Accepted.{sound_accepted, sound_refused}
+use Rattle.layouts.specs.Replies.{FirstOn, refused_for}
 use Rattle.checks.specs.Judged.{Judged, judged_sound, judged_refused, sound_judged}
+use Rattle.calls.proofs.Facts.{first_answers, first_refuses}
+use Rattle.calls.proofs.Figured.{sound_by, first_back}
 use Rattle.calls.proofs.first.Goals as goal
 
-pub first-requires : goal.first-requires
-first-requires c =
-    let judged : Judged c.of_first-v.result (sound_trials (records c.args.job.now) (by_weights c.args.lw c.args.bw) Unlent (length c.args.list.now)) = rw (c.of_first-v.ensures, c.of_weights.ensures) (sound_judged (records c.args.job.now) (by_weights c.args.lw c.args.bw) Unlent (length c.args.list.now)) in
-    judged_sound _ _ judged c.in-Sound.is
+pub returns-in_err-of_first : goal.returns-in_err-of_first
+returns-in_err-of_first c =
+    let judged : Judged c.of_first.result (sound_trials (records c.args.job.now) (badness_of c.args.bad) None (length c.args.list.now)) = rw (c.of_first.ensures, c.of_records.ensures) (sound_judged (records c.args.job.now) (badness_of c.args.bad) None (length c.args.list.now)) in
+    let refused = judged_refused _ _ _ judged c.in_err-of_first.was in
+    let p = err_from_is_err_and c.from_residual.result c.from_residual.ensures.1 in
+    rw (p.1, p.2) (sound_refused (records c.args.job.now) (badness_of c.args.bad) None (length c.args.list.now) _ refused, refl)
 
-pub returns-in-Refused : goal.returns-in-Refused
-returns-in-Refused c =
-    let judged : Judged c.of_first-v.result (sound_trials (records c.args.job.now) (by_weights c.args.lw c.args.bw) Unlent (length c.args.list.now)) = rw (c.of_first-v.ensures, c.of_weights.ensures) (sound_judged (records c.args.job.now) (by_weights c.args.lw c.args.bw) Unlent (length c.args.list.now)) in
-    (sound_refused (records c.args.job.now) (by_weights c.args.lw c.args.bw) Unlent (length c.args.list.now) _ (judged_refused _ _ _ judged c.in-Refused.is), refl)
+pub with_figures-requires : goal.with_figures-requires
+with_figures-requires c =
+    let judged : Judged c.of_first.result (sound_trials (records c.args.job.now) (badness_of c.args.bad) None (length c.args.list.now)) = rw (c.of_first.ensures, c.of_records.ensures) (sound_judged (records c.args.job.now) (badness_of c.args.bad) None (length c.args.list.now)) in
+    let passed = judged_sound _ _ judged c.in_ok-of_first.was in
+    let facts = sound_accepted (records c.args.job.now) (badness_of c.args.bad) None (length c.args.list.now) passed in
+    record {
+      accepted = (facts.0, facts.1);
+      callable = λ p l b t e f.
+          let able : AcceptedJob (records c.args.job.now) × Fair (board_of (records c.args.job.now)) (by_table p.now) × (count c.args.job.now ≤ length l.now) = (facts.0, t.long, rw e facts.2) in
+          search rules;
+    }
+
+pub returns-in_err-total : goal.returns-in_err-total
+returns-in_err-total c =
+    let judged : Judged c.of_first.result (sound_trials (records c.args.job.now) (badness_of c.args.bad) None (length c.args.list.now)) = rw (c.of_first.ensures, c.of_records.ensures) (sound_judged (records c.args.job.now) (badness_of c.args.bad) None (length c.args.list.now)) in
+    let passed = judged_sound _ _ judged c.in_ok-of_first.was in
+    let facts = sound_accepted (records c.args.job.now) (badness_of c.args.bad) None (length c.args.list.now) passed in
+    let (p, l, b, after, left, t, e, f, ran, g, h) = c.with_figures.ensures in
+    let found : FirstOn (labeling_of (records c.args.job.now) (by_table p.now)) l.now after.now c.with_figures.result = search rules in
+    let known : FirstOn (labeling_of (records c.args.job.now) (by_table p.now)) c.args.list.now c.with_figures.new.list c.with_figures.result = rw (← e, ← g) found in
+    let by = sound_by c.args.job.now (badness_of c.args.bad) facts.1 t _ passed in
+    let q = err_from_is_err_and c.from_residual-in_err-total.result c.from_residual-in_err-total.ensures.1 in
+    rw (q.1, q.2)
+    (first_back c.args.job.now (badness_of c.args.bad) facts.1 t c.args.list.now (Err (refused_for c.in_err-total.field-0.0)) c.with_figures.new.list
+    (first_refuses (records c.args.job.now) (by_table p.now) None c.args.list.now by _ _ (subst (FirstOn _ _ _) c.in_err-total.was known)))
+
+pub returns : goal.returns
+returns c =
+    let judged : Judged c.of_first.result (sound_trials (records c.args.job.now) (badness_of c.args.bad) None (length c.args.list.now)) = rw (c.of_first.ensures, c.of_records.ensures) (sound_judged (records c.args.job.now) (badness_of c.args.bad) None (length c.args.list.now)) in
+    let passed = judged_sound _ _ judged c.in_ok-of_first.was in
+    let facts = sound_accepted (records c.args.job.now) (badness_of c.args.bad) None (length c.args.list.now) passed in
+    let (p, l, b, after, left, t, e, f, ran, g, h) = c.with_figures.ensures in
+    let found : FirstOn (labeling_of (records c.args.job.now) (by_table p.now)) l.now after.now c.with_figures.result = search rules in
+    let known : FirstOn (labeling_of (records c.args.job.now) (by_table p.now)) c.args.list.now c.with_figures.new.list c.with_figures.result = rw (← e, ← g) found in
+    let by = sound_by c.args.job.now (badness_of c.args.bad) facts.1 t _ passed in
+    first_back c.args.job.now (badness_of c.args.bad) facts.1 t c.args.list.now (Ok (Some c.in_ok-total.total)) c.with_figures.new.list
+    (first_answers (records c.args.job.now) (by_table p.now) None c.args.list.now by _ _ (subst (FirstOn _ _ _) c.in_ok-total.was known))

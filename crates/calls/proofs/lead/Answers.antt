@@ -23,23 +23,23 @@ overflow_cast-port c =
 pub x-requires : goal.x-requires
 x-requires c =
     let facts : Accepted Records c.args.job.now c.args.job.now × (6 ≤ c.args.room) × (c.args.i < count c.args.job.now) × (c.args.q < count c.args.job.now) = draw_accepted c.args.job.now c.args.i c.args.q c.args.room c.requires in
-    facts.2
+    rw c.of_records-records.ensures facts.2
 
 pub y-requires : goal.y-requires
 y-requires c =
     let facts : Accepted Records c.args.job.now c.args.job.now × (6 ≤ c.args.room) × (c.args.i < count c.args.job.now) × (c.args.q < count c.args.job.now) = draw_accepted c.args.job.now c.args.i c.args.q c.args.room c.requires in
-    facts.2
+    rw c.of_records-records.ensures facts.2
 
 pub port-requires : goal.port-requires
 port-requires c =
     let facts : Accepted Records c.args.job.now c.args.job.now × (6 ≤ c.args.room) × (c.args.i < count c.args.job.now) × (c.args.q < count c.args.job.now) = draw_accepted c.args.job.now c.args.i c.args.q c.args.room c.requires in
-    facts.3
+    rw c.of_records-records.ensures facts.3
 
 pub lead-requires : goal.lead-requires
 lead-requires c =
-    rw (c.x.ensures, to_z-of_z (sfits_of c.y.type_inv), c.y.ensures.0, to_z-of_z (sfits_of c.port.type_inv), c.port.ensures.0)
+    rw (c.x.ensures, to_z-of_z (sfits_of c.y.type_inv), c.y.ensures.0, to_z-of_z (sfits_of c.port.type_inv), c.port.ensures.0, c.of_records-records.ensures)
     (passed_on_sheet c.args.job.now c.args.i c.args.q c.args.room c.requires)
 
 pub returns : goal.returns
 returns c =
-    rw (c.lead.ensures, c.x.ensures, to_z-of_z (sfits_of c.y.type_inv), c.y.ensures.0, to_z-of_z (sfits_of c.port.type_inv), c.port.ensures.0)
+    rw (c.lead.ensures, c.x.ensures, to_z-of_z (sfits_of c.y.type_inv), c.y.ensures.0, to_z-of_z (sfits_of c.port.type_inv), c.port.ensures.0, c.of_records-records.ensures)

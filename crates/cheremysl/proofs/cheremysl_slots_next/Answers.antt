@@ -1,24 +1,11 @@
--- `cheremysl::cheremysl_slots_next` meets its contract. Assumes nothing.
-use mir.Syntax.{w64}
-use mathlib.Core.Path.{◌∙◌}
+-- `cheremysl::cheremysl_slots_next` meets its contract: its number is within 63 bits. Assumes nothing.
 use lib.ListN.{length}
-use mir.Facts.{to_z-of_z}
-use Rattle.paper.specs.declared.Work.TheVariants.{Lent}
+use Rattle.std.specs.Prelude.{Some}
 use Rattle.paper.specs.Job.{slots}
 use Rattle.paper.specs.Layouts.{by_weights}
-use Rattle.paper.specs.Refusals.{calls_of}
-use Rattle.paper.proofs.laws.Numbers.{numbered, next_work}
 use Rattle.paper.proofs.laws.Bounds.{next_bounded}
-use borrow.Author.Rules.{sfits_of}
 use Rattle.cheremysl.proofs.cheremysl_slots_next.Goals as goal
 
-pub of_answer-requires : goal.of_answer-requires
-of_answer-requires c =
-    next_bounded (slots c.args.pads.now c.args.ports.now) (by_weights c.args.length_weight c.args.bend_weight) (Lent (length c.args.work.now)) tt c.args.layout.now c.next.result _ c.next.ensures.next_answers
-
-pub returns : goal.returns
-returns c =
-    let e = to_z-of_z {w = w64} (sfits_of c.of_answer.type_inv) ∙ c.of_answer.ensures in record {
-      next_promise = (c.next.result, c.next.ensures.next_answers, e);
-      work_promise = rw e (next_work (calls_of (slots c.args.pads.now c.args.ports.now) (by_weights c.args.length_weight c.args.bend_weight) (Lent (length c.args.work.now))) (numbered (slots c.args.pads.now c.args.ports.now) (by_weights c.args.length_weight c.args.bend_weight) (Lent (length c.args.work.now))) c.args.layout.now _ c.next.result c.next.ensures.next_answers _ _ c.next.ensures.work_after);
-    }
+pub for_c-requires : goal.for_c-requires
+for_c-requires c =
+    next_bounded (slots c.args.pads.now c.args.ports.now) (by_weights c.args.length_weight c.args.bend_weight) (Some (length c.args.work.now)) tt c.args.layout.now c.next.result _ c.next.ensures.next_answers

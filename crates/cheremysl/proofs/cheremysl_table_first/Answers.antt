@@ -1,19 +1,11 @@
--- `cheremysl::cheremysl_table_first` meets its contract. Assumes nothing.
-use mir.Syntax.{w64}
-use mathlib.Core.Path.{◌∙◌}
+-- `cheremysl::cheremysl_table_first` meets its contract: its number is within 63 bits. Assumes nothing.
 use native.Mathlib.Omega.{arith}
-use mir.Facts.{to_z-of_z}
-use borrow.Author.Rules.{sfits_of}
-use Rattle.paper.specs.declared.Work.TheVariants.{Unlent}
+use Rattle.std.specs.Prelude.{None}
 use Rattle.paper.specs.Job.{records}
 use Rattle.paper.specs.Layouts.{by_table}
 use Rattle.paper.proofs.laws.Bounds.{first_bounded}
 use Rattle.cheremysl.proofs.cheremysl_table_first.Goals as goal
 
-pub of_answer-requires : goal.of_answer-requires
-of_answer-requires c =
-    first_bounded (records c.args.job.now) (by_table c.args.table.now) Unlent (λ k. omega (arith, c.type_inv.table k)) c.args.layout.now c.first.result c.first.new.list c.first.ensures
-
-pub returns : goal.returns
-returns c =
-    (c.first.result, c.first.ensures, to_z-of_z {w = w64} (sfits_of c.of_answer.type_inv) ∙ c.of_answer.ensures)
+pub for_c-requires : goal.for_c-requires
+for_c-requires c =
+    first_bounded (records c.args.job.now) (by_table c.args.table.now) None (λ k. omega (arith, c.type_inv.table k)) c.args.layout.now c.first.result _ c.first.ensures

@@ -1,51 +1,43 @@
 -- `choices::lowest` meets its contract: what it leaves is a law of Memory. Assumes nothing.
-use Prim.Native.Nat.{◌+◌, ◌<◌}
+use Prim.Native.Nat.{◌-◌, ◌<◌}
 use native.Mathlib.Omega.{arith}
-use Rattle.choices.specs.Source.{source}
-use Rattle.choices.proofs.Choosing.{chosen_some}
-use Rattle.choices.proofs.Memory.{settled_strip, settled_learnt, strip_look, strip_chosen, learnt_least}
+use Rattle.choices.specs.Choices.{Chosen, LocallyBest}
+use Rattle.choices.specs.Over.{on, working_in}
+use Rattle.choices.specs.Tables.{source_of}
+use Rattle.choices.proofs.Choosing.{chosen_some, choice_some}
+use Rattle.choices.proofs.Memory.{settled_strip, settled_learnt, strip_look, strip_chosen, strip_choice, learnt_least}
 use Rattle.choices.proofs.lowest.Goals as goal
 
-pub overflow_cast-f : goal.overflow_cast-f
-overflow_cast-f c = omega (arith, c.type_inv.known (128 + c.args.m))
+pub returns-then-f-gt0-clause-chosen : goal.returns-then-f-gt0-clause-chosen
+returns-then-f-gt0-clause-chosen c =
+    let few : c.args.m < 64 = omega (arith, c.requires.m_in_bounds.0, c.args.search.now.proper.pads.few) in
+    let L = settled_learnt c.args.w.now c.args.m c.requires.placed.1 c.settle.ensures in
+    let C : Chosen (on LocallyBest c.args.search.now c.args.w.now c.args.m) 0 (c.from-f.result - 1) =
+    rw c.from-f.ensures (strip_chosen (source_of c.args.search.now.tables c.args.search.now.lists.ports) c.args.m 0 _
+    (settled_strip c.args.w.now c.args.m c.requires.placed.1 c.settle.ensures) (L.facts.least c.args.m few (rw c.from-f.ensures at c.if-f-gt0.true))) in
+    (C, chosen_some c.args.w.now c.args.search.now.proper c.args.m c.requires.m_in_bounds.0 c.requires.m_in_bounds.1 _ C)
 
-pub returns-then-f-gt0 : goal.returns-then-f-gt0
-returns-then-f-gt0 c =
-    let few : c.args.m < 64 = omega (arith, c.requires.m_in_bounds.0, c.requires.working.proper.pads.few) in
-    let L = settled_learnt c.args.w.now c.args.m c.requires.placed.1 c.settle.ensures in record {
-      chosen = strip_chosen (source c.args.heads.now c.args.totals.now c.args.cost.now c.args.bars.now c.args.p) c.args.m 0 _ (settled_strip c.args.w.now c.args.m c.requires.placed.1 c.settle.ensures) (L.facts.least c.args.m few c.if-f-gt0.true);
-      learnt = L;
-    }
+pub choose-requires-clause-ready : goal.choose-requires-clause-ready
+choose-requires-clause-ready c =
+    strip_look c.args.m (settled_strip c.args.w.now c.args.m c.requires.placed.1 c.settle.ensures) (working_in c.args.search.now c.args.w.now c.requires.room)
+    c.requires.m_in_bounds.0 c.requires.m_in_bounds.1
 
-pub choose-q-requires : goal.choose-q-requires
-choose-q-requires c =
-    let few : c.args.m < 64 = omega (arith, c.requires.m_in_bounds.0, c.requires.working.proper.pads.few) in record {
-      right = c.requires.working.table;
-      known_len = ((settled_learnt c.args.w.now c.args.m c.requires.placed.1 c.settle.ensures).facts.long, few, c.requires.working.proper.pads);
-      ready = strip_look c.args.m (settled_strip c.args.w.now c.args.m c.requires.placed.1 c.settle.ensures) c.requires.working c.requires.m_in_bounds.0 c.requires.m_in_bounds.1;
-    }
+pub unwrap-q-requires : goal.unwrap-q-requires
+unwrap-q-requires c =
+    choice_some c.args.w.now c.args.search.now.proper c.args.m c.requires.m_in_bounds.0 c.requires.m_in_bounds.1 _
+    (strip_choice (source_of c.args.search.now.tables c.args.search.now.lists.ports) c.args.m 0 _
+    (settled_strip c.args.w.now c.args.m c.requires.placed.1 c.settle.ensures) c.choose.ensures)
 
-pub overflow_add-known : goal.overflow_add-known
-overflow_add-known c =
-    let some-port : c.choose-q.result < 128 = chosen_some c.args.w.now c.requires.working.proper c.args.m c.requires.m_in_bounds.0 c.requires.m_in_bounds.1 c.choose-q.result
-    (strip_chosen (source c.args.heads.now c.args.totals.now c.args.cost.now c.args.bars.now c.args.p) c.args.m 0 c.choose-q.result (settled_strip c.args.w.now c.args.m c.requires.placed.1 c.settle.ensures) c.choose-q.ensures) in
-    omega (arith, some-port)
+pub returns-clause-chosen : goal.returns-clause-chosen
+returns-clause-chosen c =
+    let C = rw c.unwrap-q.ensures at c.choose.ensures in (
+      strip_chosen (source_of c.args.search.now.tables c.args.search.now.lists.ports) c.args.m 0 _
+          (settled_strip c.args.w.now c.args.m c.requires.placed.1 c.settle.ensures) C.0,
+      C.1,
+    )
 
-pub overflow_cast-known : goal.overflow_cast-known
-overflow_cast-known c =
-    let some-port : c.choose-q.result < 128 = chosen_some c.args.w.now c.requires.working.proper c.args.m c.requires.m_in_bounds.0 c.requires.m_in_bounds.1 c.choose-q.result
-    (strip_chosen (source c.args.heads.now c.args.totals.now c.args.cost.now c.args.bars.now c.args.p) c.args.m 0 c.choose-q.result (settled_strip c.args.w.now c.args.m c.requires.placed.1 c.settle.ensures) c.choose-q.ensures) in
-    omega (arith, some-port)
-
-pub overflow_add-known-2 : goal.overflow_add-known-2
-overflow_add-known-2 c = omega (arith, c.requires.m_in_bounds.0, c.requires.working.proper.pads.few)
-
-pub bounds-known-m-2 : goal.bounds-known-m-2
-bounds-known-m-2 c = omega (arith, c.settle.ensures.long, c.requires.placed.1.long, c.requires.m_in_bounds.0, c.requires.working.proper.pads.few)
-
-pub returns : goal.returns
-returns c =
-    let few : c.args.m < 64 = omega (arith, c.requires.m_in_bounds.0, c.requires.working.proper.pads.few) in record {
-      chosen = strip_chosen (source c.args.heads.now c.args.totals.now c.args.cost.now c.args.bars.now c.args.p) c.args.m 0 c.choose-q.result (settled_strip c.args.w.now c.args.m c.requires.placed.1 c.settle.ensures) c.choose-q.ensures;
-      learnt = learnt_least c.args.m few (settled_learnt c.args.w.now c.args.m c.requires.placed.1 c.settle.ensures) c.choose-q.result c.choose-q.ensures;
-    }
+pub returns-clause-learnt : goal.returns-clause-learnt
+returns-clause-learnt c =
+    let few : c.args.m < 64 = omega (arith, c.requires.m_in_bounds.0, c.args.search.now.proper.pads.few) in
+    let C = rw c.unwrap-q.ensures at c.choose.ensures in
+    learnt_least c.args.m few (settled_learnt c.args.w.now c.args.m c.requires.placed.1 c.settle.ensures) c.unwrap-q.result C.0

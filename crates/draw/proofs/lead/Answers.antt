@@ -5,7 +5,8 @@ use lib.Dec.{lit<}
 use lib.IntN.{ℤ, nat_abs}
 use mir.Syntax.{w32, w64}
 use mir.Val.{to_z, of_z}
-use Rattle.paper.specs.declared.Drawn.TheVariants.{Straight, Bent}
+use Rattle.std.specs.Prelude.{Ok}
+use Rattle.paper.specs.declared.Polyline.TheVariants.{Straight, Bent}
 use Rattle.paper.specs.laws.Drawn.{canvas}
 use Rattle.paper.proofs.laws.Drawn.{level_drawn, bend_drawn}
 use Rattle.numbers.proofs.Bits.{same_bits}
@@ -22,7 +23,7 @@ returns-then-y-q c =
     let port_is : c.on_canvas-port.result ≡ canvas 0 c.args.q = c.on_canvas-port.ensures ∙ ap (canvas 0) (passed c.requires.port c.short-2.ensures) in
     let pad = pad-is in
     let port = port_is in
-    (λ i. Straight (record { pad = pad i; port = port i }))
+    (λ i. Ok (Straight (pad i) (port i)))
     ∙ sym (level_drawn _ (same_bits c.args.y c.args.q c.ranges.y.sfits c.ranges.q.sfits c.if-y-q.true))
 
 pub returns-else-y-q : goal.returns-else-y-q
@@ -32,4 +33,4 @@ returns-else-y-q c =
     let pad = pad-is in
     let port = port_is in
     let bend = c.on_canvas-bend.ensures ∙ ap (canvas c.args.x) (passed c.requires.port c.short-else-y-q.ensures) in
-    (λ i. Bent (record { pad = pad i; bend = bend i; port = port i })) ∙ sym (bend_drawn _ (λ e'. c.if-y-q.false (ap (of_z w64) e')))
+    (λ i. Ok (Bent (pad i) (bend i) (port i))) ∙ sym (bend_drawn _ (λ e'. c.if-y-q.false (ap (of_z w64) e')))

@@ -1,12 +1,9 @@
--- `fields::digits` meets its contract: the digits up to the place came to v. Assumes nothing.
-use Prim.Native.Nat.{◌-◌, ◌≤◌}
+-- `fields::digits` meets its contract: the digits up to the place came to the value. Assumes nothing.
+use Prim.Native.Nat.{◌≤◌}
 use mathlib.Core.Path.{◌≡◌}
-use lib.ListN.{length, drop}
+use lib.ListN.{drop}
 use Rattle.paper.specs.laws.Parsing.{digits_front}
 use Rattle.fields.proofs.digits.Given as goal
 
 abbrev pub invariant-loop-place : goal.invariant-loop-place
-invariant-loop-place l = (l.at ≤ l.place) × (l.place ≤ length l.text) × (l.v ≤ 1000001) × (digits_front l.first (drop l.at l.text) ≡ digits_front l.v (drop l.place l.text))
-
-abbrev pub decreases-loop-place : goal.decreases-loop-place
-decreases-loop-place l = length l.text - l.place
+invariant-loop-place l = record { small : l.value ≤ 1000001; so_far : digits_front l.first l.text ≡ digits_front l.value (drop l.place l.text) }

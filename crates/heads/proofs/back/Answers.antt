@@ -1,38 +1,9 @@
-use Rattle.heads.proofs.Scan.{scan_start, scan_some, scan_step, scan_found, spans_most}
+use Rattle.heads.proofs.Scan.{scan_start, scan_some, scan_step, scan_found}
 use native.Mathlib.Omega.{arith}
 use Rattle.heads.proofs.back.Goals as goal
 
 pub loop-m-init : goal.loop-m-init
 loop-m-init c = scan_start _ _ _ _ _ _ c.requires.from_in_bounds.0 c.requires.from_in_bounds.1 c.requires.here_bound.0
-
-pub overflow_sub-k : goal.overflow_sub-k
-overflow_sub-k c = omega (
-  arith,
-  scan_some _ _ _ _ c.loop-m.k c.loop-m.m c.loop-m-test.true c.requires.here_bound.1
-      c.loop-m.invariant,
-)
-
-pub stands-m-requires : goal.stands-m-requires
-stands-m-requires c =
-    record {
-      pads = c.requires.pads;
-      k_in_bounds = omega (
-        arith,
-        c.loop-m.invariant.placed,
-        scan_some _ _ _ _ c.loop-m.k c.loop-m.m c.loop-m-test.true
-            c.requires.here_bound.1 c.loop-m.invariant,
-      );
-    }
-
-pub overflow_add-m : goal.overflow_add-m
-overflow_add-m c = omega (arith, spans_most _ _ _ _ _ c.stands-m.ensures)
-
-pub loop-m-smaller : goal.loop-m-smaller
-loop-m-smaller c = omega (
-  arith,
-  scan_some _ _ _ _ c.loop-m.k c.loop-m.m c.loop-m-test.true
-      c.requires.here_bound.1 c.loop-m.invariant,
-)
 
 pub loop-m-preserved : goal.loop-m-preserved
 loop-m-preserved c = rw c.stands-m.ensures (scan_step _ _ _ _ c.loop-m.k c.loop-m.m

@@ -2,12 +2,13 @@
 use mathlib.Core.Path.{◌≡◌}
 use Prim.Native.Nat.{◌+◌, ◌-◌, ◌≤◌, ◌<◌}
 use lib.ListN.{length, drop}
-use Rattle.pads.specs.Pads.{pads_in, sides_of}
+use Rattle.pads.specs.Pads.{pads_in}
+use Rattle.pads.specs.Sides.{sides}
 use Rattle.heads.proofs.on.Given as goal
 
 abbrev pub invariant-loop-rest : goal.invariant-loop-rest
-invariant-loop-rest l = (l.k < length l.order) × (l.b - l.a ≤ pads_in (sides_of l.lo l.hi) l.a l.b (drop l.k l.order)) ×
-    (l.rest ≡ pads_in (sides_of l.lo l.hi) l.a l.b (drop (l.k + 1) l.order))
+invariant-loop-rest l = (l.k < length l.lists.order.now) × (l.b - l.a ≤ pads_in (sides l.lists) l.a l.b (drop l.k l.lists.order.now)) ×
+    (l.rest ≡ pads_in (sides l.lists) l.a l.b (drop (l.k + 1) l.lists.order.now))
 
 abbrev pub decreases-loop-rest : goal.decreases-loop-rest
-decreases-loop-rest l = length l.order - l.k
+decreases-loop-rest l = length l.lists.order.now - l.k

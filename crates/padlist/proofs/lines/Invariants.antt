@@ -1,11 +1,10 @@
--- `padlist::lines` meets its contract: the lines up to the place were read. Assumes nothing.
-use Prim.Native.Nat.{◌-◌}
+-- `padlist::lines` meets its contract: the lines up to the rest were read. Assumes nothing.
 use lib.ListN.{length}
 use Rattle.padlist.specs.Laws.{Reading}
 use Rattle.padlist.proofs.lines.Given as goal
 
-abbrev pub invariant-loop-at : goal.invariant-loop-at
-invariant-loop-at l = Reading l.text l.initial.made l.start l.made l.at l.n l.filled
+abbrev pub invariant-loop-rest : goal.invariant-loop-rest
+invariant-loop-rest l = Reading l.text l.initial.made l.initial.rest l.made l.rest l.n
 
-abbrev pub decreases-loop-at : goal.decreases-loop-at
-decreases-loop-at l = length l.text - l.at
+abbrev pub decreases-loop-rest : goal.decreases-loop-rest
+decreases-loop-rest l = length l.rest

@@ -1,6 +1,6 @@
 -- What a call may go by once its trials are passed.
 --     sound_accepted, draw_accepted: the job's fields, weights or table, and room;  first_sound, first_some, first_passed: First's are these, and some layout counts;  measure_accepted, untouching_passed: Measure's
-use Rattle.std.specs.Prelude.{◌≡◌, ◌≢◌, ◌↔◌, List, [], ◌∷◌, ℕ, zero, suc, ◌*◌, ◌%◌, ◌-◌, ◌≤◌, ◌<◌, length, get_or, pos, nat_abs, ◌+ℤ◌, ◌-ℤ◌, ◌≤ℤ◌}
+use Rattle.std.specs.Prelude.{◌≡◌, ◌≢◌, ◌↔◌, List, [], ◌∷◌, ℕ, zero, suc, ◌*◌, ◌%◌, ◌-◌, ◌≤◌, ◌<◌, length, get_or, pos, nat_abs, ◌+ℤ◌, ◌-ℤ◌, ◌≤ℤ◌, Some, None}
 use Rattle.std.proofs.Common.{ap, inl, inr, ⊎_elim, lt_of_not-le, le_of_suc-le-suc, not-suc-le-zero, eq-or-lt_of_le, arith}
 use Rattle.std.proofs.Math.Logic.Dec
 use Rattle.std.proofs.Math.Decide.{ℕ_discrete}
@@ -8,8 +8,7 @@ use Rattle.numbers.proofs.Whole.{whole, nlt_num, plus_num, less_num}
 use Rattle.paper.specs.declared.Refusal.{Refusal}
 use Rattle.paper.specs.declared.Form.{Form}
 use Rattle.paper.specs.declared.Form.TheVariants.{Records}
-use Rattle.paper.specs.declared.Work.{Work}
-use Rattle.paper.specs.declared.Work.TheVariants.{Unlent, Lent}
+use Rattle.paper.specs.Answers.{Work}
 use Rattle.paper.specs.Job.{Job, records, slots, form_of, pads_of, ports_of, last_of, count, port_count, port_of}
 use Rattle.paper.specs.Layouts.{Board, board_from, board_of, held, Badness, by_weights, by_table, weighted, cost_of, total, Layout, Untouching}
 use Rattle.paper.specs.Problem.{Best, labeling_of}
@@ -118,17 +117,17 @@ sound_accepted job bad work room p =
     (job_accepted job sizes (append_passed (enough_trials job) (work_trials (board_of job) work) roomy.1).0 passed, (fair_iff (board_of job) bad).0 given, not_lt (roomy.0 0 (omega arith)))
 
 -- .. and the work list, where one is lent, is long enough.
-pub sound_working : (job : Job) (bad : Badness) (numbers room : ℕ) → Passed (sound_trials job bad (Lent numbers) room)
+pub sound_working : (job : Job) (bad : Badness) (numbers room : ℕ) → Passed (sound_trials job bad (Some numbers) room)
     → work_needed (board_of job).pads (board_of job).ports ≤ numbers
 sound_working job bad numbers room p =
-    not_lt ((append_passed (enough_trials job) (work_trials (board_of job) (Lent numbers)) ((sound_parts job bad (Lent numbers) room).0 p).2.1).1.0 0 (omega arith))
+    not_lt ((append_passed (enough_trials job) (work_trials (board_of job) (Some numbers)) ((sound_parts job bad (Some numbers) room).0 p).2.1).1.0 0 (omega arith))
 
 -- Without a work list 24 is not tried: what passes with one passes without.
-pub sound_unlent : (job : Job) (bad : Badness) (work : Work) (room : ℕ) → Passed (sound_trials job bad work room) → Passed (sound_trials job bad Unlent room)
+pub sound_unlent : (job : Job) (bad : Badness) (work : Work) (room : ℕ) → Passed (sound_trials job bad work room) → Passed (sound_trials job bad None room)
 sound_unlent job bad work room p =
     let (sizes, given, roomy, passed) = (sound_parts job bad work room).0 p in
     let enough = (append_passed (enough_trials job) (work_trials (board_of job) work) roomy.1).0 in
-    (sound_parts job bad Unlent room).1 (sizes, given, (roomy.0, passed_append (enough_trials job) [] enough tt), passed)
+    (sound_parts job bad None room).1 (sizes, given, (roomy.0, passed_append (enough_trials job) [] enough tt), passed)
 
 -- How many entries are lent makes no difference, if there is room.
 pub sound_other_room : (job : Job) (bad : Badness) (work : Work) (room other : ℕ) → Passed (sound_trials job bad work room) → (board_of job).pads ≤ other

@@ -3,17 +3,12 @@
 --     first_by_table, next_by_table, page_by_table, measure_by_table, count_by_table, place_by_table;  table_of: there is such a table
 --     sound_follows, measure_follows, first_on, next_on_lem, page_on_lem, count_on, place_on: from one to the other, for the code that searches by such a table
 --     first_over, next_over, page_over, measure_over, count_over, place_over: of any calls whose trials follow, on problems whose layouts are worth the same
-use Rattle.std.specs.Prelude.{◌≡◌, ◌↔◌, List, [], ◌∷◌, ◌++◌, ℕ, zero, suc, ◌+◌, ◌*◌, ◌/◌, ◌%◌, ◌≤◌, ◌<◌, length, ℤ}
+use Rattle.std.specs.Prelude.{◌≡◌, ◌↔◌, List, [], ◌∷◌, ◌++◌, ℕ, zero, suc, ◌+◌, ◌*◌, ◌/◌, ◌%◌, ◌≤◌, ◌<◌, length, ℤ, Some, None, Ok, Err}
 use Rattle.std.proofs.Common.{sym, ◌∙◌, inl, inr, ⊎_elim, arith}
 use Rattle.std.proofs.Math.Arith.{digits_div, digits_mod}
 use Rattle.numbers.proofs.Filled.{place_in}
 use Rattle.paper.specs.declared.Refusal.{Refusal}
-use Rattle.paper.specs.declared.Answer.{Answer}
-use Rattle.paper.specs.declared.Answer.TheVariants.{Total, End, Refused}
-use Rattle.paper.specs.declared.Counted.{Counted}
-use Rattle.paper.specs.declared.Counted.TheVariants.{Many, Refused as NotCounted}
-use Rattle.paper.specs.declared.Work.{Work}
-use Rattle.paper.specs.declared.Work.TheVariants.{Unlent}
+use Rattle.paper.specs.Answers.{Work, Answer, Counted}
 use Rattle.paper.specs.Job.{Job}
 use Rattle.paper.specs.Layouts.{Board, board_of, held, Layout, Untouching, Badness, by_weights, by_table, weighted, cost_of, TableOf, total}
 use Rattle.paper.specs.Problem.{Problem, Best, FirstBest, NextBest, LastBest, PlaceBest, CountBest, labeling_of}
@@ -149,28 +144,28 @@ module _ (b : Board) {C D : (ℕ → ℕ) → Type 0} {v w : (ℕ → ℕ) → �
 
   pub first_over : ((room : ℕ) → Follows (first room) (other-first room))
       → (before : List ℕ) (a : Answer) (after : List ℕ) → FirstOver these before a after → FirstOver those before a after
-  first_over follows before (Total t) after (p, f, e, k) =
+  first_over follows before (Ok (Some t)) after (p, f, e, k) =
       ((follows (length before)).0 p, first_best_alike b same (held after) f, e ∙ same.value (held after) f.best.counts, k)
-  first_over follows before End after p = absurd p
-  first_over follows before (Refused r) after (a, e) = ((follows (length before)).1 r a, e)
+  first_over follows before (Ok None) after p = absurd p
+  first_over follows before (Err r) after (a, e) = ((follows (length before)).1 r a, e)
 
   pub next_over : ((list : List ℕ) → Follows (next list) (other-next list))
       → (before : List ℕ) (a : Answer) (after : List ℕ) → NextOver these before a after → NextOver those before a after
-  next_over follows before (Total t) after (p, f, e, k) =
+  next_over follows before (Ok (Some t)) after (p, f, e, k) =
       ((follows before).0 p, next_best_alike b same (held before) (held after) f, e ∙ same.value (held after) f.best.counts, k)
-  next_over follows before End after (p, l, e) = ((follows before).0 p, last_best_alike b same (held before) l, e)
-  next_over follows before (Refused r) after (a, e) = ((follows before).1 r a, e)
+  next_over follows before (Ok None) after (p, l, e) = ((follows before).0 p, last_best_alike b same (held before) l, e)
+  next_over follows before (Err r) after (a, e) = ((follows before).1 r a, e)
 
   pub page_over : ((list : List ℕ) → Follows (next list) (other-next list))
       → (list before : List ℕ) (a : Counted) (after : List ℕ) → PageOver these list before a after → PageOver those list before a after
-  page_over follows list before (Many k) after (p, f) = ((follows list).0 p, following_alike b same list before k after f)
-  page_over follows list before (NotCounted r) after (a, e) = ((follows list).1 r a, e)
+  page_over follows list before (Ok k) after (p, f) = ((follows list).0 p, following_alike b same list before k after f)
+  page_over follows list before (Err r) after (a, e) = ((follows list).1 r a, e)
 
   pub measure_over : ((list : List ℕ) → Follows (measure list) (other-measure list)) → ((list : List ℕ) → Passed (measure list) → C (held list))
       → (list : List ℕ) (a : Answer) → MeasureOver these list a → MeasureOver those list a
-  measure_over follows counts list (Total t) (p, e) = ((follows list).0 p, e ∙ same.value (held list) (counts list p))
-  measure_over follows counts list End p = absurd p
-  measure_over follows counts list (Refused r) a = (follows list).1 r a
+  measure_over follows counts list (Ok (Some t)) (p, e) = ((follows list).0 p, e ∙ same.value (held list) (counts list p))
+  measure_over follows counts list (Ok None) p = absurd p
+  measure_over follows counts list (Err r) a = (follows list).1 r a
 
   module _ (follows : (room : ℕ) → Follows (first room) (other-first room)) (numbers : ℕ) where
     count-follows : Follows (count_trials these numbers) (count_trials those numbers)
@@ -179,8 +174,8 @@ module _ (b : Board) {C D : (ℕ → ℕ) → Type 0} {v w : (ℕ → ℕ) → �
         (follows b.pads) (number-follows b same numbers)
 
     pub count_over : (a : Counted) → CountOver these numbers a → CountOver those numbers a
-    count_over (Many k) (p, N) = (count-follows.0 p, count_alike b same k N)
-    count_over (NotCounted r) a = count-follows.1 r a
+    count_over (Ok k) (p, N) = (count-follows.0 p, count_alike b same k N)
+    count_over (Err r) a = count-follows.1 r a
 
     place-follows : (place room : ℕ) → Follows (place_trials these numbers place room) (place_trials those numbers place room)
     place-follows place room =
@@ -189,11 +184,11 @@ module _ (b : Board) {C D : (ℕ → ℕ) → Type 0} {v w : (ℕ → ℕ) → �
         (number-follows b same numbers) (whole_follows 17 (PastCount these.problem place) (PastCount those.problem place) (counts_alike b same (λ c. c ≤ place))))
 
     pub place_over : (place : ℕ) (before : List ℕ) (a : Answer) (after : List ℕ) → PlaceOver these numbers place before a after → PlaceOver those numbers place before a after
-    place_over place before (Total t) after (p, s, e, k) =
+    place_over place before (Ok (Some t)) after (p, s, e, k) =
         let best = place_best these.problem place (held after) s in
         ((place-follows place (length before)).0 p, place_alike b same place (held after) s, e ∙ same.value (held after) best.counts, k)
-    place_over place before End after p = absurd p
-    place_over place before (Refused r) after (a, e) = ((place-follows place (length before)).1 r a, e)
+    place_over place before (Ok None) after p = absurd p
+    place_over place before (Err r) after (a, e) = ((place-follows place (length before)).1 r a, e)
 
 module _ (job : Job) where
   abbrev b : Board
@@ -232,34 +227,34 @@ module _ (job : Job) where
 
     pub first_on : (work : Work) (before : List ℕ) (a : Answer) (after : List ℕ) → FirstAnswers job bad work before a after → FirstAnswers job other work before a after
     first_on work =
-        first_over b (same_worth bad other same) (first_trials job bad work) (first_trials job other work) (measure_trials job bad Unlent) (measure_trials job other Unlent)
+        first_over b (same_worth bad other same) (first_trials job bad work) (first_trials job other work) (measure_trials job bad None) (measure_trials job other None)
         (next_trials job bad work) (next_trials job other work) (first-follows work)
 
     pub next_on_lem : (work : Work) (before : List ℕ) (a : Answer) (after : List ℕ) → NextAnswers job bad work before a after → NextAnswers job other work before a after
     next_on_lem work =
-        next_over b (same_worth bad other same) (first_trials job bad work) (first_trials job other work) (measure_trials job bad Unlent) (measure_trials job other Unlent)
+        next_over b (same_worth bad other same) (first_trials job bad work) (first_trials job other work) (measure_trials job bad None) (measure_trials job other None)
         (next_trials job bad work) (next_trials job other work) (next_follows work)
 
     pub page_on_lem : (work : Work) (list before : List ℕ) (a : Counted) (after : List ℕ) → PageAnswers job bad work list before a after → PageAnswers job other work list before a after
     page_on_lem work =
-        page_over b (same_worth bad other same) (first_trials job bad work) (first_trials job other work) (measure_trials job bad Unlent) (measure_trials job other Unlent)
+        page_over b (same_worth bad other same) (first_trials job bad work) (first_trials job other work) (measure_trials job bad None) (measure_trials job other None)
         (next_trials job bad work) (next_trials job other work) (next_follows work)
 
     measure_on : (list : List ℕ) (a : Answer) → MeasureAnswers job bad list a → MeasureAnswers job other list a
     measure_on =
-        measure_over b (same_worth bad other same) (first_trials job bad Unlent) (first_trials job other Unlent) (measure_trials job bad Unlent) (measure_trials job other Unlent)
-        (next_trials job bad Unlent) (next_trials job other Unlent) (measure_follows Unlent) (λ list p. (measure_accepted job bad Unlent list p).1)
+        measure_over b (same_worth bad other same) (first_trials job bad None) (first_trials job other None) (measure_trials job bad None) (measure_trials job other None)
+        (next_trials job bad None) (next_trials job other None) (measure_follows None) (λ list p. (measure_accepted job bad None list p).1)
 
     pub count_on : (numbers : ℕ) (a : Counted) → CountAnswers job bad numbers a → CountAnswers job other numbers a
     count_on =
-        count_over b (same_worth bad other same) (first_trials job bad Unlent) (first_trials job other Unlent) (measure_trials job bad Unlent) (measure_trials job other Unlent)
-        (next_trials job bad Unlent) (next_trials job other Unlent) (first-follows Unlent)
+        count_over b (same_worth bad other same) (first_trials job bad None) (first_trials job other None) (measure_trials job bad None) (measure_trials job other None)
+        (next_trials job bad None) (next_trials job other None) (first-follows None)
 
     pub place_on : (numbers place : ℕ) (before : List ℕ) (a : Answer) (after : List ℕ)
         → PlaceAnswers job bad numbers place before a after → PlaceAnswers job other numbers place before a after
     place_on =
-        place_over b (same_worth bad other same) (first_trials job bad Unlent) (first_trials job other Unlent) (measure_trials job bad Unlent) (measure_trials job other Unlent)
-        (next_trials job bad Unlent) (next_trials job other Unlent) (first-follows Unlent)
+        place_over b (same_worth bad other same) (first_trials job bad None) (first_trials job other None) (measure_trials job bad None) (measure_trials job other None)
+        (next_trials job bad None) (next_trials job other None) (first-follows None)
 
   -- THEOREMS. By weights as by their table.
   module _ (lw bw : ℕ) (figures : List ℕ) (lengths : lw ≤ 1000) (bends : bw ≤ 1000) (t : TableOf b (weighted b lw bw) figures) where

@@ -1,13 +1,8 @@
 -- A total is at most 64 times the largest figure of 32 bits. So every total that a call answers fits C's number; and so does how many layouts a page has, and a count.
 --     first_bounded, next_bounded, measure_bounded, place_bounded, page_counted, count_bounded, svg_bounded, csv_bounded
-use Rattle.std.specs.Prelude.{◌≡◌, List, ℕ, ◌*◌, ◌^◌, ◌≤◌, ◌<◌, length}
+use Rattle.std.specs.Prelude.{◌≡◌, List, ℕ, ◌*◌, ◌^◌, ◌≤◌, ◌<◌, length, Some, None, Ok, Err}
 use Rattle.std.proofs.Common.{mul-le-mul_left, arith}
-use Rattle.paper.specs.declared.Answer.{Answer}
-use Rattle.paper.specs.declared.Answer.TheVariants.{Total, End, Refused}
-use Rattle.paper.specs.declared.Counted.{Counted}
-use Rattle.paper.specs.declared.Counted.TheVariants.{Many, Refused as NotCounted}
-use Rattle.paper.specs.declared.Work.{Work}
-use Rattle.paper.specs.declared.Work.TheVariants.{Unlent}
+use Rattle.paper.specs.Answers.{Work, Answer, Counted}
 use Rattle.paper.specs.Job.{Job, count}
 use Rattle.paper.specs.Layouts.{board_of, held, Badness, Layout}
 use Rattle.paper.specs.Problem.{labeling_of}
@@ -27,60 +22,60 @@ total_bounded job bad work room t list narrow p l e = let a = sound_accepted job
 
 module _ (job : Job) (bad : Badness) (work : Work) (narrow : Narrow bad) (before : List ℕ) where
   pub first_bounded : (a : Answer) (after : List ℕ) → FirstAnswers job bad work before a after → Bounded a
-  first_bounded (Total t) after f = total_bounded job bad work (length before) t after narrow (first_sound job bad work (length before) f.0) f.1.best.counts.layout f.2
-  first_bounded End after f = tt
-  first_bounded (Refused r) after f = tt
+  first_bounded (Ok (Some t)) after f = total_bounded job bad work (length before) t after narrow (first_sound job bad work (length before) f.0) f.1.best.counts.layout f.2
+  first_bounded (Ok None) after f = tt
+  first_bounded (Err r) after f = tt
 
   pub next_bounded : (a : Answer) (after : List ℕ) → NextAnswers job bad work before a after → Bounded a
-  next_bounded (Total t) after n =
+  next_bounded (Ok (Some t)) after n =
       let p = (measure_accepted job bad work before (next_measured job bad work before n.0)).0 in
       total_bounded job bad work (length before) t after narrow p n.1.best.counts.layout n.2
-  next_bounded End after n = tt
-  next_bounded (Refused r) after n = tt
+  next_bounded (Ok None) after n = tt
+  next_bounded (Err r) after n = tt
 
   pub measure_bounded : (a : Answer) → MeasureAnswers job bad before a → Bounded a
-  measure_bounded (Total t) m =
-      let p = measure_accepted job bad Unlent before m.0 in
-      total_bounded job bad Unlent (length before) t before narrow p.0 p.1.layout m.1
-  measure_bounded End m = tt
-  measure_bounded (Refused r) m = tt
+  measure_bounded (Ok (Some t)) m =
+      let p = measure_accepted job bad None before m.0 in
+      total_bounded job bad None (length before) t before narrow p.0 p.1.layout m.1
+  measure_bounded (Ok None) m = tt
+  measure_bounded (Err r) m = tt
 
 pub place_bounded : (job : Job) (bad : Badness) → Narrow bad → (numbers place : ℕ) (before : List ℕ) (a : Answer) (after : List ℕ)
     → PlaceAnswers job bad numbers place before a after → Bounded a
-place_bounded job bad narrow numbers place before (Total t) after f =
-    let p = first_sound job bad Unlent (length before) (append_passed (first_trials job bad Unlent (length before)) _ f.0).0 in
-    total_bounded job bad Unlent (length before) t after narrow p (place_best (labeling_of job bad) place (held after) f.1).counts.layout f.2
-place_bounded job bad narrow numbers place before End after f = tt
-place_bounded job bad narrow numbers place before (Refused r) after f = tt
+place_bounded job bad narrow numbers place before (Ok (Some t)) after f =
+    let p = first_sound job bad None (length before) (append_passed (first_trials job bad None (length before)) _ f.0).0 in
+    total_bounded job bad None (length before) t after narrow p (place_best (labeling_of job bad) place (held after) f.1).counts.layout f.2
+place_bounded job bad narrow numbers place before (Ok None) after f = tt
+place_bounded job bad narrow numbers place before (Err r) after f = tt
 
 -- A layout has an entry at least: a page that is in memory has no more layouts than entries.
 pub page_counted : (job : Job) (bad : Badness) (work : Work) (given before : List ℕ) (a : Counted) (after : List ℕ) → length before < 2 ^ 63
     → PageAnswers job bad work given before a after → BoundedCount a
-page_counted job bad work given before (Many k) after h n =
+page_counted job bad work given before (Ok k) after h n =
     let some = (measure_facts job bad work given (next_measured job bad work given n.0)).0.some in
     omega (arith, n.1.fit, mul-le-mul_left {m = 1} {n = (board_of job).pads} k some)
-page_counted job bad work given before (NotCounted r) after h n = tt
+page_counted job bad work given before (Err r) after h n = tt
 
 -- A count that is not refused by 16 is at most 1,000,000,000,000,000,000.
 pub count_bounded : (job : Job) (bad : Badness) (numbers : ℕ) (a : Counted) → CountAnswers job bad numbers a → BoundedCount a
-count_bounded job bad numbers (Many k) (p, is) = omega (arith, count_few (calls_of job bad Unlent) numbers k p is)
-count_bounded job bad numbers (NotCounted r) c = tt
+count_bounded job bad numbers (Ok k) (p, is) = omega (arith, count_few (calls_of job bad None) numbers k p is)
+count_bounded job bad numbers (Err r) c = tt
 
 -- A text has at most 76 bytes for each record, and 4,864.
-pub svg_bound : (job list before : List ℕ) (k : ℕ) (after : List ℕ) → SvgAnswers job list before (Many k) after → (k ≤ 76 * count job) × (k ≤ 4864)
+pub svg_bound : (job list before : List ℕ) (k : ℕ) (after : List ℕ) → SvgAnswers job list before (Ok k) after → (k ≤ 76 * count job) × (k ≤ 4864)
 svg_bound job list before k after a =
     let is = (svg_text job list before k after a).0 in
     let p = (svg_measured job list (length before) a.0).0 in
     (omega (arith, is, text_short job list p), omega (arith, is, text_bound job list p))
 
 pub svg_bounded : (job list before : List ℕ) (a : Counted) (after : List ℕ) → SvgAnswers job list before a after → BoundedCount a
-svg_bounded job list before (Many k) after a = omega (arith, (svg_bound job list before k after a).1)
-svg_bounded job list before (NotCounted r) after a = tt
+svg_bounded job list before (Ok k) after a = omega (arith, (svg_bound job list before k after a).1)
+svg_bounded job list before (Err r) after a = tt
 
 -- A list has at most 64 pads.
-pub csv_bound : (text before : List ℕ) (k : ℕ) (after : List ℕ) → CsvAnswers text before (Many k) after → (1 ≤ k) × (k ≤ 64)
+pub csv_bound : (text before : List ℕ) (k : ℕ) (after : List ℕ) → CsvAnswers text before (Ok k) after → (1 ≤ k) × (k ≤ 64)
 csv_bound text before k after a = let (pads, _, valid, is, _) = csv_answered text before k after a in (omega (arith, valid.some), omega (arith, valid.few))
 
 pub csv_bounded : (text before : List ℕ) (a : Counted) (after : List ℕ) → CsvAnswers text before a after → BoundedCount a
-csv_bounded text before (Many k) after a = omega (arith, (csv_bound text before k after a).1)
-csv_bounded text before (NotCounted r) after a = tt
+csv_bounded text before (Ok k) after a = omega (arith, (csv_bound text before k after a).1)
+csv_bounded text before (Err r) after a = tt

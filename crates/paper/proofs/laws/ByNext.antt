@@ -2,11 +2,9 @@
 -- page loses no layout and meets none twice. Place k is what First and then k calls of Next give, and the count is how many layouts a run has. It is shown of the
 -- promises, so of every program that keeps to them.
 --     page_by_next, paged_on;  place_by_next, run_place, run_count
-use Rattle.std.specs.Prelude.{◌≡◌, refl, ◌⊎◌, ◌↔◌, List, [], ◌∷◌, ℕ, zero, suc, ◌+◌, ◌*◌, ◌-◌, ◌≤◌, ◌<◌, length, get_or, ℤ, pos, negsuc}
+use Rattle.std.specs.Prelude.{◌≡◌, refl, ◌⊎◌, ◌↔◌, List, [], ◌∷◌, ℕ, zero, suc, ◌+◌, ◌*◌, ◌-◌, ◌≤◌, ◌<◌, length, get_or, ℤ, pos, negsuc, Some, None, Ok, Err}
 use Rattle.std.proofs.Common.{sym, ap, ◌∙◌, inl, inr, arith}
 use Rattle.numbers.proofs.Whole.{whole, neg_nums}
-use Rattle.paper.specs.declared.Answer.TheVariants.{Total, End, Refused}
-use Rattle.paper.specs.declared.Counted.TheVariants.{Many, Refused as NotCounted}
 use Rattle.paper.specs.Layouts.{Board, held, Same}
 use Rattle.paper.specs.Problem.{Best, LastBest, PlaceBest, CountBest}
 use Rattle.paper.specs.Refusals.{Passed, Calls, entries, place_trials}
@@ -51,7 +49,7 @@ module _ (c : Calls) (R : Regular c) where
       (R.next_is other).1 (R.other_room (length list) (length other) ((R.next_is list).0 p).0 l, best)
 
   -- So is what Next leaves of an accepted list,
-  accepts_next : (list l : List ℕ) (t : ℕ) → NextOver c list (Total t) l → Accepts l
+  accepts_next : (list l : List ℕ) (t : ℕ) → NextOver c list (Ok (Some t)) l → Accepts l
   accepts_next list l t n =
       accepts_too list l n.0 (omega (arith, n.3.long, room list n.0)) n.1.best
 
@@ -73,13 +71,13 @@ module _ (c : Calls) (R : Regular c) where
       let l = listed (entries c) (f 1) list (room list p) in
       let m = l.0 in
       let next = next_same c.problem (steady list p) (f 0) (held list) (f 1) (held m) (λ i h. sym (same i h)) (λ i h. sym (l.1 i h)) (follow 0 (omega arith)) in
-      let n : NextOver c list (Total (c.problem.value (held m))) m = (p, next, refl, l.2) in
+      let n : NextOver c list (Ok (Some (c.problem.value (held m)))) m = (p, next, refl, l.2) in
       let r = asks k m (λ j. f (suc j)) (accepts_next list m (c.problem.value (held m)) n) l.1 (λ j h. follow (suc j) (omega arith)) in
-      (m ∷ r.0, (c.problem.value (held m), (Total (c.problem.value (held m)), n, refl), r.1), ap suc r.2)
+      (m ∷ r.0, (c.problem.value (held m), (Ok (Some (c.problem.value (held m))), n, refl), r.1), ap suc r.2)
 
   -- The end, and a run that comes to it.
   ends : (list : List ℕ) → Accepts list → LastBest c.problem (held list) → NextReplies c list (negsuc 0) list
-  ends list p last = (End, (p, last, refl), refl)
+  ends list p last = (Ok None, (p, last, refl), refl)
 
   to_run : (list : List ℕ) (ls : List (List ℕ)) → NextSoFar c list ls → NextReplies c (final list ls) (negsuc 0) (final list ls)
       → NextRun c list ls
@@ -121,15 +119,15 @@ module _ (c : Calls) (R : Regular c) where
     -- and they come to it.
     place_asked : Passed (c.first (length before)) → (k t : ℕ) (l : List ℕ) → PlaceBest c.problem k (held l) → t ≡ c.problem.value (held l) → Kept (entries c) before l
         → AskedTo c before k (pos t) l
-    place_asked p zero t l s e kept = (Total t, (p, s, e, kept), refl)
+    place_asked p zero t l s e kept = (Ok (Some t), (p, s, e, kept), refl)
     place_asked p (suc k) t l (f, s, u) e kept =
         let g = listed (entries c) f before (R.room (length before) p) in
         let m = g.0 in
         let same : Same b f (held m) = λ i h. sym (g.1 i h) in
         let at = place_same c.problem (R.searchable (length before) p).steady k f (held m) same s in
         let accepts = (R.next_is m).1 (rw g.2.long p, place_best c.problem k (held m) at) in
-        let n : NextOver c m (Total t) l = (accepts, next_of_same c.problem f (held m) (held l) same u, e, kept_both (entries c) before m l g.2 kept) in
-        (c.problem.value (held m), m, place_asked p k (c.problem.value (held m)) m at refl g.2, (Total t, n, refl))
+        let n : NextOver c m (Ok (Some t)) l = (accepts, next_of_same c.problem f (held m) (held l) same u, e, kept_both (entries c) before m l g.2 kept) in
+        (c.problem.value (held m), m, place_asked p k (c.problem.value (held m)) m at refl g.2, (Ok (Some t), n, refl))
 
     -- THEOREM. Place answers just what First and then that many calls of Next answer, and leaves what they leave.
     pub place_by_next : (numbers place t : ℕ) (after : List ℕ) → PlaceReplies c numbers place before (pos t) after
@@ -138,7 +136,7 @@ module _ (c : Calls) (R : Regular c) where
       (λ P.
           let q = place-told c R.numbered numbers place before after t P in
           (q.0, place_asked (append_passed (c.first (length before)) _ q.0).0 place t after q.1 q.2 q.3)),
-      (λ (p, a). let s = asked_place place t after a in (Total t, (p, s.0, s.1, s.2), refl)),
+      (λ (p, a). let s = asked_place place t after a in (Ok (Some t), (p, s.0, s.1, s.2), refl)),
     )
 
   -- ---- a page
@@ -151,8 +149,8 @@ module _ (c : Calls) (R : Regular c) where
     not_refused p = go (next_made c R given p)
       where
         go : Steps c R given → NotRefused c given
-        go (inl (t, l, n)) = inl (t, l, (Total t, n, refl))
-        go (inr n) = inr (End, n, refl)
+        go (inl (t, l, n)) = inl (t, l, (Ok (Some t), n, refl))
+        go (inr n) = inr (Ok None, n, refl)
 
     accepts_given : NotRefused c given → Accepts given
     accepts_given (inl (t, l, n)) = (next_total-told c R.numbered given l t n).0
@@ -203,17 +201,17 @@ module _ (c : Calls) (R : Regular c) where
             inr (last_of_same c.problem (held l) (turn after k) (same k (omega arith)) (end_told c R.numbered l l e).1)
 
     to_next : (m : ℤ) (after : List ℕ) → PageReplies c given before m after → PageByNext c given before m after
-    to_next m after (Many k, (p, F), e) =
+    to_next m after (Ok k, (p, F), e) =
         let r = asks k given (turn after) p (λ i h. refl) F.follow in
         inl (k, e, page_lists k after r.0 p F r.1 r.2)
-    to_next m after (NotCounted r, (q, same), e) =
-        inr (rw e (refusal_low r (R.numbered.next given r q)), (Refused r, (q, refl), e), same)
+    to_next m after (Err r, (q, same), e) =
+        inr (rw e (refusal_low r (R.numbered.next given r q)), (Err r, (q, refl), e), same)
 
     from_next : (m : ℤ) (after : List ℕ) → PageByNext c given before m after → PageReplies c given before m after
-    from_next m after (inl (k, e, B)) = (Many k, (accepts_given B.accepted, lists_page k after B), e)
-    from_next m after (inr (low, (Total t, n, e), same)) = absurd (omega (whole, neg_nums (pos 65536), low, e))
-    from_next m after (inr (low, (End, n, e), same)) = absurd (omega (whole, neg_nums (pos 65536), low, e))
-    from_next m after (inr (low, (Refused r, n, e), same)) = (NotCounted r, (n.0, same), e)
+    from_next m after (inl (k, e, B)) = (Ok k, (accepts_given B.accepted, lists_page k after B), e)
+    from_next m after (inr (low, (Ok (Some t), n, e), same)) = absurd (omega (whole, neg_nums (pos 65536), low, e))
+    from_next m after (inr (low, (Ok None, n, e), same)) = absurd (omega (whole, neg_nums (pos 65536), low, e))
+    from_next m after (inr (low, (Err r, n, e), same)) = (Err r, (n.0, same), e)
 
     -- THEOREM. What Page replies is what that many calls of Next give, or Next's refusal.
     pub page_by_next : (m : ℤ) (after : List ℕ) → PageReplies c given before m after ↔ PageByNext c given before m after

@@ -1,12 +1,11 @@
 -- TRIALS ARE DECIDED: each call's trials are passed, or one of them refuses. By tests that are computed.
 --     measure_decided, draw_decided;  decided_append;  tests_decide: of any trials whose tests say what they say;  tests_pass, tests_refuse: computed
-use Rattle.std.specs.Prelude.{◌≡◌, refl, ◌≢◌, ◌⊎◌, ◌↔◌, Bool, true, false, not, ◌&&◌, ◌||◌, List, [], ◌∷◌, ◌++◌, ℕ, zero, suc, ◌*◌, ◌≤◌, ◌<◌, T, eqb, ltb, length}
+use Rattle.std.specs.Prelude.{◌≡◌, refl, ◌≢◌, ◌⊎◌, ◌↔◌, Bool, true, false, not, ◌&&◌, ◌||◌, List, [], ◌∷◌, ◌++◌, ℕ, zero, suc, ◌*◌, ◌≤◌, ◌<◌, T, eqb, ltb, length, Some, None}
 use Rattle.std.proofs.Common.{inl, inr, ⊎_elim, le_of_suc-le-suc, not-suc-le-zero, eq-or-lt_of_le, arith, eqb→eq, ltb→lt}
 use Rattle.numbers.proofs.Tests.{both, either, dec_iff, not_iff, ltb_iff, eqb_iff}
 use Rattle.paper.specs.declared.Refusal.{Refusal}
 use Rattle.paper.specs.declared.Form.TheVariants.{Records, Slots}
-use Rattle.paper.specs.declared.Work.{Work}
-use Rattle.paper.specs.declared.Work.TheVariants.{Unlent, Lent}
+use Rattle.paper.specs.Answers.{Work}
 use Rattle.paper.specs.Job.{Job, records, slots, form_of, pads_of, ports_of, count, port_count, port_of}
 use Rattle.paper.specs.Layouts.{Board, board_of, held, Touching, Badness, by_weights, by_table}
 use Rattle.paper.specs.Refusals.{Trial, Smallest, Clean, FirstFault, Passed, RefusedBy, of_each, of_whole, of_pairs}
@@ -173,8 +172,8 @@ enough_tests_lem (slots pads ports) =
     (whole_test 14 (port_count Slots ports < count pads) (ltb (port_count Slots ports) (count pads)) (ltb_iff (port_count Slots ports) (count pads)), λ _. tt)
 
 work_tests_lem : (b : Board) (work : Work) → TestsOf (work_tests b.pads b.ports work) (work_trials b work)
-work_tests_lem b Unlent = tt
-work_tests_lem b (Lent k) =
+work_tests_lem b None = tt
+work_tests_lem b (Some k) =
     let needed = work_needed b.pads b.ports in
     (whole_test 24 (k < needed) (ltb k needed) (ltb_iff k needed), λ _. tt)
 

@@ -1,11 +1,10 @@
 -- DEMAND 3, of all calls that are regular: First and then Next until the end gives every best layout, each exactly once, in order, and no other. It is shown
 -- of the promises, so of every program that keeps to them.
 --     demand_3 : for every list that First accepts;  next_ends : whoever asks on from any list that Next accepts comes to the end
-use Rattle.std.specs.Prelude.{◌≡◌, refl, ◌⊎◌, List, [], ◌∷◌, ◌++◌, ℕ, zero, suc, ◌<◌, length, get_or, pos, negsuc}
+use Rattle.std.specs.Prelude.{◌≡◌, refl, ◌⊎◌, List, [], ◌∷◌, ◌++◌, ℕ, zero, suc, ◌<◌, length, get_or, pos, negsuc, Some, None, Ok}
 use Rattle.std.proofs.Common.{inl, inr, arith}
 use Rattle.std.proofs.Math.Decide.{dec_lt}
 use Rattle.numbers.proofs.Whole.{whole, eq_num}
-use Rattle.paper.specs.declared.Answer.TheVariants.{Total, End}
 use Rattle.paper.specs.Layouts.{Board, held, Same}
 use Rattle.paper.specs.Problem.{Best, Before, FirstBest, NextBest}
 use Rattle.paper.specs.Refusals.{Passed, Calls, entries}
@@ -114,11 +113,11 @@ module _ (c : Calls) (R : Regular c) (lent : List ℕ) (accepted : Passed (c.fir
     where
       go : (l : List ℕ) → Good l → ((y : (m : List ℕ) × Good m) → Before b (held l) (held y.0) → (ls : List (List ℕ)) × NextRun c y.0 ls)
           → Steps c R l → (ls : List (List ℕ)) × NextRun c l ls
-      go l g rest (inr n) = ([], (End, n, refl))
+      go l g rest (inr n) = ([], (Ok None, n, refl))
       go l g rest (inl (t, m, n)) =
-          let s = next_is l m t g (Total t, n, refl) in
+          let s = next_is l m t g (Ok (Some t), n, refl) in
           let r = rest (m, s.1) s.0.later in
-          (m ∷ r.0, (t, (Total t, n, refl), r.1))
+          (m ∷ r.0, (t, (Ok (Some t), n, refl), r.1))
 
   goes_on : (l : List ℕ) (ls : List (List ℕ)) → Good l → NextSoFar c l ls → (ms : List (List ℕ)) × NextRun c l (ls ++ ms)
   goes_on l [] g s = asks_on l g
@@ -128,7 +127,7 @@ module _ (c : Calls) (R : Regular c) (lent : List ℕ) (accepted : Passed (c.fir
   run_on [] s =
       let (t, l, f) = first_made c R lent accepted in
       let r = asks_on l (f.3, f.1.best) in
-      (l ∷ r.0, (t, (Total t, f, refl), r.1))
+      (l ∷ r.0, (t, (Ok (Some t), f, refl), r.1))
   run_on (l ∷ ls) (t, f, s) = let r = goes_on l ls (first_is l t f).1 s in (r.0, (t, f, r.1))
 
   -- ---- the theorem

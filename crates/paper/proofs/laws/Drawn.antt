@@ -1,6 +1,6 @@
 -- What is drawn of a leader: `leader_drawn` satisfies the paper's words, and nothing else does.
 --     drawn_is;  straight_one, bent_one;  draw_answers: what Draw then answers;  bent_sheet, straight_sheet: J5's
-use Rattle.std.specs.Prelude.{◌≡◌, refl, Bool, true, false, List, ℕ, ◌+◌, ◌-◌, ◌^◌, ◌≤◌, ◌<◌, length, get_or, drop, pos, negsuc, neg_ℤ, nat_abs, ℤ, Float}
+use Rattle.std.specs.Prelude.{◌≡◌, refl, Bool, true, false, List, ℕ, ◌+◌, ◌-◌, ◌^◌, ◌≤◌, ◌<◌, length, get_or, drop, pos, negsuc, neg_ℤ, nat_abs, ℤ, Float, Ok, Err}
 use Rattle.std.proofs.Common.{sym, ◌∙◌, zero-le, le_trans, le_of_eq, lt_of_le_of_lt, arith, eq-eqb, ne_eqb, lit<, get_or-append-add, get_or-drop}
 use Rattle.std.proofs.Math.Path.{ap}
 use Rattle.std.proofs.Math.Bool.{cond}
@@ -9,11 +9,9 @@ use Rattle.std.proofs.Math.IntN.{ℤ_discrete}
 use Rattle.std.specs.Float.{fin}
 use Rattle.std.specs.Float.Ieee.{round}
 use Rattle.numbers.proofs.Signs.{nat_abs_neg, apart_zero, zero_apart}
+use Rattle.paper.specs.declared.Polyline.TheVariants.{Straight, Bent}
 use Rattle.paper.specs.declared.Point.{Point}
-use Rattle.paper.specs.declared.Two.{Two}
-use Rattle.paper.specs.declared.Three.{Three}
-use Rattle.paper.specs.declared.Drawn.{Drawn}
-use Rattle.paper.specs.declared.Drawn.TheVariants.{Straight, Bent, Refused as NotDrawn}
+use Rattle.paper.specs.Answers.{Drawn}
 use Rattle.paper.specs.Job.{records, x_of, y_of, port_of, twos}
 use Rattle.paper.specs.Leaders.{Leader, distance}
 use Rattle.paper.specs.Layouts.{board_of, leader}
@@ -35,13 +33,13 @@ module _ {A : Type 0} (l : Leader) (straight bent : A) where
   unfolding by_bend
   by_bend_lem n = ap (λ (b : Bool). cond b straight bent) (ne_eqb (distance l.y l.port) 0 (λ e. n (apart_zero l.y l.port e)))
 
-pub level_drawn : (l : Leader) → l.y ≡ l.port → leader_drawn l ≡ Straight (two_of l)
+pub level_drawn : (l : Leader) → l.y ≡ l.port → leader_drawn l ≡ Ok (two_of l)
 unfolding leader_drawn
-level_drawn l = by_level l (Straight (two_of l)) (Bent (three_of l))
+level_drawn l = by_level l (Ok (two_of l)) (Ok (three_of l))
 
-pub bend_drawn : (l : Leader) → (l.y ≡ l.port → ⊥) → leader_drawn l ≡ Bent (three_of l)
+pub bend_drawn : (l : Leader) → (l.y ≡ l.port → ⊥) → leader_drawn l ≡ Ok (three_of l)
 unfolding leader_drawn
-bend_drawn l = by_bend_lem l (Straight (two_of l)) (Bent (three_of l))
+bend_drawn l = by_bend_lem l (Ok (two_of l)) (Ok (three_of l))
 
 -- ---- the paper's words
 
@@ -76,18 +74,18 @@ point_one x y p q =
     λ i. record { x = across i; y = down i }
 
 -- Two that draw a leader straight are one, and so are two that draw it bent.
-pub straight_one : (l : Leader) {d e : Two} → DrawnStraight l d → DrawnStraight l e → d ≡ e
+pub straight_one : (l : Leader) {a c d f : Point} → DrawnStraight l a c → DrawnStraight l d f → ◌≡◌ {A = Drawn} (Ok (Straight a c)) (Ok (Straight d f))
 straight_one l p q =
     let pad = point_one l.x l.y p.pad q.pad in
     let port = point_one 0 l.port p.port q.port in
-    λ i. record { pad = pad i; port = port i }
+    λ i. Ok (Straight (pad i) (port i))
 
-pub bent_one : (l : Leader) {d e : Three} → DrawnBent l d → DrawnBent l e → d ≡ e
+pub bent_one : (l : Leader) {a b c d e f : Point} → DrawnBent l a b c → DrawnBent l d e f → ◌≡◌ {A = Drawn} (Ok (Bent a b c)) (Ok (Bent d e f))
 bent_one l p q =
     let pad = point_one l.x l.y p.pad q.pad in
     let bend = point_one l.x l.port p.bend q.bend in
     let port = point_one 0 l.port p.port q.port in
-    λ i. record { pad = pad i; bend = bend i; port = port i }
+    λ i. Ok (Bent (pad i) (bend i) (port i))
 
 -- ---- the call Draw
 
@@ -110,16 +108,16 @@ overwritten_is cs before k d = (get_or-append cs (drop (length cs) before) d k, 
 
 -- A drawn leader has at most six coordinates.
 pub coordinates_few : (d : Drawn) → length (coordinates d) ≤ 6
-coordinates_few (Straight d) = omega arith
-coordinates_few (Bent d) = omega arith
-coordinates_few (NotDrawn r) = omega arith
+coordinates_few (Ok (Straight p q)) = omega arith
+coordinates_few (Ok (Bent p m q)) = omega arith
+coordinates_few (Err r) = omega arith
 
 -- What draws the leader is Draw's answer, with its coordinates in the lent list.
 pub draw_answers : (job : List ℕ) (i q : ℕ) (before : List Float) (d : Drawn) → Passed (draw_trials job i q (length before))
     → Draws (leader (board_of (records job)) i q) d → DrawAnswers job i q before d (overwritten (coordinates d) before)
-draw_answers job i q before (Straight d) p w = (p, w, refl)
-draw_answers job i q before (Bent d) p w = (p, w, refl)
-draw_answers job i q before (NotDrawn _) p w = elim w [ ]
+draw_answers job i q before (Ok (Straight a c)) p w = (p, w, refl)
+draw_answers job i q before (Ok (Bent a b c)) p w = (p, w, refl)
+draw_answers job i q before (Err _) p w = elim w [ ]
 
 -- ---- the paper's two sheets
 
@@ -135,12 +133,12 @@ halves s n = fin s n (negsuc 0)
 
 -- J5, record 2 to port 0: (7.5, -7.5), (7.5, 0), (0, 0)
 pub bent_sheet : leader_drawn (leader (board_of (records J5)) 2 0)
-    ≡ Bent (record { pad = at (halves false 15) (halves true 15); bend = at (halves false 15) nought; port = at nought nought })
+    ≡ Ok (Bent (at (halves false 15) (halves true 15)) (at (halves false 15) nought) (at nought nought))
 unfolding leader_drawn by_bend canvas quarter round x_of y_of port_of twos
 bent_sheet = refl
 
 -- J5, record 0 to port 1: (2.5, -2.5), (0, -2.5)
 pub straight_sheet : leader_drawn (leader (board_of (records J5)) 0 1)
-    ≡ Straight (record { pad = at (halves false 5) (halves true 5); port = at nought (halves true 5) })
+    ≡ Ok (Straight (at (halves false 5) (halves true 5)) (at nought (halves true 5)))
 unfolding leader_drawn by_bend canvas quarter round x_of y_of port_of twos
 straight_sheet = refl

@@ -1,11 +1,8 @@
 -- EACH PROMISE CAN BE MET. For every input there is a reply that the promise allows: of all calls that are regular, of Svg, of ReadCsv and of Draw.
 --     first_met, next_met, page_met, measure_met, count_met, place_met, svg_met, csv_met, draw_met: for every input
 --     first_made, next_made, place_made: a total, or the end, where it is accepted
-use Rattle.std.specs.Prelude.{refl, ◌⊎◌, List, ℕ, ◌≤◌, length, ℤ, Float}
+use Rattle.std.specs.Prelude.{refl, ◌⊎◌, List, ℕ, ◌≤◌, length, ℤ, Float, Some, None, Ok, Err}
 use Rattle.std.proofs.Common.{sym, inl, inr, lt_of_not-le, arith}
-use Rattle.paper.specs.declared.Answer.TheVariants.{Total, End, Refused}
-use Rattle.paper.specs.declared.Counted.TheVariants.{Many, Refused as NotCounted}
-use Rattle.paper.specs.declared.Drawn.TheVariants.{Refused as NotDrawn}
 use Rattle.paper.specs.Job.{records}
 use Rattle.paper.specs.Layouts.{board_of, held, leader, Same}
 use Rattle.paper.specs.Problem.{Best, FirstBest, NextBest, LastBest, PlaceBest}
@@ -31,14 +28,14 @@ use Rattle.paper.proofs.laws.Drawn.{drawn_is, passed_on_sheet, draw_answers}
 
 -- Where trials are passed that leave room, and At says of some layout that it is the one, a total is answered with it.
 layout_made : (c : Calls) (ts : List Trial) (At : (ℕ → ℕ) → Type 0) → ((f g : ℕ → ℕ) → Same c.problem.board f g → At f → At g) → (before : List ℕ)
-    → Passed ts → entries c ≤ length before → (f : ℕ → ℕ) → At f → (t : ℕ) × (after : List ℕ) × LayoutOver c ts At before (Total t) after
+    → Passed ts → entries c ≤ length before → (f : ℕ → ℕ) → At f → (t : ℕ) × (after : List ℕ) × LayoutOver c ts At before (Ok (Some t)) after
 layout_made c ts At same before p room f at =
     let l = listed (entries c) f before room in
     (c.problem.value (held l.0), l.0, (p, same f (held l.0) (λ i h. sym (l.1 i h)) at, refl, l.2))
 
 module _ (c : Calls) (R : Regular c) (before : List ℕ) where
   -- First answers a total for all that it accepts.
-  pub first_made : Passed (c.first (length before)) → (t : ℕ) × (after : List ℕ) × FirstOver c before (Total t) after
+  pub first_made : Passed (c.first (length before)) → (t : ℕ) × (after : List ℕ) × FirstOver c before (Ok (Some t)) after
   first_made p =
       let S = R.searchable (length before) p in
       let u = R.exists (length before) p in
@@ -49,12 +46,12 @@ module _ (c : Calls) (R : Regular c) (before : List ℕ) where
   first_met = go (R.first_decided (length before))
     where
       go : Decided (c.first (length before)) → (m : ℤ) × (after : List ℕ) × FirstReplies c before m after
-      go (inl p) = let m = first_made p in (number (Total m.0), m.1, (Total m.0, m.2, refl))
-      go (inr (r, a)) = (number (Refused r), before, (Refused r, (a, refl), refl))
+      go (inl p) = let m = first_made p in (number (Ok (Some m.0)), m.1, (Ok (Some m.0), m.2, refl))
+      go (inr (r, a)) = (number (Err r), before, (Err r, (a, refl), refl))
 
   -- So does Next, or it answers the end.
   abbrev pub Steps : Type 0
-  Steps = ((t : ℕ) × (after : List ℕ) × NextOver c before (Total t) after) ⊎ NextOver c before End before
+  Steps = ((t : ℕ) × (after : List ℕ) × NextOver c before (Ok (Some t)) after) ⊎ NextOver c before (Ok None) before
 
   pub next_made : Passed (c.next before) → Steps
   next_made p = go (next_or_last c.problem (R.searchable (length before) is.0) (held before) is.1)
@@ -74,19 +71,19 @@ module _ (c : Calls) (R : Regular c) (before : List ℕ) where
   next_met = go (R.next_decided before)
     where
       made : Steps → (m : ℤ) × (after : List ℕ) × NextReplies c before m after
-      made (inl (t, l, n)) = (number (Total t), l, (Total t, n, refl))
-      made (inr n) = (number End, before, (End, n, refl))
+      made (inl (t, l, n)) = (number (Ok (Some t)), l, (Ok (Some t), n, refl))
+      made (inr n) = (number (Ok None), before, (Ok None, n, refl))
 
       go : Decided (c.next before) → (m : ℤ) × (after : List ℕ) × NextReplies c before m after
       go (inl p) = made (next_made p)
-      go (inr (r, a)) = (number (Refused r), before, (Refused r, (a, refl), refl))
+      go (inr (r, a)) = (number (Err r), before, (Err r, (a, refl), refl))
 
   pub measure_met : (m : ℤ) × MeasureReplies c before m
   measure_met = go (R.measure_decided before)
     where
       go : Decided (c.measure before) → (m : ℤ) × MeasureReplies c before m
-      go (inl p) = let t = c.problem.value (held before) in (number (Total t), (Total t, (p, refl), refl))
-      go (inr (r, a)) = (number (Refused r), (Refused r, a, refl))
+      go (inl p) = let t = c.problem.value (held before) in (number (Ok (Some t)), (Ok (Some t), (p, refl), refl))
+      go (inr (r, a)) = (number (Err r), (Err r, a, refl))
 
 module _ (c : Calls) (R : Regular c) (given before : List ℕ) where
   pub page_met : (m : ℤ) × (after : List ℕ) × PageReplies c given before m after
@@ -96,8 +93,8 @@ module _ (c : Calls) (R : Regular c) (given before : List ℕ) where
       go (inl p) =
           let (q, best) = (R.next_is given).0 p in
           let f = page_filled c.problem given before (R.searchable (length given) q) (R.some (length given) q) best in
-          (counted_number (Many f.0), f.1, (Many f.0, (p, f.2), refl))
-      go (inr (r, a)) = (counted_number (NotCounted r), before, (NotCounted r, (a, refl), refl))
+          (counted_number (Ok f.0), f.1, (Ok f.0, (p, f.2), refl))
+      go (inr (r, a)) = (counted_number (Err r), before, (Err r, (a, refl), refl))
 
 module _ (c : Calls) (R : Regular c) (numbers : ℕ) where
   pub count_met : (m : ℤ) × CountReplies c numbers m
@@ -106,12 +103,12 @@ module _ (c : Calls) (R : Regular c) (numbers : ℕ) where
       go : Decided (count_trials c numbers) → (m : ℤ) × CountReplies c numbers m
       go (inl p) =
           let (k, is) = count_exists c R (entries c) (append_passed (c.first (entries c)) (number_trials c.problem numbers) p).0 in
-          (counted_number (Many k), (Many k, (p, is), refl))
-      go (inr (r, a)) = (counted_number (NotCounted r), (NotCounted r, a, refl))
+          (counted_number (Ok k), (Ok k, (p, is), refl))
+      go (inr (r, a)) = (counted_number (Err r), (Err r, a, refl))
 
   module _ (place : ℕ) (before : List ℕ) where
     -- Place answers a total for all that it accepts: the place is below the count, so it is taken.
-    pub place_made : Passed (place_trials c numbers place (length before)) → (t : ℕ) × (after : List ℕ) × PlaceOver c numbers place before (Total t) after
+    pub place_made : Passed (place_trials c numbers place (length before)) → (t : ℕ) × (after : List ℕ) × PlaceOver c numbers place before (Ok (Some t)) after
     place_made p =
         let (first, rest) = append_passed (c.first (length before)) (later_trials c.problem numbers place) p in
         let (k, is) = count_exists c R (length before) first in
@@ -124,16 +121,16 @@ module _ (c : Calls) (R : Regular c) (numbers : ℕ) where
     place_met = go (place_decided c R numbers place (length before))
       where
         go : Decided (place_trials c numbers place (length before)) → (m : ℤ) × (after : List ℕ) × PlaceReplies c numbers place before m after
-        go (inl p) = let m = place_made p in (number (Total m.0), m.1, (Total m.0, m.2, refl))
-        go (inr (r, a)) = (number (Refused r), before, (Refused r, (a, refl), refl))
+        go (inl p) = let m = place_made p in (number (Ok (Some m.0)), m.1, (Ok (Some m.0), m.2, refl))
+        go (inr (r, a)) = (number (Err r), before, (Err r, (a, refl), refl))
 
 -- Where trials are decided, and something fills the first bytes if they are passed.
 pub fill_met : (ts : List Trial) (Is : List ℕ → ℕ → Type 0) (before : List ℕ) → Decided ts → (Passed ts → (s : List ℕ) × (k : ℕ) × Is s k)
     → (m : ℤ) × (after : List ℕ) × FillReplies ts Is before m after
 fill_met ts Is before (inl p) made =
     let (s, k, is) = made p in
-    (counted_number (Many k), overwritten s before, (Many k, (p, (s, is, refl)), refl))
-fill_met ts Is before (inr (r, a)) made = (counted_number (NotCounted r), before, (NotCounted r, (a, refl), refl))
+    (counted_number (Ok k), overwritten s before, (Ok k, (p, (s, is, refl)), refl))
+fill_met ts Is before (inr (r, a)) made = (counted_number (Err r), before, (Err r, (a, refl), refl))
 
 pub svg_met : (job list before : List ℕ) → (m : ℤ) × (after : List ℕ) × SvgPromise job list before m after
 svg_met job list before =
@@ -153,4 +150,4 @@ module _ (job : List ℕ) (i q : ℕ) (before : List Float) where
           let d = leader_drawn (leader (board_of (records job)) i q) in
           let is = drawn_is (leader (board_of (records job)) i q) (passed_on_sheet job i q (length before) p) in
           (drawn_number d, overwritten (coordinates d) before, (d, draw_answers job i q before d p is, refl))
-      go (inr (r, a)) = (drawn_number (NotDrawn r), before, (NotDrawn r, (a, refl), refl))
+      go (inr (r, a)) = (drawn_number (Err r), before, (Err r, (a, refl), refl))

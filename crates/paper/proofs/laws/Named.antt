@@ -5,12 +5,11 @@
 --     count_none, count_too_short, count_too_many, place_none, place_too_short, place_too_many, place_past_count: so as C's numbers
 --     svg_named, svg_free: never 2;  svg_19, svg_too_long: when 19 is given;  svg_none
 --     count-free: neither 3 nor 17;  count_kept, place_kept: neither 16 nor 17
-use Rattle.std.specs.Prelude.{◌≡◌, refl, ◌≢◌, ◌⊎◌, ◌↔◌, List, [], ◌∷◌, ◌++◌, ℕ, ◌≤◌, ◌<◌, length, ℤ}
+use Rattle.std.specs.Prelude.{◌≡◌, refl, ◌≢◌, ◌⊎◌, ◌↔◌, List, [], ◌∷◌, ◌++◌, ℕ, ◌≤◌, ◌<◌, length, ℤ, Some, None}
 use Rattle.std.proofs.Common.{sym, subst, inl, inr, ⊎_elim, arith}
 use Rattle.std.proofs.Math.Logic.Iff
 use Rattle.paper.specs.declared.Refusal.{Refusal}
-use Rattle.paper.specs.declared.Work.{Work}
-use Rattle.paper.specs.declared.Work.TheVariants.{Unlent, Lent}
+use Rattle.paper.specs.Answers.{Work}
 use Rattle.paper.specs.Job.{Job, records, slots}
 use Rattle.paper.specs.Layouts.{Board, board_of, held, Touching, Badness, by_weights, by_table}
 use Rattle.paper.specs.Problem.{Problem, labeling_of}
@@ -72,8 +71,8 @@ module _ (P : Refusal → Type 0) (says : (r : Refusal) → Alone r → Checked 
   of_enough (slots pads ports) = (one 14 _ _ (omega arith), tt)
 
   of_work : (b : Board) (work : Work) → OfEach P (work_trials b work)
-  of_work b Unlent = tt
-  of_work b (Lent numbers) = (one 24 _ _ (omega arith), tt)
+  of_work b None = tt
+  of_work b (Some numbers) = (one 24 _ _ (omega arith), tt)
 
   of_field : (job : Job) → OfEach P (field_trials job)
   of_field (records bytes) = (one 4 _ _ (omega arith), tt)
@@ -216,7 +215,7 @@ module _ (job : Job) (bad : Badness) (work : Work) (before after : List ℕ) whe
 
 module _ (job : Job) (bad : Badness) (room numbers : ℕ) where
   abbrev first : List Trial
-  first = first_trials job bad Unlent room
+  first = first_trials job bad None room
 
   abbrev needed : ℕ
   needed = buffer_needed (board_of job).pads
@@ -239,12 +238,12 @@ module _ (job : Job) (bad : Badness) (room numbers : ℕ) where
   at_zero us later r =
       refused_is AtZero (first ++ counting us) r
       (each_append AtZero first (counting us)
-      (of_first_lem AtZero (λ r a n o. (a, λ b. absurd (n.2 b))) job bad Unlent room (whole_zero 3 _ (omega arith)) (whole_zero 15 _ (omega arith)))
+      (of_first_lem AtZero (λ r a n o. (a, λ b. absurd (n.2 b))) job bad None room (whole_zero 3 _ (omega arith)) (whole_zero 15 _ (omega arith)))
       (whole_zero 18 _ (omega arith), (whole_zero 16 _ (omega arith), later)))
 
   -- What First refuses is not refused by 16, 17 or 18.
   first_other : (r : Refusal) → RefusedBy first r → ¬ ByCount r
-  first_other r = refused_is (λ s. ¬ ByCount s) first r (of_first_lem (λ s. ¬ ByCount s) (λ s a n o. n.2) job bad Unlent room (λ i j a b. omega arith) (λ i j a b. omega arith))
+  first_other r = refused_is (λ s. ¬ ByCount s) first r (of_first_lem (λ s. ¬ ByCount s) (λ s a n o. n.2) job bad None room (λ i j a b. omega arith) (λ i j a b. omega arith))
 
   -- Where First's trials and 18 are not passed, 16 and 17 are not given.
   not_counted : (us : List Trial) (r : Refusal) → ¬ (Passed first × (needed ≤ numbers)) → RefusedBy (first ++ counting us) r → (r.reason ≢ 16) × (r.reason ≢ 17)
@@ -259,11 +258,11 @@ module _ (job : Job) (bad : Badness) (room numbers : ℕ) where
 
   -- 15 is given exactly as by First;
   by_none_still : (us : List Trial) → ¬ RefusedBy us (refusal 15 0 0) → RefusedBy (first ++ counting us) (refusal 15 0 0)
-      ↔ (Passed (sound_trials job bad Unlent room) × NoLayout p)
+      ↔ (Passed (sound_trials job bad None room) × NoLayout p)
   by_none_still us none =
       let other = not_whole 16 (TooMany p) us (refusal 15 0 0) (omega arith) none in
       Iff.trans (before_other first (counting us) (refusal 15 0 0) (not_whole 18 (numbers < needed) (of_whole 16 (TooMany p) ∷ us) (refusal 15 0 0) (omega arith) other))
-      (by_none job bad Unlent room)
+      (by_none job bad None room)
 
   -- 18 exactly if First's are passed and the buffer is too short;
   by_short : (us : List Trial) → ¬ RefusedBy us (refusal 18 0 0) → RefusedBy (first ++ counting us) (refusal 18 0 0) ↔ (Passed first × (numbers < needed))
@@ -299,7 +298,7 @@ module _ (job : Job) (bad : Badness) (room numbers : ℕ) where
 
 module _ (job : Job) (bad : Badness) (numbers : ℕ) where
   abbrev on : Calls
-  on = calls_of job bad Unlent
+  on = calls_of job bad None
 
   abbrev n : ℕ
   n = (board_of job).pads
@@ -315,38 +314,38 @@ module _ (job : Job) (bad : Badness) (numbers : ℕ) where
   pub count-free : (r : Refusal) → RefusedBy (count_trials on numbers) r → (r.reason ≢ 3) × (r.reason ≢ 17)
   count-free r =
       refused_is Free (count_trials on numbers) r
-      (each_append Free (first_trials job bad Unlent n) (number_trials problem numbers)
-      (of_first_lem Free (λ r a k o. (o, λ e. k.2 (omega arith))) job bad Unlent n (λ i j a. absurd (omega (arith, a.first.here))) (λ i j a. omega arith))
+      (each_append Free (first_trials job bad None n) (number_trials problem numbers)
+      (of_first_lem Free (λ r a k o. (o, λ e. k.2 (omega arith))) job bad None n (λ i j a. absurd (omega (arith, a.first.here))) (λ i j a. omega arith))
       ((λ i j a. omega arith), ((λ i j a. omega arith), tt)))
     where
       Free : Refusal → Type 0
       Free r = (r.reason ≢ 3) × (r.reason ≢ 17)
 
-  pub count_kept : (r : Refusal) → ¬ (Passed (first_trials job bad Unlent n) × (buffer_needed n ≤ numbers)) → RefusedBy (count_trials on numbers) r
+  pub count_kept : (r : Refusal) → ¬ (Passed (first_trials job bad None n) × (buffer_needed n ≤ numbers)) → RefusedBy (count_trials on numbers) r
       → (r.reason ≢ 16) × (r.reason ≢ 17)
   count_kept = not_counted job bad n numbers []
 
   -- Its numbers 15, 18 and 16.
-  pub count_15 : RefusedBy (count_trials on numbers) (refusal 15 0 0) ↔ (Passed (sound_trials job bad Unlent n) × NoLayout problem)
+  pub count_15 : RefusedBy (count_trials on numbers) (refusal 15 0 0) ↔ (Passed (sound_trials job bad None n) × NoLayout problem)
   count_15 = by_none_still job bad n numbers [] (λ a. a)
 
-  pub count_18 : RefusedBy (count_trials on numbers) (refusal 18 0 0) ↔ (Passed (first_trials job bad Unlent n) × (numbers < buffer_needed n))
+  pub count_18 : RefusedBy (count_trials on numbers) (refusal 18 0 0) ↔ (Passed (first_trials job bad None n) × (numbers < buffer_needed n))
   count_18 = by_short job bad n numbers [] (λ a. a)
 
-  pub count_16 : RefusedBy (count_trials on numbers) (refusal 16 0 0) ↔ (Passed (first_trials job bad Unlent n) × (buffer_needed n ≤ numbers) × TooMany problem)
+  pub count_16 : RefusedBy (count_trials on numbers) (refusal 16 0 0) ↔ (Passed (first_trials job bad None n) × (buffer_needed n ≤ numbers) × TooMany problem)
   count_16 = by_many job bad n numbers [] (λ a. a)
 
   module _ (m : ℤ) (c : CountReplies on numbers m) where
     count_is : (r : Refusal) → SmallRefusal r → (m ≡ refusal_number r) ↔ RefusedBy (count_trials on numbers) r
-    count_is r small = refuses_iff (count_trials on numbers) (Unit {0}) m r small (count-refuses on (numbered job bad Unlent) numbers m c)
+    count_is r small = refuses_iff (count_trials on numbers) (Unit {0}) m r small (count-refuses on (numbered job bad None) numbers m c)
 
-    pub count_none : (m ≡ refusal_number (refusal 15 0 0)) ↔ (Passed (sound_trials job bad Unlent n) × NoLayout problem)
+    pub count_none : (m ≡ refusal_number (refusal 15 0 0)) ↔ (Passed (sound_trials job bad None n) × NoLayout problem)
     count_none = Iff.trans (count_is (refusal 15 0 0) (omega arith)) count_15
 
-    pub count_too_short : (m ≡ refusal_number (refusal 18 0 0)) ↔ (Passed (first_trials job bad Unlent n) × (numbers < buffer_needed n))
+    pub count_too_short : (m ≡ refusal_number (refusal 18 0 0)) ↔ (Passed (first_trials job bad None n) × (numbers < buffer_needed n))
     count_too_short = Iff.trans (count_is (refusal 18 0 0) (omega arith)) count_18
 
-    pub count_too_many : (m ≡ refusal_number (refusal 16 0 0)) ↔ (Passed (first_trials job bad Unlent n) × (buffer_needed n ≤ numbers) × TooMany problem)
+    pub count_too_many : (m ≡ refusal_number (refusal 16 0 0)) ↔ (Passed (first_trials job bad None n) × (buffer_needed n ≤ numbers) × TooMany problem)
     count_too_many = Iff.trans (count_is (refusal 16 0 0) (omega arith)) count_16
 
   -- THEOREM. Place's, and its numbers 15, 18, 16 and 17.
@@ -360,46 +359,46 @@ module _ (job : Job) (bad : Badness) (numbers : ℕ) where
     pub place_named : (r : Refusal) → RefusedBy (place_trials on numbers place room) r → Alone r × (ByCount r → r.at ≡ 0)
     place_named = at_zero job bad room numbers past (whole_zero job bad room numbers 17 _ (omega arith), tt)
 
-    pub place_kept : (r : Refusal) → ¬ (Passed (first_trials job bad Unlent room) × (buffer_needed n ≤ numbers)) → RefusedBy (place_trials on numbers place room) r
+    pub place_kept : (r : Refusal) → ¬ (Passed (first_trials job bad None room) × (buffer_needed n ≤ numbers)) → RefusedBy (place_trials on numbers place room) r
         → (r.reason ≢ 16) × (r.reason ≢ 17)
     place_kept = not_counted job bad room numbers past
 
-    pub place_15 : RefusedBy (place_trials on numbers place room) (refusal 15 0 0) ↔ (Passed (sound_trials job bad Unlent room) × NoLayout problem)
+    pub place_15 : RefusedBy (place_trials on numbers place room) (refusal 15 0 0) ↔ (Passed (sound_trials job bad None room) × NoLayout problem)
     place_15 = by_none_still job bad room numbers past (not_past (refusal 15 0 0) (omega arith))
 
-    pub place_18 : RefusedBy (place_trials on numbers place room) (refusal 18 0 0) ↔ (Passed (first_trials job bad Unlent room) × (numbers < buffer_needed n))
+    pub place_18 : RefusedBy (place_trials on numbers place room) (refusal 18 0 0) ↔ (Passed (first_trials job bad None room) × (numbers < buffer_needed n))
     place_18 = by_short job bad room numbers past (not_past (refusal 18 0 0) (omega arith))
 
-    pub place_16 : RefusedBy (place_trials on numbers place room) (refusal 16 0 0) ↔ (Passed (first_trials job bad Unlent room) × (buffer_needed n ≤ numbers) × TooMany problem)
+    pub place_16 : RefusedBy (place_trials on numbers place room) (refusal 16 0 0) ↔ (Passed (first_trials job bad None room) × (buffer_needed n ≤ numbers) × TooMany problem)
     place_16 = by_many job bad room numbers past (not_past (refusal 16 0 0) (omega arith))
 
     pub place_17 : RefusedBy (place_trials on numbers place room) (refusal 17 0 0)
-        ↔ (Passed (first_trials job bad Unlent room) × (buffer_needed n ≤ numbers) × (¬ TooMany problem) × PastCount problem place)
+        ↔ (Passed (first_trials job bad None room) × (buffer_needed n ≤ numbers) × (¬ TooMany problem) × PastCount problem place)
     place_17 = by_past job bad room numbers place
 
   module _ (place : ℕ) (before after : List ℕ) (m : ℤ) (c : PlaceReplies on numbers place before m after) where
     place_is : (r : Refusal) → SmallRefusal r → (m ≡ refusal_number r) ↔ RefusedBy (place_trials on numbers place (length before)) r
     place_is r small =
-        refuses_iff (place_trials on numbers place (length before)) (after ≡ before) m r small (place-refuses on (numbered job bad Unlent) numbers place before after m c)
+        refuses_iff (place_trials on numbers place (length before)) (after ≡ before) m r small (place-refuses on (numbered job bad None) numbers place before after m c)
 
-    pub place_none : (m ≡ refusal_number (refusal 15 0 0)) ↔ (Passed (sound_trials job bad Unlent (length before)) × NoLayout problem)
+    pub place_none : (m ≡ refusal_number (refusal 15 0 0)) ↔ (Passed (sound_trials job bad None (length before)) × NoLayout problem)
     place_none = Iff.trans (place_is (refusal 15 0 0) (omega arith)) (place_15 place (length before))
 
-    pub place_too_short : (m ≡ refusal_number (refusal 18 0 0)) ↔ (Passed (first_trials job bad Unlent (length before)) × (numbers < buffer_needed n))
+    pub place_too_short : (m ≡ refusal_number (refusal 18 0 0)) ↔ (Passed (first_trials job bad None (length before)) × (numbers < buffer_needed n))
     place_too_short = Iff.trans (place_is (refusal 18 0 0) (omega arith)) (place_18 place (length before))
 
-    pub place_too_many : (m ≡ refusal_number (refusal 16 0 0)) ↔ (Passed (first_trials job bad Unlent (length before)) × (buffer_needed n ≤ numbers) × TooMany problem)
+    pub place_too_many : (m ≡ refusal_number (refusal 16 0 0)) ↔ (Passed (first_trials job bad None (length before)) × (buffer_needed n ≤ numbers) × TooMany problem)
     place_too_many = Iff.trans (place_is (refusal 16 0 0) (omega arith)) (place_16 place (length before))
 
     pub place_past_count : (m ≡ refusal_number (refusal 17 0 0))
-        ↔ (Passed (first_trials job bad Unlent (length before)) × (buffer_needed n ≤ numbers) × (¬ TooMany problem) × PastCount problem place)
+        ↔ (Passed (first_trials job bad None (length before)) × (buffer_needed n ≤ numbers) × (¬ TooMany problem) × PastCount problem place)
     place_past_count = Iff.trans (place_is (refusal 17 0 0) (omega arith)) (place_17 place (length before))
 
 -- ---- Svg
 
 module _ (job list : List ℕ) (room : ℕ) where
   abbrev measured : List Trial
-  measured = measure_trials (records job) (by_weights 0 0) Unlent list
+  measured = measure_trials (records job) (by_weights 0 0) None list
 
   abbrev long : Type 0
   long = TooLong (board_of (records job)) (held list) room
@@ -441,7 +440,7 @@ module _ (job list : List ℕ) (room : ℕ) where
   svg_named r a = ⊎_elim early (λ (p, b). late b) (refused-append measured (of_whole 19 long ∷ []) r a)
     where
       early : RefusedBy measured r → SvgTold r
-      early b = (measure_named (records job) (by_weights 0 0) Unlent list r b, λ e. absurd ((neither r b).1 e))
+      early b = (measure_named (records job) (by_weights 0 0) None list r b, λ e. absurd ((neither r b).1 e))
 
       late : RefusedBy (of_whole 19 long ∷ []) r → SvgTold r
       late (inl (e, f)) = (inl (omega (arith, e), f.named.here), λ _. omega (arith, f.inside))
@@ -463,15 +462,15 @@ module _ (job list : List ℕ) (room : ℕ) where
       ((λ a. let (q, x) = A.0 a in (q, B.0 x)), (λ (q, h). A.1 (q, B.1 h)))
 
   -- Where no layout is untouching: 8 or 9.
-  pub svg_none : Passed (sound_trials (records job) (by_weights 0 0) Unlent (length list)) → NoLayout (labeling_of (records job) (by_weights 0 0)) → (r : Refusal)
+  pub svg_none : Passed (sound_trials (records job) (by_weights 0 0) None (length list)) → NoLayout (labeling_of (records job) (by_weights 0 0)) → (r : Refusal)
       → RefusedBy (svg_trials job list room) r → (r.reason ≡ 8) ⊎ (r.reason ≡ 9)
   svg_none sound none r a =
-      ⊎_elim (measure_none (records job) (by_weights 0 0) Unlent list sound none r)
-      (λ (p, b). absurd (not_measured (records job) (by_weights 0 0) Unlent list sound none p)) (refused-append measured (of_whole 19 long ∷ []) r a)
+      ⊎_elim (measure_none (records job) (by_weights 0 0) None list sound none r)
+      (λ (p, b). absurd (not_measured (records job) (by_weights 0 0) None list sound none p)) (refused-append measured (of_whole 19 long ∷ []) r a)
 
 -- THEOREM. So it is with Svg's number.
 pub svg_too_long : (job list before after : List ℕ) (m : ℤ) → SvgPromise job list before m after
-    → (m ≡ refusal_number (refusal 19 0 0)) ↔ (Passed (measure_trials (records job) (by_weights 0 0) Unlent list) × TooLong (board_of (records job)) (held list) (length before))
+    → (m ≡ refusal_number (refusal 19 0 0)) ↔ (Passed (measure_trials (records job) (by_weights 0 0) None list) × TooLong (board_of (records job)) (held list) (length before))
 svg_too_long job list before after m p =
     Iff.trans (refuses_iff (svg_trials job list (length before)) (after ≡ before) m (refusal 19 0 0) (omega arith)
     (fill_refuses (svg_trials job list (length before)) (svg_small job list (length before)) (SvgFills job list) before after m p))

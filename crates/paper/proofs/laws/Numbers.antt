@@ -2,20 +2,13 @@
 --     first-refuses, next_refuses, page_refuses, measure_refuses, count-refuses, place-refuses, fill_refuses, draw_refuses: a refusal exactly if a trial fails; refuses_iff: by which
 --     total-told, next_total-told, end_told, wrote_told, measure_told, count-told, place-told, fill_told, straight_told, bent_told: what every other number tells
 --     first_work, next_work, buffer_open, buffer_many, buffer_past, buffer_kept: what it tells of what is lent for work
-use Rattle.std.specs.Prelude.{◌≡◌, refl, ◌≢◌, ◌⊎◌, ◌↔◌, List, [], ◌∷◌, ◌++◌, ℕ, zero, suc, ◌+◌, ◌*◌, ◌/◌, ◌%◌, ◌≤◌, ◌<◌, length, ℤ, pos, negsuc, neg_ℤ, nat_abs, ◌≤ℤ◌, Float}
+use Rattle.std.specs.Prelude.{◌≡◌, refl, ◌≢◌, ◌⊎◌, ◌↔◌, List, [], ◌∷◌, ◌++◌, ℕ, zero, suc, ◌+◌, ◌*◌, ◌/◌, ◌%◌, ◌≤◌, ◌<◌, length, ℤ, pos, negsuc, neg_ℤ, nat_abs, ◌≤ℤ◌, Float, Some, None, Ok, Err}
 use Rattle.std.proofs.Common.{sym, ap, subst, ◌∙◌, inl, inr, ⊎_elim, arith}
 use Rattle.numbers.proofs.Whole.{whole, eq_num, neg_nums}
+use Rattle.paper.specs.declared.Point.{Point}
+use Rattle.paper.specs.declared.Polyline.TheVariants.{Straight, Bent}
 use Rattle.paper.specs.declared.Refusal.{Refusal}
-use Rattle.paper.specs.declared.Answer.{Answer}
-use Rattle.paper.specs.declared.Answer.TheVariants.{Total, End, Refused}
-use Rattle.paper.specs.declared.Counted.{Counted}
-use Rattle.paper.specs.declared.Counted.TheVariants.{Many, Refused as NotCounted}
-use Rattle.paper.specs.declared.Two.{Two}
-use Rattle.paper.specs.declared.Three.{Three}
-use Rattle.paper.specs.declared.Drawn.{Drawn}
-use Rattle.paper.specs.declared.Drawn.TheVariants.{Straight, Bent, Refused as NotDrawn}
-use Rattle.paper.specs.declared.Work.{Work}
-use Rattle.paper.specs.declared.Work.TheVariants.{Unlent, Lent}
+use Rattle.paper.specs.Answers.{Work, Answer, Counted, Drawn}
 use Rattle.paper.specs.Job.{Job, records, slots}
 use Rattle.paper.specs.Layouts.{Board, board_of, held, Badness, by_weights, by_table}
 use Rattle.paper.specs.Problem.{FirstBest, PlaceBest, labeling_of}
@@ -76,10 +69,10 @@ module _ (r s : ℕ) (before after : List ℕ) where
       same = ap (λ (g : Refusal). g.reason) (refusal_back f small)
 
 -- So what is said of the work list by an answer is said by C's number of it.
-work_told : (a : Answer) → ((r : Refusal) → a ≡ Refused r → SmallRefusal r) → (before after : List ℕ) → WorkAfter a before after → WorkPromise (number a) before after
-work_told (Total t) small before after w = open_above 10 15 before after (pos t) (omega whole)
-work_told End small before after w = open_above 10 15 before after (negsuc 0) (omega whole)
-work_told (Refused r) small before after w = open_refused 10 15 before after r (small r refl) w
+work_told : (a : Answer) → ((r : Refusal) → a ≡ Err r → SmallRefusal r) → (before after : List ℕ) → WorkAfter a before after → WorkPromise (number a) before after
+work_told (Ok (Some t)) small before after w = open_above 10 15 before after (pos t) (omega whole)
+work_told (Ok None) small before after w = open_above 10 15 before after (negsuc 0) (omega whole)
+work_told (Err r) small before after w = open_refused 10 15 before after r (small r refl) w
 
 -- The buffer of Count and Place is open after a count or a total, after 16 and after 17; and what is as it was keeps to every number.
 module _ (before after : List ℕ) where
@@ -155,42 +148,42 @@ refuses_iff ts U m r small R = (
 
 -- What First and Place answer: a total, where At says of which layout; or a refusal.
 abbrev pub LayoutOver : Calls → List Trial → ((ℕ → ℕ) → Type 0) → List ℕ → Answer → List ℕ → Type 0
-LayoutOver c ts At before (Total t) after = Passed ts × At (held after) × (t ≡ c.problem.value (held after)) × Kept (entries c) before after
-LayoutOver c ts At before End after = ⊥
-LayoutOver c ts At before (Refused r) after = RefusedBy ts r × (after ≡ before)
+LayoutOver c ts At before (Ok (Some t)) after = Passed ts × At (held after) × (t ≡ c.problem.value (held after)) × Kept (entries c) before after
+LayoutOver c ts At before (Ok None) after = ⊥
+LayoutOver c ts At before (Err r) after = RefusedBy ts r × (after ≡ before)
 
 pub first_is : (c : Calls) (before : List ℕ) (a : Answer) (after : List ℕ) → FirstOver c before a after
     → LayoutOver c (c.first (length before)) (FirstBest c.problem) before a after
-first_is c before (Total t) after p = p
-first_is c before End after p = p
-first_is c before (Refused r) after p = p
+first_is c before (Ok (Some t)) after p = p
+first_is c before (Ok None) after p = p
+first_is c before (Err r) after p = p
 
 pub place_is : (c : Calls) (numbers place : ℕ) (before : List ℕ) (a : Answer) (after : List ℕ) → PlaceOver c numbers place before a after
     → LayoutOver c (place_trials c numbers place (length before)) (PlaceBest c.problem place) before a after
-place_is c numbers place before (Total t) after p = p
-place_is c numbers place before End after p = p
-place_is c numbers place before (Refused r) after p = p
+place_is c numbers place before (Ok (Some t)) after p = p
+place_is c numbers place before (Ok None) after p = p
+place_is c numbers place before (Err r) after p = p
 
 module _ (c : Calls) (ts : List Trial) (At : (ℕ → ℕ) → Type 0) (small : (r : Refusal) → RefusedBy ts r → SmallRefusal r) (before after : List ℕ) where
   -- A number of 0 or more is the total,
-  layout_told : (t : ℕ) (a : Answer) → LayoutOver c ts At before a after → pos t ≡ number a → LayoutOver c ts At before (Total t) after
-  layout_told t (Total u) p e = let n : u ≡ t = cc in rw n at p
-  layout_told t End p e = absurd p
-  layout_told t (Refused r) p e = absurd (refusal-apart r t (small r p.0) e)
+  layout_told : (t : ℕ) (a : Answer) → LayoutOver c ts At before a after → pos t ≡ number a → LayoutOver c ts At before (Ok (Some t)) after
+  layout_told t (Ok (Some u)) p e = let n : u ≡ t = cc in rw n at p
+  layout_told t (Ok None) p e = absurd p
+  layout_told t (Err r) p e = absurd (refusal-apart r t (small r p.0) e)
 
   -- and every other one a refusal.
   layout_refuses : (m : ℤ) (a : Answer) → LayoutOver c ts At before a after → m ≡ number a → RefusesBy ts m (after ≡ before)
   layout_refuses m a p e = answered_refuses ts (after ≡ before) m small (rw e (says a p))
     where
       says : (a : Answer) → LayoutOver c ts At before a after → Answered ts (after ≡ before) (number a)
-      says (Total t) p = inr (p.0, omega whole)
-      says End p = absurd p
-      says (Refused r) p = inl (r, p.0, p.1, refl)
+      says (Ok (Some t)) p = inr (p.0, omega whole)
+      says (Ok None) p = absurd p
+      says (Err r) p = inl (r, p.0, p.1, refl)
 
 module _ (c : Calls) (N : Numbered c) where
   -- First.
   module _ (before after : List ℕ) where
-    pub total-told : (t : ℕ) → FirstReplies c before (pos t) after → FirstOver c before (Total t) after
+    pub total-told : (t : ℕ) → FirstReplies c before (pos t) after → FirstOver c before (Ok (Some t)) after
     total-told t (a, p, e) = layout_told c (c.first (length before)) (FirstBest c.problem) (N.first (length before)) before after t a (first_is c before a after p) e
 
     pub first-refuses : (m : ℤ) → FirstReplies c before m after → RefusesBy (c.first (length before)) m (after ≡ before)
@@ -205,67 +198,67 @@ module _ (c : Calls) (N : Numbered c) where
     pub next_work : (a : Answer) → NextOver c before a after → (held left : List ℕ) → WorkAfter a held left → WorkPromise (number a) held left
     next_work a p = work_told a (λ r e. N.next before r (rw e at p).0)
 
-    pub next_total-told : (t : ℕ) → NextReplies c before (pos t) after → NextOver c before (Total t) after
-    next_total-told t (Total u, p, e) = let n : u ≡ t = cc in rw n at p
-    next_total-told t (End, p, e) = absurd (omega (whole, eq_num (pos t) (negsuc 0) e))
-    next_total-told t (Refused r, p, e) = absurd (refusal-apart r t (N.next before r p.0) e)
+    pub next_total-told : (t : ℕ) → NextReplies c before (pos t) after → NextOver c before (Ok (Some t)) after
+    next_total-told t (Ok (Some u), p, e) = let n : u ≡ t = cc in rw n at p
+    next_total-told t (Ok None, p, e) = absurd (omega (whole, eq_num (pos t) (negsuc 0) e))
+    next_total-told t (Err r, p, e) = absurd (refusal-apart r t (N.next before r p.0) e)
 
-    pub end_told : NextReplies c before (negsuc 0) after → NextOver c before End after
-    end_told (Total u, p, e) = absurd (omega (whole, eq_num (negsuc 0) (pos u) e))
-    end_told (End, p, e) = p
-    end_told (Refused r, p, e) = absurd (refusal_not_end r (N.next before r p.0) e)
+    pub end_told : NextReplies c before (negsuc 0) after → NextOver c before (Ok None) after
+    end_told (Ok (Some u), p, e) = absurd (omega (whole, eq_num (negsuc 0) (pos u) e))
+    end_told (Ok None, p, e) = p
+    end_told (Err r, p, e) = absurd (refusal_not_end r (N.next before r p.0) e)
 
     pub next_refuses : (m : ℤ) → NextReplies c before m after → RefusesBy (c.next before) m (after ≡ before)
     next_refuses m (a, p, e) = answered_refuses (c.next before) (after ≡ before) m (N.next before) (rw e (says a p))
       where
         says : (a : Answer) → NextOver c before a after → Answered (c.next before) (after ≡ before) (number a)
-        says (Total t) p = inr (p.0, omega whole)
-        says End p = inr (p.0, omega whole)
-        says (Refused r) p = inl (r, p.0, p.1, refl)
+        says (Ok (Some t)) p = inr (p.0, omega whole)
+        says (Ok None) p = inr (p.0, omega whole)
+        says (Err r) p = inl (r, p.0, p.1, refl)
 
   -- Measure.
   module _ (list : List ℕ) where
-    pub measure_told : (t : ℕ) → MeasureReplies c list (pos t) → MeasureOver c list (Total t)
-    measure_told t (Total u, p, e) = let n : u ≡ t = cc in rw n at p
-    measure_told t (End, p, e) = absurd p
-    measure_told t (Refused r, p, e) = absurd (refusal-apart r t (N.measure list r p) e)
+    pub measure_told : (t : ℕ) → MeasureReplies c list (pos t) → MeasureOver c list (Ok (Some t))
+    measure_told t (Ok (Some u), p, e) = let n : u ≡ t = cc in rw n at p
+    measure_told t (Ok None, p, e) = absurd p
+    measure_told t (Err r, p, e) = absurd (refusal-apart r t (N.measure list r p) e)
 
     pub measure_refuses : (m : ℤ) → MeasureReplies c list m → RefusesBy (c.measure list) m (Unit {0})
     measure_refuses m (a, p, e) = answered_refuses (c.measure list) (Unit {0}) m (N.measure list) (rw e (says a p))
       where
         says : (a : Answer) → MeasureOver c list a → Answered (c.measure list) (Unit {0}) (number a)
-        says (Total t) p = inr (p.0, omega whole)
-        says End p = absurd p
-        says (Refused r) p = inl (r, p, tt, refl)
+        says (Ok (Some t)) p = inr (p.0, omega whole)
+        says (Ok None) p = absurd p
+        says (Err r) p = inl (r, p, tt, refl)
 
   -- Page: a number of 0 or more is that of the layouts written.
   module _ (given before after : List ℕ) where
-    pub wrote_told : (k : ℕ) → PageReplies c given before (pos k) after → PageOver c given before (Many k) after
-    wrote_told k (Many m, p, e) = let n : m ≡ k = cc in rw n at p
-    wrote_told k (NotCounted r, p, e) = absurd (refusal-apart r k (N.next given r p.0) e)
+    pub wrote_told : (k : ℕ) → PageReplies c given before (pos k) after → PageOver c given before (Ok k) after
+    wrote_told k (Ok m, p, e) = let n : m ≡ k = cc in rw n at p
+    wrote_told k (Err r, p, e) = absurd (refusal-apart r k (N.next given r p.0) e)
 
     pub page_refuses : (m : ℤ) → PageReplies c given before m after → RefusesBy (c.next given) m (after ≡ before)
     page_refuses m (a, p, e) = answered_refuses (c.next given) (after ≡ before) m (N.next given) (rw e (says a p))
       where
         says : (a : Counted) → PageOver c given before a after → Answered (c.next given) (after ≡ before) (counted_number a)
-        says (Many k) p = inr (p.0, omega whole)
-        says (NotCounted r) p = inl (r, p.0, p.1, refl)
+        says (Ok k) p = inr (p.0, omega whole)
+        says (Err r) p = inl (r, p.0, p.1, refl)
 
   -- Count and Place: theirs are First's trials, and then 18, 16 and 17.
   module _ (numbers : ℕ) where
     count_small : (r : Refusal) → RefusedBy (count_trials c numbers) r → SmallRefusal r
     count_small = after_small (c.first (entries c)) (number_trials c.problem numbers) (N.first (entries c)) (omega arith)
 
-    pub count-told : (k : ℕ) → CountReplies c numbers (pos k) → CountOver c numbers (Many k)
-    count-told k (Many m, p, e) = let n : m ≡ k = cc in rw n at p
-    count-told k (NotCounted r, p, e) = absurd (refusal-apart r k (count_small r p) e)
+    pub count-told : (k : ℕ) → CountReplies c numbers (pos k) → CountOver c numbers (Ok k)
+    count-told k (Ok m, p, e) = let n : m ≡ k = cc in rw n at p
+    count-told k (Err r, p, e) = absurd (refusal-apart r k (count_small r p) e)
 
     pub count-refuses : (m : ℤ) → CountReplies c numbers m → RefusesBy (count_trials c numbers) m (Unit {0})
     count-refuses m (a, p, e) = answered_refuses (count_trials c numbers) (Unit {0}) m count_small (rw e (says a p))
       where
         says : (a : Counted) → CountOver c numbers a → Answered (count_trials c numbers) (Unit {0}) (counted_number a)
-        says (Many k) p = inr (p.0, omega whole)
-        says (NotCounted r) p = inl (r, p, tt, refl)
+        says (Ok k) p = inr (p.0, omega whole)
+        says (Err r) p = inl (r, p, tt, refl)
 
     module _ (place : ℕ) (before after : List ℕ) where
       place_small : (r : Refusal) → RefusedBy (place_trials c numbers place (length before)) r → SmallRefusal r
@@ -273,7 +266,7 @@ module _ (c : Calls) (N : Numbered c) where
           after_small (c.first (length before)) (number_trials c.problem numbers ++ (of_whole 17 (PastCount c.problem place) ∷ []))
           (N.first (length before)) (omega arith)
 
-      pub place-told : (t : ℕ) → PlaceReplies c numbers place before (pos t) after → PlaceOver c numbers place before (Total t) after
+      pub place-told : (t : ℕ) → PlaceReplies c numbers place before (pos t) after → PlaceOver c numbers place before (Ok (Some t)) after
       place-told t (a, p, e) =
           layout_told c (place_trials c numbers place (length before)) (PlaceBest c.problem place) place_small before after t a
           (place_is c numbers place before a after p) e
@@ -306,8 +299,8 @@ room_small job work room = (omega arith, omega arith, omega arith, λ _. numberi
     enough (slots pads ports) = omega arith
 
     lent : (work : Work) → Numbering (work_trials (board_of job) work)
-    lent Unlent = tt
-    lent (Lent numbers) = omega arith
+    lent None = tt
+    lent (Some numbers) = omega arith
 
 job_small : (job : Job) → (board_of job).pads ≤ 64 → (board_of job).ports ≤ 128 → Numbering (job_trials job)
 job_small job few slots_few = numbering_append (field_trials job) (board_trials job) (fields job few slots_few) (λ _. omega arith)
@@ -338,7 +331,7 @@ pub numbered : (job : Job) (bad : Badness) (work : Work) → Numbered (calls_of 
 numbered job bad work = record {
   first = λ room r. refused_small (first_trials job bad work room) r
       (numbering_append (sound_trials job bad work room) (none_trial (labeling_of job bad) ∷ []) (sound_small job bad work room) (λ _. omega arith));
-  measure = λ list r a. next Unlent list r (refused_left (measure_trials job bad Unlent list) (best_trial (labeling_of job bad) list ∷ []) r a);
+  measure = λ list r a. next None list r (refused_left (measure_trials job bad None list) (best_trial (labeling_of job bad) list ∷ []) r a);
   next = next work;
 }
   where
@@ -349,21 +342,21 @@ numbered job bad work = record {
 
 -- By trials that refuse so a number of 0 or more is the answer's, and every other one is a refusal.
 module _ (ts : List Trial) (small : (r : Refusal) → RefusedBy ts r → SmallRefusal r) (Is : List ℕ → ℕ → Type 0) (before after : List ℕ) where
-  pub fill_told : (k : ℕ) → FillReplies ts Is before (pos k) after → FillOver ts Is before (Many k) after
-  fill_told k (Many m, p, e) = let n : m ≡ k = cc in rw n at p
-  fill_told k (NotCounted r, p, e) = absurd (refusal-apart r k (small r p.0) e)
+  pub fill_told : (k : ℕ) → FillReplies ts Is before (pos k) after → FillOver ts Is before (Ok k) after
+  fill_told k (Ok m, p, e) = let n : m ≡ k = cc in rw n at p
+  fill_told k (Err r, p, e) = absurd (refusal-apart r k (small r p.0) e)
 
   pub fill_refuses : (m : ℤ) → FillReplies ts Is before m after → RefusesBy ts m (after ≡ before)
   fill_refuses m (a, p, e) = answered_refuses ts (after ≡ before) m small (rw e (says a p))
     where
       says : (a : Counted) → FillOver ts Is before a after → Answered ts (after ≡ before) (counted_number a)
-      says (Many k) p = inr (p.0, omega whole)
-      says (NotCounted r) p = inl (r, p.0, p.1, refl)
+      says (Ok k) p = inr (p.0, omega whole)
+      says (Err r) p = inl (r, p.0, p.1, refl)
 
 pub svg_small : (job list : List ℕ) (room : ℕ) (r : Refusal) → RefusedBy (svg_trials job list room) r → SmallRefusal r
 svg_small job list room =
-    after_small (measure_trials (records job) (by_weights 0 0) Unlent list) (of_whole 19 (TooLong (board_of (records job)) (held list) room) ∷ [])
-    ((numbered (records job) (by_weights 0 0) Unlent).measure list) (omega arith)
+    after_small (measure_trials (records job) (by_weights 0 0) None list) (of_whole 19 (TooLong (board_of (records job)) (held list) room) ∷ [])
+    ((numbered (records job) (by_weights 0 0) None).measure list) (omega arith)
 
 pub csv_small : (text : List ℕ) (room : ℕ) (r : Refusal) → RefusedBy (csv_trials text room) r → SmallRefusal r
 csv_small text room r =
@@ -389,22 +382,22 @@ module _ (job : List ℕ) (i q : ℕ) (before after : List Float) where
       )
 
   -- 2 points are a leader without a bend,
-  pub straight_told : DrawPromise job i q before (pos 2) after → (d : Two) × DrawAnswers job i q before (Straight d) after
-  straight_told (Straight d, p, e) = (d, p)
-  straight_told (Bent d, p, e) = absurd (let n : ◌≡◌ {A = ℕ} 2 3 = cc in omega arith)
-  straight_told (NotDrawn r, p, e) = absurd (refusal-apart r 2 (narrow r p.0) e)
+  pub straight_told : DrawPromise job i q before (pos 2) after → (a : Point) × (c : Point) × DrawAnswers job i q before (Ok (Straight a c)) after
+  straight_told (Ok (Straight a c), p, e) = (a, c, p)
+  straight_told (Ok (Bent a b c), p, e) = absurd (let n : ◌≡◌ {A = ℕ} 2 3 = cc in omega arith)
+  straight_told (Err r, p, e) = absurd (refusal-apart r 2 (narrow r p.0) e)
 
   -- 3 points one with a bend,
-  pub bent_told : DrawPromise job i q before (pos 3) after → (d : Three) × DrawAnswers job i q before (Bent d) after
-  bent_told (Straight d, p, e) = absurd (let n : ◌≡◌ {A = ℕ} 2 3 = cc in omega arith)
-  bent_told (Bent d, p, e) = (d, p)
-  bent_told (NotDrawn r, p, e) = absurd (refusal-apart r 3 (narrow r p.0) e)
+  pub bent_told : DrawPromise job i q before (pos 3) after → (a : Point) × (b : Point) × (c : Point) × DrawAnswers job i q before (Ok (Bent a b c)) after
+  bent_told (Ok (Straight a c), p, e) = absurd (let n : ◌≡◌ {A = ℕ} 2 3 = cc in omega arith)
+  bent_told (Ok (Bent a b c), p, e) = (a, b, c, p)
+  bent_told (Err r, p, e) = absurd (refusal-apart r 3 (narrow r p.0) e)
 
   -- and every other number is a refusal.
   pub draw_refuses : (m : ℤ) → DrawPromise job i q before m after → RefusesBy (draw_trials job i q (length before)) m (after ≡ before)
   draw_refuses m (d, p, e) = answered_refuses (draw_trials job i q (length before)) (after ≡ before) m narrow (rw e (says d p))
     where
       says : (d : Drawn) → DrawAnswers job i q before d after → Answered (draw_trials job i q (length before)) (after ≡ before) (drawn_number d)
-      says (Straight d) p = inr (p.0, omega whole)
-      says (Bent d) p = inr (p.0, omega whole)
-      says (NotDrawn r) p = inl (r, p.0, p.1, refl)
+      says (Ok (Straight a c)) p = inr (p.0, omega whole)
+      says (Ok (Bent a b c)) p = inr (p.0, omega whole)
+      says (Err r) p = inl (r, p.0, p.1, refl)

@@ -1,9 +1,8 @@
 -- ON POINTS THE PROMISES ARE 01'S. Of a job whose half-sides are all 0 the calls reply as those of which only leaders touch, and no job is refused by 15.
 --     first_on_points, next_on_points, page_on_points, count_on_points, place_on_points, measure_on_points
-use Rattle.std.specs.Prelude.{refl, ◌↔◌, List, [], ◌∷◌, ◌++◌, ℕ, ◌<◌, length, ℤ}
+use Rattle.std.specs.Prelude.{refl, ◌↔◌, List, [], ◌∷◌, ◌++◌, ℕ, ◌<◌, length, ℤ, None}
 use Rattle.std.proofs.Common.{inl, inr, ⊎_elim, arith}
-use Rattle.paper.specs.declared.Work.{Work}
-use Rattle.paper.specs.declared.Work.TheVariants.{Unlent}
+use Rattle.paper.specs.Answers.{Work}
 use Rattle.paper.specs.Job.{Job}
 use Rattle.paper.specs.Layouts.{Board, board_of, held, LeadersTouch, Touching, Untouching, Badness, cost_of, total}
 use Rattle.paper.specs.Problem.{labeling_of}
@@ -93,10 +92,10 @@ module _ (job : Job) (bad : Badness) (points : Points (board_of job)) where
     sound = sound_trials job bad work
 
     abbrev measure : List ℕ → List Trial
-    measure = measure_trials job bad Unlent
+    measure = measure_trials job bad None
 
     abbrev point : List ℕ → List Trial
-    point = point_measure job bad Unlent
+    point = point_measure job bad None
 
     abbrev next : List ℕ → List Trial
     next = next_trials job bad work
@@ -135,10 +134,10 @@ module _ (job : Job) (bad : Badness) (points : Points (board_of job)) where
 
     pub measure_on_points : (list : List ℕ) (m : ℤ) → MeasureReplies (calls_of job bad work) list m ↔ MeasureReplies (point_calls_of job bad work) list m
     measure_on_points list m = (
-      (λ (a, p, e). (a, measure_over b worth first sound measure point next (point_next work) (measure_there Unlent) counts list a p, e)),
+      (λ (a, p, e). (a, measure_over b worth first sound measure point next (point_next work) (measure_there None) counts list a p, e)),
       (λ (a, p, e).
-          (a, measure_over b (turned worth) sound first point measure (point_next work) next (measure_back Unlent) (λ l q. (points_apart b points (held l)).0 (counts l ((measure_back Unlent l).0 q))) list a p, e)),
+          (a, measure_over b (turned worth) sound first point measure (point_next work) next (measure_back None) (λ l q. (points_apart b points (held l)).0 (counts l ((measure_back None l).0 q))) list a p, e)),
     )
       where
-        counts : (list : List ℕ) → Passed (measure_trials job bad Unlent list) → Untouching b (held list)
-        counts list p = (measure_accepted job bad Unlent list p).1
+        counts : (list : List ℕ) → Passed (measure_trials job bad None list) → Untouching b (held list)
+        counts list p = (measure_accepted job bad None list p).1

@@ -4,12 +4,11 @@
 --     follow_place, count_exists: layouts that follow the first are at their places; they come to an end
 --     count_decided, place_decided, count_opened, place_opened, count_few, place_accepts: the trials of Count and Place
 --     count-refused, count_none, count_short, count_many, count_passed, place-refused .. place_passed: on a job, for the code that has checked 1 to 7 and counted
-use Rattle.std.specs.Prelude.{◌≡◌, refl, ◌⊎◌, ◌↔◌, Bool, List, [], ◌∷◌, ◌++◌, ℕ, zero, suc, ◌+◌, ◌≤◌, ◌<◌, T, leb, ltb}
+use Rattle.std.specs.Prelude.{◌≡◌, refl, ◌⊎◌, ◌↔◌, Bool, List, [], ◌∷◌, ◌++◌, ℕ, zero, suc, ◌+◌, ◌≤◌, ◌<◌, T, leb, ltb, None}
 use Rattle.std.proofs.Common.{sym, subst, inl, inr, ⊎_elim, le_of_suc-le-suc, eq-or-lt_of_le, lt_of_not-le, arith}
 use Rattle.std.proofs.Math.Decide.{dec_lt}
 use Rattle.numbers.proofs.Tests.{leb_iff, ltb_iff}
 use Rattle.paper.specs.declared.Refusal.{Refusal}
-use Rattle.paper.specs.declared.Work.TheVariants.{Unlent}
 use Rattle.paper.specs.Job.{Job}
 use Rattle.paper.specs.Layouts.{board_of, Untouching, Same, Differ, Badness}
 use Rattle.paper.specs.Problem.{Problem, Best, Before, FirstBest, NextBest, LastBest, PlaceBest, CountBest, labeling_of}
@@ -254,19 +253,19 @@ module _ (job : Job) (bad : Badness) (numbers : ℕ) where
   n = (board_of job).pads
 
   -- Where 1 to 7 are passed and a layout is untouching First's trials are passed; with a count there is one.
-  opened : (room : ℕ) → Passed (sound_trials job bad Unlent room) → (f : ℕ → ℕ) → Untouching (board_of job) f → Passed (first_trials job bad Unlent room)
-  opened room sound f u = first_passed job bad Unlent room sound (λ none. none f u)
+  opened : (room : ℕ) → Passed (sound_trials job bad None room) → (f : ℕ → ℕ) → Untouching (board_of job) f → Passed (first_trials job bad None room)
+  opened room sound f u = first_passed job bad None room sound (λ none. none f u)
 
-  counted : (room : ℕ) → Passed (sound_trials job bad Unlent room) → (k : ℕ) → CountBest p k → Passed (first_trials job bad Unlent room)
+  counted : (room : ℕ) → Passed (sound_trials job bad None room) → (k : ℕ) → CountBest p k → Passed (first_trials job bad None room)
   counted room sound k is = opened room sound is.layout (place_best p is.last is.layout is.at).counts
 
   abbrev count_trials_of : List Trial
-  count_trials_of = count_trials (calls_of job bad Unlent) numbers
+  count_trials_of = count_trials (calls_of job bad None) numbers
 
-  pub count-refused : (r : Refusal) → RefusedBy (sound_trials job bad Unlent n) r → RefusedBy count_trials_of r
-  count-refused r a = refused_left (first_trials job bad Unlent n) (number_trials p numbers) r (sound_refused job bad Unlent n r a)
+  pub count-refused : (r : Refusal) → RefusedBy (sound_trials job bad None n) r → RefusedBy count_trials_of r
+  count-refused r a = refused_left (first_trials job bad None n) (number_trials p numbers) r (sound_refused job bad None n r a)
 
-  module _ (sound : Passed (sound_trials job bad Unlent n)) where
+  module _ (sound : Passed (sound_trials job bad None n)) where
     pub count_none : NoLayout p → RefusedBy count_trials_of (refusal 15 0 0)
     count_none none = (count_15 job bad numbers).1 (sound, none)
 
@@ -278,16 +277,16 @@ module _ (job : Job) (bad : Badness) (numbers : ℕ) where
       count_many h = (count_16 job bad numbers).1 (counted n sound k is, enough, (k, is, h))
 
       pub count_passed : k ≤ limit → Passed count_trials_of
-      count_passed h = passed_append (first_trials job bad Unlent n) (number_trials p numbers) (counted n sound k is) (few p k is numbers enough h)
+      count_passed h = passed_append (first_trials job bad None n) (number_trials p numbers) (counted n sound k is) (few p k is numbers enough h)
 
   module _ (place room : ℕ) where
     abbrev place_trials_of : List Trial
-    place_trials_of = place_trials (calls_of job bad Unlent) numbers place room
+    place_trials_of = place_trials (calls_of job bad None) numbers place room
 
-    pub place-refused : (r : Refusal) → RefusedBy (sound_trials job bad Unlent room) r → RefusedBy place_trials_of r
-    place-refused r a = refused_left (first_trials job bad Unlent room) (later_trials p numbers place) r (sound_refused job bad Unlent room r a)
+    pub place-refused : (r : Refusal) → RefusedBy (sound_trials job bad None room) r → RefusedBy place_trials_of r
+    place-refused r a = refused_left (first_trials job bad None room) (later_trials p numbers place) r (sound_refused job bad None room r a)
 
-    module _ (sound : Passed (sound_trials job bad Unlent room)) where
+    module _ (sound : Passed (sound_trials job bad None room)) where
       pub place_none : NoLayout p → RefusedBy place_trials_of (refusal 15 0 0)
       place_none none = (place_15 job bad numbers place room).1 (sound, none)
 
@@ -303,4 +302,4 @@ module _ (job : Job) (bad : Badness) (numbers : ℕ) where
 
         pub place_passed : k ≤ limit → place < k → Passed place_trials_of
         place_passed h l =
-            passed_append (first_trials job bad Unlent room) (later_trials p numbers place) (counted room sound k is) (within p k is numbers place enough h l)
+            passed_append (first_trials job bad None room) (later_trials p numbers place) (counted room sound k is) (within p k is numbers place enough h l)

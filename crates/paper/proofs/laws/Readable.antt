@@ -1,15 +1,14 @@
 -- WHEN A LIST IS ACCEPTED, and what is made of it: valid pads; their records are a pad list for the slots calls; the plain rule goes round.
 --     csv_passed, readable_or_bad;  valid_list, slots_accept, slots_first_accept;  csv_answered, read_pads_pass, slots_take_them;  round_trip, records_trip
 --     csv_20, csv_21: when these are given;  csv_as_pads: what else
-use Rattle.std.specs.Prelude.{◌≡◌, refl, ◌≢◌, ◌⊎◌, ◌↔◌, List, [], map, ℕ, suc, ◌+◌, ◌*◌, ◌≤◌, ◌<◌, length, take, ℤ, nat_abs}
+use Rattle.std.specs.Prelude.{◌≡◌, refl, ◌≢◌, ◌⊎◌, ◌↔◌, List, [], map, ℕ, suc, ◌+◌, ◌*◌, ◌≤◌, ◌<◌, length, take, ℤ, nat_abs, Ok}
 use Rattle.std.proofs.Common.{sym, ap, subst, ◌∙◌, inl, inr, ⊎_elim, arith, take_at}
 use Rattle.std.proofs.Math.Logic.Dec
 use Rattle.std.proofs.Math.Decide.{ℕ_discrete}
 use Rattle.std.proofs.lemmas.List.{length-map}
 use Rattle.paper.specs.declared.Form.TheVariants.{Slots}
 use Rattle.paper.specs.declared.Refusal.{Refusal}
-use Rattle.paper.specs.declared.Work.{Work}
-use Rattle.paper.specs.declared.Counted.TheVariants.{Many}
+use Rattle.paper.specs.Answers.{Work}
 use Rattle.paper.specs.Job.{slots, count, name_of, half_of, x_of, y_of, last_of}
 use Rattle.paper.specs.Layouts.{board_of, Badness}
 use Rattle.paper.specs.Csv.{Pad, ReadsAs, ReadWith, BadLine, pad_at, records_of, pads_in, plain_text}
@@ -146,7 +145,7 @@ slots_first_accept pads ports bad work room passed points = (
 -- ---- what is answered
 
 -- THEOREM. What an answer tells: valid pads, whose records stand in the first bytes.
-pub csv_answered : (text before : List ℕ) (k : ℕ) (after : List ℕ) → CsvAnswers text before (Many k) after
+pub csv_answered : (text before : List ℕ) (k : ℕ) (after : List ℕ) → CsvAnswers text before (Ok k) after
     → (pads : List Pad) × ReadsAs text pads × ValidPads pads (length before) × (k ≡ length pads) × (take (16 * k) after ≡ records_of pads)
 csv_answered text before k after (p, (s, (pads, reads, (s-is, k-is)), e)) =
     let v = passed_valid text pads reads (length before) (append_passed (text_trials text) (read_trials text (length before)) p).1 in
@@ -154,7 +153,7 @@ csv_answered text before k after (p, (s, (pads, reads, (s-is, k-is)), e)) =
     (pads, reads, v, k-is, rw e (take_at s _ (16 * k) long) ∙ s-is)
 
 -- THEOREM. These are a pad list for the slots calls.
-module _ (text before : List ℕ) (k : ℕ) (after : List ℕ) (a : CsvAnswers text before (Many k) after) where
+module _ (text before : List ℕ) (k : ℕ) (after : List ℕ) (a : CsvAnswers text before (Ok k) after) where
   pub read_pads_pass : let pads = take (16 * k) after in (count pads ≡ k) × Passed (pad_trials pads) × ((i : ℕ) → i < k → half_of pads i ≡ 0)
   read_pads_pass =
       let (pads, _, v, many, is) = csv_answered text before k after a in
@@ -170,12 +169,12 @@ module _ (text before : List ℕ) (k : ℕ) (after : List ℕ) (a : CsvAnswers t
 
 -- THEOREM. A text that reads as valid pads is answered with their records.
 pub reads_answered : (text : List ℕ) (pads : List Pad) (before : List ℕ) → ReadsAs text pads → length text ≤ 16384 → ValidPads pads (length before)
-    → CsvAnswers text before (Many (length pads)) (overwritten (records_of pads) before)
+    → CsvAnswers text before (Ok (length pads)) (overwritten (records_of pads) before)
 reads_answered text pads before reads short v = (reads_passed text pads reads (length before) short v, (records_of pads, (pads, reads, (refl, refl)), refl))
 
 -- So is a list written by the plain rule.
 pub round_trip : (pads : List Pad) (before : List ℕ) → ValidPads pads (length before)
-    → CsvAnswers (plain_text pads) before (Many (length pads)) (overwritten (records_of pads) before)
+    → CsvAnswers (plain_text pads) before (Ok (length pads)) (overwritten (records_of pads) before)
 round_trip pads before v = reads_answered (plain_text pads) pads before (plain_reads pads) (omega (arith, plain_short pads small, v.few)) v
   where
     small : (i : ℕ) → i < length pads → ((pad_at pads i).name < 100000) × ((pad_at pads i).x < 10000000) × (nat_abs (pad_at pads i).y < 10000000)
@@ -214,7 +213,7 @@ list_valid l room bytes (size, (fields, (names, (places, _)))) points fits =
 
 -- THEOREM. So those records go round.
 pub records_trip : (l before : List ℕ) → Bytes l → Passed (pad_trials l) → ((i : ℕ) → i < count l → half_of l i ≡ 0) → length l ≤ length before
-    → CsvAnswers (plain_text (pads_in l)) before (Many (count l)) (overwritten l before)
+    → CsvAnswers (plain_text (pads_in l)) before (Ok (count l)) (overwritten l before)
 records_trip l before bytes passed points fits =
     let (v, back) = list_valid l (length before) bytes passed points fits in
     rw (back, pads_many l) at (round_trip (pads_in l) before v)

@@ -1,7 +1,7 @@
 -- The text of a sheet says what was drawn, and a reader has it back exactly.
 --     number_read, line_read, sheet_reads;  line_one: no other points have that line;  lines_many: a line for each record;  svg_reads: Draw's answer
 --     numerals: examples;  digit_first, minus_below, no_point, ends_well, no_minus_zero: 02's rules of a number
-use Rattle.std.specs.Prelude.{◌≡◌, refl, ◌≢◌, ◌⊎◌, Bool, true, false, cond, ◌||◌, List, [], ◌∷◌, ◌++◌, map, ℕ, zero, suc, ◌+◌, ◌*◌, ◌^◌, ◌/◌, ◌%◌, ◌≤◌, ◌<◌, eqb, length, get_or, take, drop, ℤ, pos, negsuc, nat_abs, Float}
+use Rattle.std.specs.Prelude.{◌≡◌, refl, ◌≢◌, ◌⊎◌, Bool, true, false, cond, ◌||◌, List, [], ◌∷◌, ◌++◌, map, ℕ, zero, suc, ◌+◌, ◌*◌, ◌^◌, ◌/◌, ◌%◌, ◌≤◌, ◌<◌, eqb, length, get_or, take, drop, ℤ, pos, negsuc, nat_abs, Float, None, Ok, Err}
 use Rattle.std.proofs.Common.{sym, ap, ◌∙◌, ⊎_elim, append_assoc, append-nil, zero-lt-suc, arith, ne_eqb, lit<, length-append, take_at}
 use Rattle.std.proofs.lemmas.Bool.{false≢true}
 use Rattle.std.proofs.Math.Decide.{dec_lt}
@@ -12,13 +12,9 @@ use Rattle.std.specs.Float.Ieee.Scale.{round_same}
 use Rattle.numbers.proofs.Floats.{round_back}
 use Rattle.text.specs.Text.{bytes, digits, decimal, joined, Begins, read_digits}
 use Rattle.text.specs.Digits.{read-append, decimal_reads, decimal-digits, free, free-append, decimal-free, begins_append, decimal-first}
+use Rattle.paper.specs.declared.Polyline.TheVariants.{Straight, Bent}
 use Rattle.paper.specs.declared.Point.{Point}
-use Rattle.paper.specs.declared.Two.{Two}
-use Rattle.paper.specs.declared.Three.{Three}
-use Rattle.paper.specs.declared.Drawn.{Drawn}
-use Rattle.paper.specs.declared.Drawn.TheVariants.{Straight, Bent, Refused as NotDrawn}
-use Rattle.paper.specs.declared.Counted.TheVariants.{Many}
-use Rattle.paper.specs.declared.Work.TheVariants.{Unlent}
+use Rattle.paper.specs.Answers.{Drawn}
 use Rattle.paper.specs.Job.{records, count}
 use Rattle.paper.specs.Leaders.{Leader}
 use Rattle.paper.specs.Layouts.{Board, board_of, held, leader, by_weights}
@@ -184,25 +180,25 @@ record Between (d : Drawn) (s : List ℕ) : Type 0 where
   apart : (at : ℕ → Bool) → Apart at → at 44 ≡ false → at 32 ≡ false → free at points ≡ true
 
 between : (d : Drawn) (s : List ℕ) → LineWritten d s → Between d s
-between (Straight d) s (pad, port, f, g, e) = record {
+between (Ok (Straight p q)) s (pad, port, f, g, e) = record {
   points = pad ++ bytes " " ++ port;
   quoted = e;
-  reads = rw append_assoc (rw (point_then d.pad pad port f, point_last d.port port g));
+  reads = rw append_assoc (rw (point_then p pad port f, point_last q port g));
   apart = λ at h c b.
       rw append_assoc (free-append at pad (bytes " " ++ port) (point_free h c f) (rw b (point_free h c g)));
 }
-between (Bent d) s (pad, bend, port, f, m, g, e) = record {
+between (Ok (Bent p m q)) s (pad, bend, port, f, h, g, e) = record {
   points = pad ++ bytes " " ++ bend ++ bytes " " ++ port;
   quoted = e;
   reads =
       simp append_assoc
-      (rw (point_then d.pad pad (bend ++ 32 ∷ port) f, point_then d.bend bend port m, point_last d.port port g));
-  apart = λ at h c b.
+      (rw (point_then p pad (bend ++ 32 ∷ port) f, point_then m bend port h, point_last q port g));
+  apart = λ at k c b.
       simp append_assoc
-      (free-append at pad (bytes " " ++ (bend ++ (bytes " " ++ port))) (point_free h c f)
-      (rw b (free-append at bend (bytes " " ++ port) (point_free h c m) (rw b (point_free h c g)))));
+      (free-append at pad (bytes " " ++ (bend ++ (bytes " " ++ port))) (point_free k c f)
+      (rw b (free-append at bend (bytes " " ++ port) (point_free k c h) (rw b (point_free k c g)))));
 }
-between (NotDrawn _) s w = elim w [ ]
+between (Err _) s w = elim w [ ]
 
 -- A line's points are what stands between its quotes.
 quoted-read : (points : List ℕ) → free (eqb 34) points ≡ true → read_line (line points) ≡ map read_number (cut mark points)
@@ -219,28 +215,28 @@ line_read d s w =
 point_told : {p q : Point} → p.x ≡ q.x → p.y ≡ q.y → p ≡ q
 point_told e f = λ i. record { x = e i; y = f i }
 
-straight_told : {d e : Two} → coordinates (Straight d) ≡ coordinates (Straight e) → Straight d ≡ Straight e
-straight_told {d} {e} h =
-    let pad : d.pad ≡ e.pad = point_told (cc) (cc) in
-    let port : d.port ≡ e.port = point_told (cc) (cc) in
-    λ i. Straight (record { pad = pad i; port = port i })
+straight_told : {a c d f : Point} → coordinates (Ok (Straight a c)) ≡ coordinates (Ok (Straight d f)) → ◌≡◌ {A = Drawn} (Ok (Straight a c)) (Ok (Straight d f))
+straight_told {a} {c} {d} {f} h =
+    let pad : a ≡ d = point_told (cc) (cc) in
+    let port : c ≡ f = point_told (cc) (cc) in
+    λ i. Ok (Straight (pad i) (port i))
 
-bent_told : {d e : Three} → coordinates (Bent d) ≡ coordinates (Bent e) → Bent d ≡ Bent e
-bent_told {d} {e} h =
-    let pad : d.pad ≡ e.pad = point_told (cc) (cc) in
-    let bend : d.bend ≡ e.bend = point_told (cc) (cc) in
-    let port : d.port ≡ e.port = point_told (cc) (cc) in
-    λ i. Bent (record { pad = pad i; bend = bend i; port = port i })
+bent_told : {a b c d e f : Point} → coordinates (Ok (Bent a b c)) ≡ coordinates (Ok (Bent d e f)) → ◌≡◌ {A = Drawn} (Ok (Bent a b c)) (Ok (Bent d e f))
+bent_told {a} {b} {c} {d} {e} {f} h =
+    let pad : a ≡ d = point_told (cc) (cc) in
+    let bend : b ≡ e = point_told (cc) (cc) in
+    let port : c ≡ f = point_told (cc) (cc) in
+    λ i. Ok (Bent (pad i) (bend i) (port i))
 
 -- and how many there are.
 told : (d e : Drawn) (s t : List ℕ) → LineWritten d s → LineWritten e t → coordinates d ≡ coordinates e → d ≡ e
-told (Straight d) (Straight e) s t v w h = straight_told h
-told (Straight d) (Bent e) s t v w h = absurd (omega (arith, ap length h))
-told (Bent d) (Straight e) s t v w h = absurd (omega (arith, ap length h))
-told (Bent d) (Bent e) s t v w h = bent_told h
-told (Straight d) (NotDrawn _) s t v w h = elim w [ ]
-told (Bent d) (NotDrawn _) s t v w h = elim w [ ]
-told (NotDrawn _) e s t v w h = elim v [ ]
+told (Ok (Straight a c)) (Ok (Straight d f)) s t v w h = straight_told h
+told (Ok (Straight a c)) (Ok (Bent d e f)) s t v w h = absurd (omega (arith, ap length h))
+told (Ok (Bent a b c)) (Ok (Straight d f)) s t v w h = absurd (omega (arith, ap length h))
+told (Ok (Bent a b c)) (Ok (Bent d e f)) s t v w h = bent_told h
+told (Ok (Straight a c)) (Err _) s t v w h = elim w [ ]
+told (Ok (Bent a b c)) (Err _) s t v w h = elim w [ ]
+told (Err _) e s t v w h = elim v [ ]
 
 -- THEOREM. No other points have that line.
 pub line_one : (d e : Drawn) (s : List ℕ) → LineWritten d s → LineWritten e s → d ≡ e
@@ -406,22 +402,22 @@ no_minus_zero (negsuc n) e = not_nought n (cc)
 -- ---- Draw's answer read back
 
 -- Measure's trials are passed: so are Draw's, of a record to its port.
-draw_passed : (job list : List ℕ) → Passed (measure_trials (records job) (by_weights 0 0) Unlent list) → (i room : ℕ) → i < count job → 6 ≤ room
+draw_passed : (job list : List ℕ) → Passed (measure_trials (records job) (by_weights 0 0) None list) → (i room : ℕ) → i < count job → 6 ≤ room
     → Passed (draw_trials job i (held list i) room)
 draw_passed job list p i room h six =
-    let (sizes, _, _, passed) = (sound_parts (records job) (by_weights 0 0) Unlent (length list)).0 (measure_accepted (records job) (by_weights 0 0) Unlent list p).0 in
-    let inside = measure_entries (records job) (by_weights 0 0) Unlent list p i h in
+    let (sizes, _, _, passed) = (sound_parts (records job) (by_weights 0 0) None (length list)).0 (measure_accepted (records job) (by_weights 0 0) None list p).0 in
+    let inside = measure_entries (records job) (by_weights 0 0) None list p i h in
     let number : ¬ ((count job ≤ i) ⊎ (count job ≤ held list i)) = ⊎_elim (λ l. omega arith) (λ l. omega arith) in
     (sizes.0, ((λ j l r. omega arith), passed_append (job_trials (records job)) (number_trial job i (held list i) ∷ []) passed ((λ j l r. number r), tt)))
 
 -- A drawn leader has two numbers a point.
 points_of : (l : Leader) (d : Drawn) → Draws l d → drawn_number d ≡ pos (length (coordinates d) / 2)
-points_of l (Straight d) w = refl
-points_of l (Bent d) w = refl
-points_of l (NotDrawn _) w = elim w [ ]
+points_of l (Ok (Straight p q)) w = refl
+points_of l (Ok (Bent p m q)) w = refl
+points_of l (Err _) w = elim w [ ]
 
 -- THEOREM. A line of what Svg wrote, read back, is what Draw answers for that record and its port: how many points, and their coordinates.
-pub svg_reads : (job list before : List ℕ) (k : ℕ) (after : List ℕ) → SvgAnswers job list before (Many k) after → (i : ℕ) → i < count job
+pub svg_reads : (job list before : List ℕ) (k : ℕ) (after : List ℕ) → SvgAnswers job list before (Ok k) after → (i : ℕ) → i < count job
     → (room : List Float) (m : ℤ) (points : List Float) → 6 ≤ length room → DrawPromise job i (held list i) room m points
     → let read = read_line (line_at (take k after) i) in (m ≡ pos (length read / 2)) × (points ≡ overwritten read room)
 svg_reads job list before k after (p, (s, (w, long), e)) i h room m points six (d, drawn, number) =

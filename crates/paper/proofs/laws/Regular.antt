@@ -1,11 +1,10 @@
 -- What the theorems ask of calls, and that those on a job are such.
 --     Regular   their trials can be told, their refusals numbered; what First accepts has a best layout and room for it; and Next accepts the best layouts
 --     regular   the calls on every job, by weights and by tables
-use Rattle.std.specs.Prelude.{◌↔◌, not, List, [], ◌∷◌, ◌++◌, ℕ, ◌≤◌, ◌<◌, length}
+use Rattle.std.specs.Prelude.{◌↔◌, not, List, [], ◌∷◌, ◌++◌, ℕ, ◌≤◌, ◌<◌, length, None}
 use Rattle.std.proofs.Math.Dec.{T}
 use Rattle.numbers.proofs.Tests.{not_iff}
-use Rattle.paper.specs.declared.Work.{Work}
-use Rattle.paper.specs.declared.Work.TheVariants.{Unlent}
+use Rattle.paper.specs.Answers.{Work}
 use Rattle.paper.specs.Job.{Job}
 use Rattle.paper.specs.Layouts.{board_of, held, Badness, cost_of, Untouching}
 use Rattle.paper.specs.Problem.{Best, labeling_of}
@@ -89,7 +88,7 @@ module _ (job : Job) (bad : Badness) (work : Work) where
   regular = record {
     numbered = numbered job bad work;
     first_decided = λ room. tests_decide (first_tests job bad work room) (first_trials job bad work room) (first_tests_lem room);
-    measure_decided = measure_decided job bad Unlent;
+    measure_decided = measure_decided job bad None;
     next_decided = λ list. tests_decide (next_tests job bad work list) (next_trials job bad work list) (next_tests_lem list);
     searchable = λ room p. searchable room (first_sound job bad work room p);
     some = λ room p. (accepted room (first_sound job bad work room p)).some;

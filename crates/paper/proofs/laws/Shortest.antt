@@ -2,13 +2,11 @@
 -- a square it need not be.
 --
 --     best_of_all, straightening_costs_no_length, bends_can_cost, tables_can_cost, squares_can_cost
-use Rattle.std.specs.Prelude.{◌≡◌, refl, ◌≢◌, List, [], ◌∷◌, ℕ, zero, suc, ◌+◌, ◌*◌, ◌<◌, length, pos}
+use Rattle.std.specs.Prelude.{◌≡◌, refl, ◌≢◌, List, [], ◌∷◌, ℕ, zero, suc, ◌+◌, ◌*◌, ◌<◌, length, pos, Some, None, Ok}
 use Rattle.std.proofs.Common.{sym, ap, ◌∙◌, inl, inr, mul-le-mul_left, arith}
 use Rattle.std.proofs.Math.Decide.{ℕ_discrete}
 use Rattle.numbers.proofs.Whole.{whole}
-use Rattle.paper.specs.declared.Answer.TheVariants.{Total}
-use Rattle.paper.specs.declared.Work.{Work}
-use Rattle.paper.specs.declared.Work.TheVariants.{Unlent}
+use Rattle.paper.specs.Answers.{Work}
 use Rattle.paper.specs.Job.{Job, records, last_of, twos, name_of, half_of, x_of, y_of, port_of}
 use Rattle.paper.specs.Leaders.{length_of, bends_of}
 use Rattle.paper.specs.Layouts.{Board, board_of, held, Touching, EachOnce, Untouching, sum, Badness, by_weights, by_table, weighted, cost_of, total, Proper, Same}
@@ -101,11 +99,11 @@ only_uncrossed f u = go (ℕ_discrete (f 0) 0) (u.layout.inside 0 (omega arith))
     go (no e) h k n = pair uncrossed (omega arith) (omega arith)
 
 -- The job is accepted, whatever fair weights or table are given.
-sound : Passed (sound_trials (records level_pad) (by_weights 0 0) Unlent 2)
+sound : Passed (sound_trials (records level_pad) (by_weights 0 0) None 2)
 unfolding somewhere outside job_tests sound_tests twos name_of half_of x_of y_of last_of port_of
 sound =
     let job = records level_pad in
-    tests_pass (sound_tests_of job (by_weights 0 0) Unlent 2) (sound_trials job (by_weights 0 0) Unlent 2) (sound_tests_lem job (by_weights 0 0) Unlent 2) tt
+    tests_pass (sound_tests_of job (by_weights 0 0) None 2) (sound_trials job (by_weights 0 0) None 2) (sound_tests_lem job (by_weights 0 0) None 2) tt
 
 -- Its pads are points.
 all_points : Points b
@@ -118,13 +116,13 @@ all_points (suc (suc i)) l = absurd (omega arith)
 costs_more : (bad : Badness) → Fair b bad → (t u : ℕ) → t ≡ total_of b bad uncrossed → u ≡ total_of b bad crossed → u < t
     → Costs level_pad bad t crossed u
 costs_more bad fair t u is sums less =
-    let passed : Passed (sound_trials (records level_pad) bad Unlent 2) = (sound.0, ((fair_iff b bad).1 fair, sound.1.1)) in
-    let exists = points_exist b (sound_accepted (records level_pad) bad Unlent 2 passed).0.proper all_points in
-    let (v, after, answers) = first_made (calls_of (records level_pad) bad Unlent) (regular (records level_pad) bad Unlent) (9 ∷ 9 ∷ [])
-    (first_passed (records level_pad) bad Unlent 2 passed (λ none. none exists.0 exists.1)) in
+    let passed : Passed (sound_trials (records level_pad) bad None 2) = (sound.0, ((fair_iff b bad).1 fair, sound.1.1)) in
+    let exists = points_exist b (sound_accepted (records level_pad) bad None 2 passed).0.proper all_points in
+    let (v, after, answers) = first_made (calls_of (records level_pad) bad None) (regular (records level_pad) bad None) (9 ∷ 9 ∷ [])
+    (first_passed (records level_pad) bad None 2 passed (λ none. none exists.0 exists.1)) in
     let same = answers.2 ∙ total_same b (cost_of b bad) (held after) (held uncrossed) (only_uncrossed (held after) answers.1.best.counts) in
     record {
-      first = (9 ∷ 9 ∷ [], after, (Total v, answers, ap pos (is ∙ sym same)));
+      first = (9 ∷ 9 ∷ [], after, (Ok (Some v), answers, ap pos (is ∙ sym same)));
       once = crossed_once b refl refl;
       touch = (1, 0, omega arith, omega arith, crossed_touch);
       sums = sums;
@@ -148,7 +146,7 @@ copper_touch = inr (inl (record { x = 14; y = pos 20 }, inr (refl, omega arith),
 pub squares_can_cost : SquaresCanCost
 unfolding sum weighted length_of bends_of x_of y_of port_of twos
 squares_can_cost = record {
-  first = (9 ∷ 9 ∷ [], 1 ∷ 0 ∷ [], (Total 84, copper-first, refl));
+  first = (9 ∷ 9 ∷ [], 1 ∷ 0 ∷ [], (Ok (Some 84), copper-first, refl));
   once = crossed_once (board_of (records (copper 4))) refl refl;
   touch = (1, 0, omega arith, omega arith, copper_touch);
   sums = refl;

@@ -1,6 +1,6 @@
 -- What is written of a leader, and of a sheet: `line_text` and `sheet_text` satisfy the paper's words, and nothing else does.
 --     line_is, line_only;  sheet_is, sheet_only, sheet_one;  line_short, lines_short: how long they are
-use Rattle.std.specs.Prelude.{◌≡◌, refl, Bool, List, ◌++◌, ℕ, zero, suc, ◌*◌, ◌/◌, ◌%◌, ◌≤◌, ◌<◌, length, ℤ, pos, negsuc, neg_ℤ, nat_abs, Float}
+use Rattle.std.specs.Prelude.{◌≡◌, refl, Bool, List, ◌++◌, ℕ, zero, suc, ◌*◌, ◌/◌, ◌%◌, ◌≤◌, ◌<◌, length, ℤ, pos, negsuc, neg_ℤ, nat_abs, Float, Ok, Err}
 use Rattle.std.proofs.Common.{sym, ap, ◌∙◌, true≢false, le_trans, le_of_eq, arith, length-append}
 use Rattle.std.proofs.lemmas.Bool.{false≢true}
 use Rattle.std.proofs.Math.Nat.{suc_inj, eq_of_mul-eq-mul_right}
@@ -13,9 +13,9 @@ use Rattle.std.specs.Float.Ieee.Fits.{down_pos}
 use Rattle.numbers.proofs.Signs.{nat_abs_neg}
 use Rattle.text.specs.Text.{bytes, joined}
 use Rattle.text.specs.Digits.{decimal_few}
+use Rattle.paper.specs.declared.Polyline.TheVariants.{Straight, Bent}
 use Rattle.paper.specs.declared.Point.{Point}
-use Rattle.paper.specs.declared.Drawn.{Drawn}
-use Rattle.paper.specs.declared.Drawn.TheVariants.{Straight, Bent, Refused as NotDrawn}
+use Rattle.paper.specs.Answers.{Drawn}
 use Rattle.paper.specs.Leaders.{Leader}
 use Rattle.paper.specs.Layouts.{Board, leader}
 use Rattle.paper.specs.Canvas.{negative, FourTimesIs, StandsFor, Draws}
@@ -67,9 +67,9 @@ bend_text l = by_bend_lem l (straight_text l) (bent_text l)
 
 -- What draws a leader is written so, and in no other way.
 pub line_is : (l : Leader) (d : Drawn) → Draws l d → LineWritten d (line_text l)
-line_is l (Straight d) w =
+line_is l (Ok (Straight p q)) w =
     rw (level_text l w.level) (point_text l.x l.y, point_text 0 l.port, point_is l.x l.y w.pad, point_is 0 l.port w.port, refl)
-line_is l (Bent d) w =
+line_is l (Ok (Bent p m q)) w =
     rw (bend_text l w.bends) (
       point_text l.x l.y,
       point_text l.x l.port,
@@ -79,19 +79,19 @@ line_is l (Bent d) w =
       point_is 0 l.port w.port,
       refl,
     )
-line_is l (NotDrawn r) w = absurd w
+line_is l (Err r) w = absurd w
 
 pub line_only : (l : Leader) (d : Drawn) (s : List ℕ) → Draws l d → LineWritten d s → s ≡ line_text l
-line_only l (Straight d) s w (a, c, pad-is, port_is, e) =
+line_only l (Ok (Straight p q)) s w (a, c, pad-is, port_is, e) =
     let pad = point_only l.x l.y w.pad pad-is in
     let port = point_only 0 l.port w.port port_is in
     e ∙ (λ i. line (pad i ++ bytes " " ++ port i)) ∙ sym (level_text l w.level)
-line_only l (Bent d) s w (a, m, c, pad-is, bend-is, port_is, e) =
+line_only l (Ok (Bent p m q)) s w (a, b, c, pad-is, bend-is, port_is, e) =
     let pad = point_only l.x l.y w.pad pad-is in
     let bend = point_only l.x l.port w.bend bend-is in
     let port = point_only 0 l.port w.port port_is in
     e ∙ (λ i. line (pad i ++ bytes " " ++ bend i ++ bytes " " ++ port i)) ∙ sym (bend_text l w.bends)
-line_only l (NotDrawn r) s w x = absurd w
+line_only l (Err r) s w x = absurd w
 
 -- ---- a sheet
 

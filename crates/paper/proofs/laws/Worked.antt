@@ -1,15 +1,10 @@
 -- THE WORKED SHEETS, P1 to P12 and those of 02, by one theorem over one list, and Page's, Count's, Place's, Svg's and ReadCsv's by others: a test that the checker computes for each
 -- sheet, and a lemma that turns the test into the call's promise.
 --     worked, worked_pages, worked_counts, worked_places, worked_svg, worked_csv
-use Rattle.std.specs.Prelude.{◌≡◌, refl, Bool, true, false, ◌&&◌, ◌||◌, List, [], ◌∷◌, ◌++◌, ℕ, zero, suc, ◌+◌, ◌*◌, ◌-◌, ◌≤◌, ◌<◌, T, eqb, leb, ltb, length, get_or, take, drop}
+use Rattle.std.specs.Prelude.{◌≡◌, refl, Bool, true, false, ◌&&◌, ◌||◌, List, [], ◌∷◌, ◌++◌, ℕ, zero, suc, ◌+◌, ◌*◌, ◌-◌, ◌≤◌, ◌<◌, T, eqb, leb, ltb, length, get_or, take, drop, Some, None, Ok, Err}
 use Rattle.std.proofs.Common.{sym, ap, subst, ◌∙◌, arith, eqb→eq, leb→le, get_or-take, get_or-drop}
 use Rattle.numbers.proofs.Tests.{both, or_iff, ltb_iff}
-use Rattle.paper.specs.declared.Answer.{Answer}
-use Rattle.paper.specs.declared.Answer.TheVariants.{Total, End, Refused}
-use Rattle.paper.specs.declared.Counted.{Counted}
-use Rattle.paper.specs.declared.Counted.TheVariants.{Many, Refused as NotCounted}
-use Rattle.paper.specs.declared.Work.{Work}
-use Rattle.paper.specs.declared.Work.TheVariants.{Unlent}
+use Rattle.paper.specs.Answers.{Work, Answer, Counted}
 use Rattle.paper.specs.Job.{Job, records, twos, name_of, half_of, x_of, y_of, last_of, port_of}
 use Rattle.paper.specs.Layouts.{Board, board_of, held, Badness, by_weights, weighted, cost_of, sum, Same, Differ}
 use Rattle.paper.specs.Problem.{Problem, FirstBest, LastBest, PlaceBest, CountBest, labeling_of}
@@ -54,24 +49,24 @@ abbrev same_rest : ℕ → List ℕ → List ℕ → Bool
 same_rest n l m = eqb (length m) (length l) && same_list (drop n m) (drop n l)
 
 abbrev first_holds : Job → Badness → Work → List ℕ → Answer → List ℕ → Bool
-first_holds job bad work l (Total t) m =
+first_holds job bad work l (Ok (Some t)) m =
     passes (first_tests job bad work (length l))
     && (first_test (labeling_of job bad) (untouching_test (board_of job)) (held m) && (eqb t (total_of (board_of job) bad m) && same_rest (board_of job).pads l m))
-first_holds job bad work l End m = false
-first_holds job bad work l (Refused r) m = refuses (first_tests job bad work (length l)) r && same_list m l
+first_holds job bad work l (Ok None) m = false
+first_holds job bad work l (Err r) m = refuses (first_tests job bad work (length l)) r && same_list m l
 
 abbrev next_holds : Job → Badness → Work → List ℕ → Answer → List ℕ → Bool
-next_holds job bad work l (Total t) m =
+next_holds job bad work l (Ok (Some t)) m =
     passes (next_tests job bad work l)
     && (next_test (labeling_of job bad) (untouching_test (board_of job)) (held l) (held m) && (eqb t (total_of (board_of job) bad m) && same_rest (board_of job).pads l m))
-next_holds job bad work l End m =
+next_holds job bad work l (Ok None) m =
     passes (next_tests job bad work l) && (last_test (labeling_of job bad) (untouching_test (board_of job)) (held l) && same_list m l)
-next_holds job bad work l (Refused r) m = refuses (next_tests job bad work l) r && same_list m l
+next_holds job bad work l (Err r) m = refuses (next_tests job bad work l) r && same_list m l
 
 abbrev measure_holds : Job → Badness → List ℕ → Answer → Bool
-measure_holds job bad l (Total t) = passes (measure_tests_of job bad Unlent l) && eqb t (total_of (board_of job) bad l)
-measure_holds job bad l End = false
-measure_holds job bad l (Refused r) = refuses (measure_tests_of job bad Unlent l) r
+measure_holds job bad l (Ok (Some t)) = passes (measure_tests_of job bad None l) && eqb t (total_of (board_of job) bad l)
+measure_holds job bad l (Ok None) = false
+measure_holds job bad l (Err r) = refuses (measure_tests_of job bad None l) r
 
 -- k layouts that follow f 0
 abbrev follow_test : Problem → ((ℕ → ℕ) → Bool) → (ℕ → ℕ → ℕ) → ℕ → Bool
@@ -85,9 +80,9 @@ page_test p counts given l k m =
     && ((ltb (length l) (suc k * p.board.pads) || last_test p counts (in_turn p.board.pads given m k)) && same_rest (k * p.board.pads) l m)
 
 abbrev page_holds : Job → Badness → Work → List ℕ → List ℕ → Counted → List ℕ → Bool
-page_holds job bad work given l (Many k) m =
+page_holds job bad work given l (Ok k) m =
     passes (next_tests job bad work given) && page_test (labeling_of job bad) (untouching_test (board_of job)) given l k m
-page_holds job bad work given l (NotCounted r) m = refuses (next_tests job bad work given) r && same_list m l
+page_holds job bad work given l (Err r) m = refuses (next_tests job bad work given) r && same_list m l
 
 -- these layouts are all the best ones, in order
 abbrev entry : List (List ℕ) → ℕ → ℕ → ℕ
@@ -99,33 +94,33 @@ run_test p counts l ls =
 
 -- of a job with k best layouts; for Place, these ones
 abbrev count_tests : Job → Badness → ℕ → ℕ → List Test
-count_tests job bad k numbers = first_tests job bad Unlent (board_of job).pads ++ number_tests (board_of job).pads numbers k
+count_tests job bad k numbers = first_tests job bad None (board_of job).pads ++ number_tests (board_of job).pads numbers k
 
 abbrev count_holds : Job → Badness → ℕ → ℕ → Counted → Bool
-count_holds job bad k numbers (Many j) = passes (count_tests job bad k numbers) && eqb j k
-count_holds job bad k numbers (NotCounted r) = refuses (count_tests job bad k numbers) r
+count_holds job bad k numbers (Ok j) = passes (count_tests job bad k numbers) && eqb j k
+count_holds job bad k numbers (Err r) = refuses (count_tests job bad k numbers) r
 
 abbrev place_tests : Job → Badness → ℕ → ℕ → ℕ → ℕ → List Test
-place_tests job bad k numbers place room = first_tests job bad Unlent room ++ later_tests (board_of job).pads numbers k place
+place_tests job bad k numbers place room = first_tests job bad None room ++ later_tests (board_of job).pads numbers k place
 
 abbrev svg_holds : List ℕ → List ℕ → List ℕ → Counted → List ℕ → Bool
-svg_holds job list l (Many k) m =
+svg_holds job list l (Ok k) m =
     let s = sheet_text (board_of (records job)) (held list) in passes (svg_tests job list (length l)) && (eqb k (length s) && same_list m (overwritten s l))
-svg_holds job list l (NotCounted r) m = refuses (svg_tests job list (length l)) r && same_list m l
+svg_holds job list l (Err r) m = refuses (svg_tests job list (length l)) r && same_list m l
 
 abbrev csv_holds : List ℕ → Listed → List ℕ → Counted → List ℕ → Bool
-csv_holds text (good rows) l (Many k) m =
+csv_holds text (good rows) l (Ok k) m =
     leb (length text) 16384 && (passes (wide_tests (length rows) (rows_bytes rows) (length l)) && (eqb k (length rows) && same_list m (overwritten (rows_bytes rows) l)))
-csv_holds text (good rows) l (NotCounted r) m = leb (length text) 16384 && (refuses (wide_tests (length rows) (rows_bytes rows) (length l)) r && same_list m l)
-csv_holds text (badAt j) l (Many k) m = false
-csv_holds text (badAt j) l (NotCounted r) m = leb (length text) 16384 && ((eqb r.reason 21 && (eqb r.at (suc j) && eqb r.earlier 0)) && same_list m l)
+csv_holds text (good rows) l (Err r) m = leb (length text) 16384 && (refuses (wide_tests (length rows) (rows_bytes rows) (length l)) r && same_list m l)
+csv_holds text (badAt j) l (Ok k) m = false
+csv_holds text (badAt j) l (Err r) m = leb (length text) 16384 && ((eqb r.reason 21 && (eqb r.at (suc j) && eqb r.earlier 0)) && same_list m l)
 
 abbrev place_holds : Job → Badness → List (List ℕ) → ℕ → ℕ → List ℕ → Answer → List ℕ → Bool
-place_holds job bad ls numbers place l (Total t) m =
+place_holds job bad ls numbers place l (Ok (Some t)) m =
     passes (place_tests job bad (length ls) numbers place (length l))
     && ((ltb place (length ls) && same_list (take (board_of job).pads m) (get_or ls place [])) && (eqb t (total_of (board_of job) bad m) && same_rest (board_of job).pads l m))
-place_holds job bad ls numbers place l End m = false
-place_holds job bad ls numbers place l (Refused r) m = refuses (place_tests job bad (length ls) numbers place (length l)) r && same_list m l
+place_holds job bad ls numbers place l (Ok None) m = false
+place_holds job bad ls numbers place l (Err r) m = refuses (place_tests job bad (length ls) numbers place (length l)) r && same_list m l
 
 abbrev holds_for : Call → Sheet → Bool
 holds_for First s = first_holds s.job s.bad s.work s.before s.answer s.after
@@ -136,7 +131,7 @@ abbrev holds : Sheet → Bool
 holds s = holds_for s.call s
 
 abbrev page_sheet_holds : PageSheet → Bool
-page_sheet_holds s = page_holds s.job s.bad Unlent s.given s.before s.answer s.after
+page_sheet_holds s = page_holds s.job s.bad None s.given s.before s.answer s.after
 
 abbrev all_hold : {S : Type 0} → (S → Bool) → List S → Bool
 all_hold test [] = true
@@ -173,7 +168,7 @@ module _ (job : Job) (bad : Badness) (work : Work) (l : List ℕ) where
   searchable = labeling_searchable b (cost_of b bad)
 
   first_holds_lem : (a : Answer) (m : List ℕ) → T (first_holds job bad work l a m) → FirstAnswers job bad work l a m
-  first_holds_lem (Total t) m h =
+  first_holds_lem (Ok (Some t)) m h =
       let c = eqb t (total_of (board_of job) bad m) in
       let d = same_rest (board_of job).pads l m in
       let e = first_test p counts (held m) in
@@ -183,14 +178,14 @@ module _ (job : Job) (bad : Badness) (work : Work) (l : List ℕ) where
       let q = tests_pass (first_tests job bad work (length l)) (first_trials job bad work (length l)) (first_tests_lem job bad work (length l)) u.0 in
       let differ = (sound_accepted job bad work (length l) (first_sound job bad work (length l) q)).0.proper.differ in
       (q, (first_iff p (searchable differ) (held m)).0 w.0, eqb→eq t (total_of (board_of job) bad m) x.0, same_rest_lem (board_of job).pads l m x.1)
-  first_holds_lem End m h = absurd h
-  first_holds_lem (Refused r) m h =
+  first_holds_lem (Ok None) m h = absurd h
+  first_holds_lem (Err r) m h =
       let u = (both (refuses (first_tests job bad work (length l)) r) (same_list m l)).0 h in
       let q = tests_refuse (first_tests job bad work (length l)) (first_trials job bad work (length l)) r (first_tests_lem job bad work (length l)) u.0 in
       (q, same_list_lem m l u.1)
 
   next_holds_lem : (a : Answer) (m : List ℕ) → T (next_holds job bad work l a m) → NextAnswers job bad work l a m
-  next_holds_lem (Total t) m h =
+  next_holds_lem (Ok (Some t)) m h =
       let c = eqb t (total_of (board_of job) bad m) in
       let d = same_rest (board_of job).pads l m in
       let e = next_test p counts (held l) (held m) in
@@ -199,13 +194,13 @@ module _ (job : Job) (bad : Badness) (work : Work) (l : List ℕ) where
       let x = (both c d).0 w.1 in
       let q = tests_pass (next_tests job bad work l) (next_trials job bad work l) (next_tests_lem job bad work l) u.0 in
       (q, (next_iff p (searchable (next_differ job bad work l q)) (held l) (held m)).0 w.0, eqb→eq t (total_of (board_of job) bad m) x.0, same_rest_lem (board_of job).pads l m x.1)
-  next_holds_lem End m h =
+  next_holds_lem (Ok None) m h =
       let e = last_test p counts (held l) in
       let u = (both (passes (next_tests job bad work l)) (e && same_list m l)).0 h in
       let w = (both e (same_list m l)).0 u.1 in
       let q = tests_pass (next_tests job bad work l) (next_trials job bad work l) (next_tests_lem job bad work l) u.0 in
       (q, (last_iff p (searchable (next_differ job bad work l q)) (held l)).0 w.0, same_list_lem m l w.1)
-  next_holds_lem (Refused r) m h =
+  next_holds_lem (Err r) m h =
       let u = (both (refuses (next_tests job bad work l) r) (same_list m l)).0 h in
       (tests_refuse (next_tests job bad work l) (next_trials job bad work l) r (next_tests_lem job bad work l) u.0, same_list_lem m l u.1)
 
@@ -233,20 +228,20 @@ module _ (job : Job) (bad : Badness) (work : Work) (l : List ℕ) where
         }
 
   page_holds_lem : (before : List ℕ) (a : Counted) (m : List ℕ) → T (page_holds job bad work l before a m) → PageAnswers job bad work l before a m
-  page_holds_lem before (Many k) m h =
+  page_holds_lem before (Ok k) m h =
       let u = (both (passes (next_tests job bad work l)) (page_test p counts l before k m)).0 h in
       let q = tests_pass (next_tests job bad work l) (next_trials job bad work l) (next_tests_lem job bad work l) u.0 in
       (q, page_told (next_differ job bad work l q) before k m u.1)
-  page_holds_lem before (NotCounted r) m h =
+  page_holds_lem before (Err r) m h =
       let u = (both (refuses (next_tests job bad work l) r) (same_list m before)).0 h in
       (tests_refuse (next_tests job bad work l) (next_trials job bad work l) r (next_tests_lem job bad work l) u.0, same_list_lem m before u.1)
 
   measure_holds_lem : (a : Answer) → T (measure_holds job bad l a) → MeasureAnswers job bad l a
-  measure_holds_lem (Total t) h =
-      let u = (both (passes (measure_tests_of job bad Unlent l)) (eqb t (total_of (board_of job) bad l))).0 h in
-      (tests_pass (measure_tests_of job bad Unlent l) (measure_trials job bad Unlent l) (measure_tests_lem job bad Unlent l) u.0, eqb→eq t (total_of (board_of job) bad l) u.1)
-  measure_holds_lem End h = absurd h
-  measure_holds_lem (Refused r) h = tests_refuse (measure_tests_of job bad Unlent l) (measure_trials job bad Unlent l) r (measure_tests_lem job bad Unlent l) h
+  measure_holds_lem (Ok (Some t)) h =
+      let u = (both (passes (measure_tests_of job bad None l)) (eqb t (total_of (board_of job) bad l))).0 h in
+      (tests_pass (measure_tests_of job bad None l) (measure_trials job bad None l) (measure_tests_lem job bad None l) u.0, eqb→eq t (total_of (board_of job) bad l) u.1)
+  measure_holds_lem (Ok None) h = absurd h
+  measure_holds_lem (Err r) h = tests_refuse (measure_tests_of job bad None l) (measure_trials job bad None l) r (measure_tests_lem job bad None l) h
 
   -- Layouts that pass their test are at their places, and as many as the count.
   module _ (differ : Differ b) (ls : List (List ℕ)) (h : T (run_test p counts l ls)) where
@@ -277,10 +272,10 @@ holds_allowed First s h = (s.answer, first_holds_lem s.job s.bad s.work s.before
 holds_allowed Next s h = (s.answer, next_holds_lem s.job s.bad s.work s.before s.answer s.after h, refl)
 holds_allowed Measure s h =
     let u = (both (measure_holds s.job s.bad s.before s.answer) (same_list s.after s.before)).0 h in
-    ((s.answer, measure_holds_lem s.job s.bad Unlent s.before s.answer u.0, refl), same_list_lem s.after s.before u.1)
+    ((s.answer, measure_holds_lem s.job s.bad None s.before s.answer u.0, refl), same_list_lem s.after s.before u.1)
 
 page_allowed : (s : PageSheet) → T (page_sheet_holds s) → PageAllowed s
-page_allowed s h = (s.answer, page_holds_lem s.job s.bad Unlent s.given s.before s.answer s.after h, refl)
+page_allowed s h = (s.answer, page_holds_lem s.job s.bad None s.given s.before s.answer s.after h, refl)
 
 -- Count's and Place's, of a job whose best layouts are these.
 module _ (job : Job) (bad : Badness) (ls : List (List ℕ)) (is : CountBest (labeling_of job bad) (length ls))
@@ -289,18 +284,18 @@ module _ (job : Job) (bad : Badness) (ls : List (List ℕ)) (is : CountBest (lab
   n = (board_of job).pads
 
   abbrev calls : Calls
-  calls = calls_of job bad Unlent
+  calls = calls_of job bad None
 
   count_tests_lem : TestsOf (count_tests job bad (length ls) numbers) (count_trials calls numbers)
   count_tests_lem =
-      tests_append (first_tests job bad Unlent n) (number_tests n numbers (length ls)) (first_trials job bad Unlent n) (number_trials (labeling_of job bad) numbers)
-      (first_tests_lem job bad Unlent n) (λ _. number_tests_lem (labeling_of job bad) (length ls) is numbers)
+      tests_append (first_tests job bad None n) (number_tests n numbers (length ls)) (first_trials job bad None n) (number_trials (labeling_of job bad) numbers)
+      (first_tests_lem job bad None n) (λ _. number_tests_lem (labeling_of job bad) (length ls) is numbers)
 
   count-holds : (a : Counted) → T (count_holds job bad (length ls) numbers a) → CountAnswers job bad numbers a
-  count-holds (Many j) h =
+  count-holds (Ok j) h =
       let u = (both (passes (count_tests job bad (length ls) numbers)) (eqb j (length ls))).0 h in
       (tests_pass (count_tests job bad (length ls) numbers) (count_trials calls numbers) count_tests_lem u.0, rw (eqb→eq j (length ls) u.1) is)
-  count-holds (NotCounted r) h = tests_refuse (count_tests job bad (length ls) numbers) (count_trials calls numbers) r count_tests_lem h
+  count-holds (Err r) h = tests_refuse (count_tests job bad (length ls) numbers) (count_trials calls numbers) r count_tests_lem h
 
   module _ (place : ℕ) (l : List ℕ) where
     abbrev tests : List Test
@@ -311,12 +306,12 @@ module _ (job : Job) (bad : Badness) (ls : List (List ℕ)) (is : CountBest (lab
 
     place_tests_lem : TestsOf tests trials
     place_tests_lem =
-        tests_append (first_tests job bad Unlent (length l)) (later_tests n numbers (length ls) place)
-        (first_trials job bad Unlent (length l)) (later_trials (labeling_of job bad) numbers place)
-        (first_tests_lem job bad Unlent (length l)) (λ _. later_tests_lem (labeling_of job bad) (length ls) is numbers place)
+        tests_append (first_tests job bad None (length l)) (later_tests n numbers (length ls) place)
+        (first_trials job bad None (length l)) (later_trials (labeling_of job bad) numbers place)
+        (first_tests_lem job bad None (length l)) (λ _. later_tests_lem (labeling_of job bad) (length ls) is numbers place)
 
     place-holds : (a : Answer) (m : List ℕ) → T (place_holds job bad ls numbers place l a m) → PlaceAnswers job bad numbers place l a m
-    place-holds (Total t) m h =
+    place-holds (Ok (Some t)) m h =
         let c = ltb place (length ls) in
         let d = same_list (take n m) (get_or ls place []) in
         let e = eqb t (total_of (board_of job) bad m) in
@@ -332,19 +327,19 @@ module _ (job : Job) (bad : Badness) (ls : List (List ℕ)) (is : CountBest (lab
           eqb→eq t (total_of (board_of job) bad m) y.0,
           same_rest_lem n l m y.1,
         )
-    place-holds End m h = absurd h
-    place-holds (Refused r) m h =
+    place-holds (Ok None) m h = absurd h
+    place-holds (Err r) m h =
         let u = (both (refuses tests r) (same_list m l)).0 h in
         (tests_refuse tests trials r place_tests_lem u.0, same_list_lem m l u.1)
 
 svg_holds_lem : (job list l : List ℕ) (a : Counted) (m : List ℕ) → T (svg_holds job list l a m) → SvgAnswers job list l a m
-svg_holds_lem job list l (Many k) m h =
+svg_holds_lem job list l (Ok k) m h =
     let s = sheet_text (board_of (records job)) (held list) in
     let u = (both (passes (svg_tests job list (length l))) (eqb k (length s) && same_list m (overwritten s l))).0 h in
     let v = (both (eqb k (length s)) (same_list m (overwritten s l))).0 u.1 in
     let (measured, fits) = svg_measured job list (length l) (tests_pass (svg_tests job list (length l)) (svg_trials job list (length l)) (svg_tests_lem job list (length l)) u.0) in
     rw (eqb→eq k (length s) v.0, same_list_lem m (overwritten s l) v.1) (svg_made job list l measured fits)
-svg_holds_lem job list l (NotCounted r) m h =
+svg_holds_lem job list l (Err r) m h =
     let u = (both (refuses (svg_tests job list (length l)) r) (same_list m l)).0 h in
     (tests_refuse (svg_tests job list (length l)) (svg_trials job list (length l)) r (svg_tests_lem job list (length l)) u.0, same_list_lem m l u.1)
 
@@ -352,7 +347,7 @@ csv_holds_lem : (text l : List ℕ) (a : Counted) (m : List ℕ) → T (csv_hold
 csv_holds_lem text l a m = go (listed text) refl a
   where
     go : (o : Listed) → listed text ≡ o → (a : Counted) → T (csv_holds text o l a m) → CsvAnswers text l a m
-    go (good rows) e (Many k) h =
+    go (good rows) e (Ok k) h =
         let tests = wide_tests (length rows) (rows_bytes rows) (length l) in
         let u = (both (leb (length text) 16384) (passes tests && (eqb k (length rows) && same_list m (overwritten (rows_bytes rows) l)))).0 h in
         let v = (both (passes tests) (eqb k (length rows) && same_list m (overwritten (rows_bytes rows) l))).0 u.1 in
@@ -361,7 +356,7 @@ csv_holds_lem text l a m = go (listed text) refl a
         let passed = passed_append (text_trials text) (read_trials text (length l)) (text_passed text pads (leb→le (length text) 16384 u.0) reads)
         (tests_pass tests (read_trials text (length l)) says v.0) in
         rw (eqb→eq k (length rows) w.0, same_list_lem m (overwritten (rows_bytes rows) l) w.1) (passed, (rows_bytes rows, csv_made text rows (length l) e passed, refl))
-    go (good rows) e (NotCounted r) h =
+    go (good rows) e (Err r) h =
         let tests = wide_tests (length rows) (rows_bytes rows) (length l) in
         let u = (both (leb (length text) 16384) (refuses tests r && same_list m l)).0 h in
         let v = (both (refuses tests r) (same_list m l)).0 u.1 in
@@ -370,8 +365,8 @@ csv_holds_lem text l a m = go (listed text) refl a
               (tests_refuse tests (read_trials text (length l)) r says v.0),
           same_list_lem m l v.1,
         )
-    go (badAt j) e (Many k) h = absurd h
-    go (badAt j) e (NotCounted r) h =
+    go (badAt j) e (Ok k) h = absurd h
+    go (badAt j) e (Err r) h =
         let named = eqb r.at (suc j) && eqb r.earlier 0 in
         let u = (both (leb (length text) 16384) ((eqb r.reason 21 && named) && same_list m l)).0 h in
         let v = (both (eqb r.reason 21 && named) (same_list m l)).0 u.1 in
@@ -414,8 +409,8 @@ abbrev place_sheet_holds : PlaceSheet → Bool
 place_sheet_holds s = place_holds three even (earliest ∷ others) s.numbers s.place s.before s.answer s.after
 
 -- Each passes its test; and so does the example of squares that cost length.
-all_hold_lem : T (all_hold holds sheets) × T (all_hold page_sheet_holds pages) × T (holds (sheet First (copper 4) 1 0 (9 ∷ 9 ∷ []) (Total 84) (1 ∷ 0 ∷ [])))
-    × T (passes (first_tests three even Unlent 3)) × T (run_test (labeling_of three even) (untouching_test (board_of three)) earliest others)
+all_hold_lem : T (all_hold holds sheets) × T (all_hold page_sheet_holds pages) × T (holds (sheet First (copper 4) 1 0 (9 ∷ 9 ∷ []) (Ok (Some 84)) (1 ∷ 0 ∷ [])))
+    × T (passes (first_tests three even None 3)) × T (run_test (labeling_of three even) (untouching_test (board_of three)) earliest others)
     × T (all_hold count_sheet_holds count_sheets) × T (all_hold place_sheet_holds place_sheets) × T (all_hold svg_sheet_holds svg_sheets)
     × T (all_hold csv_sheet_holds csv_sheets)
 unfolding heads words any some_word least_test misled untouching_test differ_right decided_at before_test cheaper best_test first_test later_test next_test last_test
@@ -424,8 +419,8 @@ unfolding heads words any some_word least_test misled untouching_test differ_rig
     listed list_from line_front field_front word_front digits_front natural_front signed_front cap fitting
 all_hold_lem = (tt, tt, tt, tt, tt, tt, tt, tt, tt)
 
-pub copper-first : FirstAnswers (records (copper 4)) (by_weights 1 0) Unlent (9 ∷ 9 ∷ []) (Total 84) (1 ∷ 0 ∷ [])
-copper-first = first_holds_lem (records (copper 4)) (by_weights 1 0) Unlent (9 ∷ 9 ∷ []) (Total 84) (1 ∷ 0 ∷ []) all_hold_lem.2
+pub copper-first : FirstAnswers (records (copper 4)) (by_weights 1 0) None (9 ∷ 9 ∷ []) (Ok (Some 84)) (1 ∷ 0 ∷ [])
+copper-first = first_holds_lem (records (copper 4)) (by_weights 1 0) None (9 ∷ 9 ∷ []) (Ok (Some 84)) (1 ∷ 0 ∷ []) all_hold_lem.2
 
 -- THEOREM. Every sheet of the list is a reply that its call's promise allows. (It allows no other: laws/Determined.)
 pub worked : Each Allowed sheets
@@ -438,14 +433,14 @@ worked_pages = all_allowed page_sheet_holds PageAllowed page_allowed pages all_h
 -- THEOREM. So is every sheet of Count's list, and of Place's.
 three_differ : Differ (board_of three)
 three_differ =
-    let first = tests_pass (first_tests three even Unlent 3) (first_trials three even Unlent 3) (first_tests_lem three even Unlent 3) all_hold_lem.3 in
-    (sound_accepted three even Unlent 3 (first_sound three even Unlent 3 first)).0.proper.differ
+    let first = tests_pass (first_tests three even None 3) (first_trials three even None 3) (first_tests_lem three even None 3) all_hold_lem.3 in
+    (sound_accepted three even None 3 (first_sound three even None 3 first)).0.proper.differ
 
 three-count : CountBest (labeling_of three even) 3
-three-count = run_count three even Unlent earliest three_differ others all_hold_lem.4
+three-count = run_count three even None earliest three_differ others all_hold_lem.4
 
 three-place : (k : ℕ) → k < 3 → PlaceBest (labeling_of three even) k (entry (earliest ∷ others) k)
-three-place = run_place three even Unlent earliest three_differ others all_hold_lem.4
+three-place = run_place three even None earliest three_differ others all_hold_lem.4
 
 pub worked_counts : Each CountAllowed count_sheets
 worked_counts =

@@ -1,6 +1,6 @@
 -- What it is that tests say what trials say. That the tests of each call do is proofs/laws/Decided.
 use Rattle.std.specs.Prelude.{◌≡◌, ◌↔◌, Bool, ◌&&◌, List, [], ◌∷◌, ℕ, ◌<◌, T, eqb, ltb}
-use Rattle.paper.specs.declared.Work.{Work}
+use Rattle.paper.specs.Answers.{Work}
 use Rattle.paper.specs.Job.{Job, form_of, pads_of, ports_of}
 use Rattle.paper.specs.Layouts.{board_of, Badness}
 use Rattle.paper.specs.Refusals.{Trial, Clean}

@@ -1,11 +1,10 @@
 -- What is drawn of a leader. That it satisfies the words of Canvas, and nothing else does, is proofs/laws/Drawn.
-use Rattle.std.specs.Prelude.{ℕ, ◌≤◌, eqb, pos, neg_ℤ, nat_abs, ℤ}
+use Rattle.std.specs.Prelude.{ℕ, ◌≤◌, eqb, pos, neg_ℤ, nat_abs, ℤ, Ok}
 use Rattle.std.proofs.Math.Bool.{cond}
 use Rattle.paper.specs.declared.Point.{Point}
-use Rattle.paper.specs.declared.Two.{Two}
-use Rattle.paper.specs.declared.Three.{Three}
-use Rattle.paper.specs.declared.Drawn.{Drawn}
-use Rattle.paper.specs.declared.Drawn.TheVariants.{Straight, Bent}
+use Rattle.paper.specs.declared.Polyline.{Polyline}
+use Rattle.paper.specs.declared.Polyline.TheVariants.{Straight, Bent}
+use Rattle.paper.specs.Answers.{Drawn}
 use Rattle.paper.specs.Leaders.{Leader, distance}
 use Rattle.paper.specs.laws.Quarter.{quarter}
 
@@ -14,11 +13,11 @@ unfoldable pub canvas : ℕ → ℤ → Point
 canvas x y = record { x = quarter (pos x); y = quarter (neg_ℤ y) }
 
 -- The points of a leader without a bend, and of one with a bend.
-abbrev pub two_of : Leader → Two
-two_of l = record { pad = canvas l.x l.y; port = canvas 0 l.port }
+abbrev pub two_of : Leader → Polyline
+two_of l = Straight (canvas l.x l.y) (canvas 0 l.port)
 
-abbrev pub three_of : Leader → Three
-three_of l = record { pad = canvas l.x l.y; bend = canvas l.x l.port; port = canvas 0 l.port }
+abbrev pub three_of : Leader → Polyline
+three_of l = Bent (canvas l.x l.y) (canvas l.x l.port) (canvas 0 l.port)
 
 -- One of two, by whether the leader bends: the first where the heights are equal.
 unfoldable pub by_bend : {A : Type 0} → Leader → A → A → A
@@ -26,7 +25,7 @@ by_bend l straight bent = cond (eqb (distance l.y l.port) 0) straight bent
 
 -- The leader as it is drawn.
 unfoldable pub leader_drawn : Leader → Drawn
-leader_drawn l = by_bend l (Straight (two_of l)) (Bent (three_of l))
+leader_drawn l = by_bend l (Ok (two_of l)) (Ok (three_of l))
 
 -- ---- the paper's words
 

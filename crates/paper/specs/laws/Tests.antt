@@ -1,10 +1,9 @@
 -- The tests that the code computes for each fault of Refusals.antt, and each call's tests in order. That each says what its fault says is proofs/laws/Tests.
-use Rattle.std.specs.Prelude.{Bool, false, not, ◌&&◌, ◌||◌, List, [], ◌∷◌, ◌++◌, ℕ, zero, suc, ◌+◌, ◌*◌, ◌-◌, ◌%◌, eqb, leb, ltb, length, ℤ, pos, neg_ℤ, ◌+ℤ◌, ◌-ℤ◌}
+use Rattle.std.specs.Prelude.{Bool, false, not, ◌&&◌, ◌||◌, List, [], ◌∷◌, ◌++◌, ℕ, zero, suc, ◌+◌, ◌*◌, ◌-◌, ◌%◌, eqb, leb, ltb, length, ℤ, pos, neg_ℤ, ◌+ℤ◌, ◌-ℤ◌, Some, None}
 use Rattle.std.specs.Int.Signed.{le_z, lt_z}
 use Rattle.paper.specs.declared.Form.{Form}
 use Rattle.paper.specs.declared.Form.TheVariants.{Records, Slots}
-use Rattle.paper.specs.declared.Work.{Work}
-use Rattle.paper.specs.declared.Work.TheVariants.{Unlent, Lent}
+use Rattle.paper.specs.Answers.{Work}
 use Rattle.paper.specs.Job.{twos, count, name_of, half_of, x_of, y_of, last_of, port_count, port_of}
 use Rattle.paper.specs.Leaders.{Leader, Square}
 use Rattle.paper.specs.Layouts.{Board, board_from, held, leader, square, Badness, by_weights, by_table}
@@ -129,8 +128,8 @@ enough_tests Records pads ports = []
 enough_tests Slots pads ports = at_whole 14 (ltb (port_count Slots ports) (count pads)) ∷ []
 
 abbrev pub work_tests : ℕ → ℕ → Work → List Test
-work_tests n p Unlent = []
-work_tests n p (Lent numbers) = at_whole 24 (ltb numbers (work_needed n p)) ∷ []
+work_tests n p None = []
+work_tests n p (Some numbers) = at_whole 24 (ltb numbers (work_needed n p)) ∷ []
 
 abbrev pub field_tests : Form → List ℕ → List ℕ → List Test
 field_tests Records pads ports = at_each 4 (count pads) (bad_field Records pads) ∷ []

@@ -4,5 +4,7 @@ use Rattle.text.specs.Writing.{writes_then}
 use Rattle.printed.proofs.refused.Goals as goal
 
 pub returns : goal.returns
-returns c =
-    (writes_then (writes_then (writes_then c.word-a.ensures c.field-b.ensures.0) c.word-c.ensures) c.field.ensures.0, search rules)
+returns c = (
+  writes_then (writes_then (writes_then c.word-a.ensures (rw c.from.ensures at c.field-b.ensures.0)) c.word-c.ensures) (rw c.from-2.ensures at c.field.ensures.0),
+  search rules,
+)

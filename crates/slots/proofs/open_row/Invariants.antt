@@ -1,10 +1,6 @@
 -- `slots::open_row` meets its contract. The loop's invariant: the first q ports are done. Assumes nothing.
-use Prim.Native.Nat.{◌-◌, ◌≤◌}
 use Rattle.slots.specs.Slots.{opened_from, Written}
 use Rattle.slots.proofs.open_row.Given as goal
 
 abbrev pub invariant-loop-q : goal.invariant-loop-q
-invariant-loop-q l = (l.q ≤ l.p) × Written l.initial.work l.work l.to l.p (opened_from l.shut l.initial.work l.from) l.q
-
-abbrev pub decreases-loop-q : goal.decreases-loop-q
-decreases-loop-q l = l.p - l.q
+invariant-loop-q l = Written l.initial.work l.work l.to l.p (opened_from l.shut l.initial.work l.from) l.q

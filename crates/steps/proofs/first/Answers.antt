@@ -4,14 +4,11 @@ use Rattle.choices.specs.Memory.{memory_none}
 use Rattle.steps.proofs.Whole.{begun_first, first_law}
 use Rattle.steps.proofs.first.Goals as goal
 
-pub fill_on-requires : goal.fill_on-requires
-fill_on-requires c =
-    record {
-      working = c.requires.working;
-      from_in_bounds = zero-le;
-      begun = begun_first c.requires.working.proper c.requires.solvable c.args.out.now;
-      memory = memory_none _ _ _ _ _ 0 zero-le;
-    }
+pub fill_on-requires-clause-begun : goal.fill_on-requires-clause-begun
+fill_on-requires-clause-begun c = begun_first c.args.search.now.proper c.requires.solvable c.args.out.now
+
+pub fill_on-requires-clause-memory : goal.fill_on-requires-clause-memory
+fill_on-requires-clause-memory c = memory_none _ _ _ _ _ 0 zero-le
 
 pub returns : goal.returns
-returns c = first_law c.requires.working.proper c.requires.solvable _ _ c.fill_on.ensures.filled_up
+returns c = first_law c.args.search.now.proper c.requires.solvable _ _ c.fill_on.ensures.filled_up

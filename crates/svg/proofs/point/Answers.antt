@@ -10,11 +10,12 @@ use Rattle.svg.proofs.Parts.{point_written, point_length}
 use Rattle.svg.proofs.point.Goals as goal
 
 pub quarters-comma-requires : goal.quarters-comma-requires
-quarters-comma-requires c = omega (arith, point_length c.args.x c.args.y, c.requires.1)
+quarters-comma-requires c = rw c.from.ensures (omega (arith, point_length c.args.x c.args.y, c.requires.1))
 
 pub word-down-requires : goal.word-down-requires
 word-down-requires c =
-    omega (arith, point_length c.args.x c.args.y, c.requires.1, c.quarters-comma.ensures.stop, c.quarters-comma.auto.out)
+    let across = rw c.from.ensures at c.quarters-comma.ensures.stop in
+    omega (arith, point_length c.args.x c.args.y, c.requires.1, across, c.quarters-comma.auto.out)
 
 pub overflow_sub-y : goal.overflow_sub-y
 overflow_sub-y c =
@@ -24,12 +25,13 @@ pub numeral-requires : goal.numeral-requires
 numeral-requires c =
     let down_is : to_z w64 (of_z w64 (pos 0 -ℤ to_z w64 (of_z w64 c.args.y))) ≡ neg_ℤ c.args.y = minus_back w64 c.args.y (omega (arith, c.requires.0)) in
     let long = point_length c.args.x c.args.y in
+    let across = rw c.from.ensures at c.quarters-comma.ensures.stop in
     rw down_is (
       omega (arith, nat_abs_neg c.args.y, c.requires.0),
-      omega (arith, long, c.requires.1, c.quarters-comma.ensures.stop, c.quarters-comma.auto.out, c.word-down.ensures.stop, c.word-down.auto.out),
+      omega (arith, long, c.requires.1, across, c.quarters-comma.auto.out, c.word-down.ensures.stop, c.word-down.auto.out),
     )
 
 pub returns : goal.returns
 returns c =
     let down_is : to_z w64 (of_z w64 (pos 0 -ℤ to_z w64 (of_z w64 c.args.y))) ≡ neg_ℤ c.args.y = minus_back w64 c.args.y (omega (arith, c.requires.0)) in
-    point_written c.args.x c.args.y c.quarters-comma.ensures c.word-down.ensures (rw down_is at c.numeral.ensures)
+    point_written c.args.x c.args.y (rw c.from.ensures at c.quarters-comma.ensures) c.word-down.ensures (rw down_is at c.numeral.ensures)

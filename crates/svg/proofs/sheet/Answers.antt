@@ -10,7 +10,7 @@ use Rattle.svg.proofs.sheet.Goals as goal
 pub returns-then-out-end : goal.returns-then-out-end
 returns-then-out-end c =
     let long = (made_long c.args.job.now c.args.list.now c.requires c.lines-end.ensures.0 (search rules)).0 in
-    (svg_long c.args.job.now c.args.list.now (length c.args.out.now) c.requires (omega (arith, long, c.if-out-end.true)), refl)
+    rw c.of_whole.ensures (svg_long c.args.job.now c.args.list.now (length c.args.out.now) c.requires (omega (arith, long, c.if-out-end.true)), refl)
 
 pub slice_bounds-word-end : goal.slice_bounds-word-end
 slice_bounds-word-end c =

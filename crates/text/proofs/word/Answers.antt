@@ -1,20 +1,16 @@
-use native.Mathlib.Omega.{arith}
-use mathlib.Core.Path.{refl}
-use borrow.Author.Rules.{rules}
-use Rattle.text.specs.Writing.{writes_next, writes_all, writes_length}
+-- `text::word` meets its contract. Assumes nothing.
+use Rattle.std.proofs.Common.{◌≡◌, List, ℕ, ◌+◌, ◌≤◌, length, arith, ◌∙◌, refl, take_all}
+use Rattle.std.proofs.Math.Seq.{paste}
+use Rattle.std.proofs.lemmas.List.Edits.{sets, sets-eq}
+use Rattle.std.proofs.lemmas.Slice.{put_mid-paste}
 use Rattle.text.proofs.word.Goals as goal
 
-pub loop-k-init : goal.loop-k-init
-loop-k-init c = (search rules, record { stop = search rules; stored = refl })
-
-pub bounds-out-at : goal.bounds-out-at
-bounds-out-at c = omega (arith, writes_length c.loop-k.invariant.1)
-
-pub loop-k-preserved : goal.loop-k-preserved
-loop-k-preserved c = (omega arith, writes_next _ _ c.args.s.now _ c.loop-k.k (omega arith) c.loop-k.invariant.1)
-
-pub shape_of-out : goal.shape_of-out
-shape_of-out c = writes_length c.loop-k.invariant.1
+-- A list copied over a part of another, as a store for each byte.
+copied : (s b : List ℕ) (at : ℕ) → at + length s ≤ length b → paste b at s (length s) ≡ sets b at s
+copied s b at h = rw (take_all (length s) s (omega arith), sets-eq s b at h)
 
 pub returns : goal.returns
-returns c = writes_all c.loop-k.k (omega arith) c.loop-k.invariant.1
+returns c = record {
+  stop = refl;
+  stored = put_mid-paste _ _ _ _ c.args.s.now _ c.copy_from_slice.ensures.after (omega arith) refl ∙ copied c.args.s.now c.args.out.now c.args.at c.requires;
+}

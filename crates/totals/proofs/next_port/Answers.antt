@@ -1,77 +1,60 @@
-use mathlib.Core.Path.{◌≡◌, refl, sym, ap, ◌∙◌}
-use Prim.Native.Nat.{◌≤◌, ◌<◌}
-use mathlib.Core.Logic.{⊎_elim}
-use Rattle.totals.specs.declared.Laid.{Laid}
-use Rattle.totals.specs.Cell.{grid_of, Leads, Says}
-use Rattle.pads.specs.Counts.{le_or_lt}
-use Rattle.totals.proofs.Corners.{corner_step, corner_top}
-use Rattle.totals.proofs.Leading.{none_leads}
+-- `totals::next_port` meets its contract. Assumes nothing.
+use mathlib.Core.Path.{refl, sym, ap, ◌∙◌}
+use Prim.Native.Nat.{ℕ, ◌+◌, ◌≤◌}
+use borrow.Author.Count.{below_more}
 use native.Mathlib.Omega.{arith}
+use lib.ListN.{length, get_or}
+use Rattle.pads.specs.Sides.{square_pads}
+use Rattle.totals.specs.Cell.{Says}
+use Rattle.totals.specs.Lent.{LeadsOn}
+use Rattle.totals.proofs.Corners.{corner_step, place-listed}
+use Rattle.totals.proofs.Leading.{table_best, none_leads, port_here, attains_says}
 use Rattle.totals.proofs.next_port.Goals as goal
 
-pub strip_at-s-requires : goal.strip_at-s-requires
-strip_at-s-requires c =
-    record {
-      pads = c.requires.pads;
-      table = c.requires.table;
-      full_from = c.requires.full_from;
-    }
+pub bounds-table-corner : goal.bounds-table-corner
+bounds-table-corner c = omega (
+  arith,
+  c.corner.ensures.0,
+  c.requires.table.sizes.totals,
+  place-listed c.args.a c.args.b (length c.args.lists.now.order.now) (omega (arith, c.requires.full.full)) c.requires.full.ports,
+)
 
-pub returns-then-s : goal.returns-then-s
-returns-then-s c = record {
-  start = omega arith;
+pub returns-then-best : goal.returns-then-best
+returns-then-best c = record {
+  start = c.requires.a_le_from.1;
   within = omega arith;
-  passed = λ i u v L. none_leads c.requires.pads c.requires.table c.args.r c.args.a c.args.b c.requires.full_from
-      (sym (ap (λ (t : Laid). t.best) c.strip_at-s.ensures) ∙ c.if-s.true) i L;
+  passed = λ i u v. none_leads (square_pads c.args.lists.now c.requires.square) c.requires.table c.args.r c.args.a c.args.b c.requires.full (sym (ap (λ (i : ℕ). get_or c.args.table.now.totals.now (i + c.args.a) 0) c.corner.ensures.0 ∙ table_best (square_pads c.args.lists.now c.requires.square) c.requires.table c.args.r c.args.a c.args.b c.requires.full) ∙ c.if-best.true) i;
   found = λ u. absurd (omega arith);
 }
 
-pub corner-requires : goal.corner-requires
-corner-requires c = omega (arith, c.requires.full_from.ports, c.requires.pads.few)
+pub attains-requires-clause-port : goal.attains-requires-clause-port
+attains-requires-clause-port c =
+    let aq : c.args.a ≤ c.loop-q.q = omega (arith, c.requires.a_le_from.0) in
+    rw c.trial_of-trial.ensures (port_here (square_pads c.args.lists.now c.requires.square) c.requires.table c.args.r c.args.a c.args.b c.requires.full c.loop-q.q aq c.loop-q-test.true _ c.loop-q.below _ refl c.loop-q.invariant.0 (omega (arith, c.corner-base.ensures.0)))
 
-pub overflow_add-below : goal.overflow_add-below
-overflow_add-below c = omega (arith, c.corner.ensures.1, c.requires.full_from.ports, c.requires.full_from.full, c.requires.pads.few)
-
-pub loop-q-init : goal.loop-q-init
-loop-q-init c = (omega arith, omega arith, omega (arith, c.corner.ensures.0), λ i u v. absurd (omega arith))
-
-pub leads-requires : goal.leads-requires
-leads-requires c =
-    record {
-      pads = c.requires.pads;
-      table = c.requires.table;
-      full_from = rw c.strip_at-s.ensures c.requires.full_from;
-      s_value = rw c.strip_at-s.ensures refl;
-      fact = (c.if-s.false, rw c.strip_at-s.ensures (omega (arith, c.loop-q.invariant.0, c.requires.a_le_from.0)), rw c.strip_at-s.ensures c.loop-q-test.true, rw c.strip_at-s.ensures c.loop-q.invariant.2);
-    }
-
-pub returns-then-leads : goal.returns-then-leads
-returns-then-leads c =
-    let says : Says (Leads (grid_of c.args.order.now c.args.cost.now c.args.bars.now c.args.lo.now c.args.hi.now) c.args.order.now c.args.r c.args.a c.args.b c.loop-q.q) c.leads.result = rw c.strip_at-s.ensures at c.leads.ensures in
-    record { start = omega arith; within = omega arith; passed = c.loop-q.invariant.3; found = λ u. says.yes c.if-leads.true }
-
-pub overflow_add-q : goal.overflow_add-q
-overflow_add-q c = omega (arith, c.requires.full_from.ports, c.requires.pads.few)
-
-pub overflow_add-below-in-loop-q : goal.overflow_add-below-in-loop-q
-overflow_add-below-in-loop-q c = omega (arith, c.loop-q.invariant.2, corner_top c.loop-q.q (omega (arith, c.requires.full_from.ports, c.requires.pads.few)), c.requires.full_from.ports, c.requires.pads.few)
+pub returns-then-attains : goal.returns-then-attains
+returns-then-attains c =
+    let aq : c.args.a ≤ c.loop-q.q = omega (arith, c.requires.a_le_from.0) in
+    let says : Says (LeadsOn c.args.lists.now c.args.figures.now c.args.r c.args.a c.args.b c.loop-q.q) c.attains.result =
+    attains_says (square_pads c.args.lists.now c.requires.square) c.requires.table c.args.r c.args.a c.args.b c.requires.full c.loop-q.q aq c.loop-q-test.true _ c.loop-q.below _ refl c.loop-q.invariant.0
+    (omega (arith, c.corner-base.ensures.0)) _ (ap (λ (i : ℕ). get_or c.args.table.now.totals.now (i + c.args.a) 0) c.corner.ensures.0 ∙ table_best (square_pads c.args.lists.now c.requires.square) c.requires.table c.args.r c.args.a c.args.b c.requires.full) c.if-best.false c.attains.result (rw c.trial_of-trial.ensures at c.attains.ensures) in
+    (record { start = c.loop-q.auto.q; within = omega arith; passed = c.loop-q.invariant.1; found = λ u. says.yes c.if-attains.true }, c.loop-q-test.true)
 
 pub loop-q-preserved : goal.loop-q-preserved
 loop-q-preserved c =
-    let says : Says (Leads (grid_of c.args.order.now c.args.cost.now c.args.bars.now c.args.lo.now c.args.hi.now) c.args.order.now c.args.r c.args.a c.args.b c.loop-q.q) c.leads.result = rw c.strip_at-s.ensures at c.leads.ensures in
-    let l = c.loop-q in (
-      omega arith,
-      omega arith,
-      omega (arith, l.invariant.2, corner_step l.q),
-      λ i u v. ⊎_elim (λ (w : l.q ≤ i). let e : i ≡ l.q = omega arith in rw e (says.no c.if-leads.false))
-          (λ (w : i < l.q). l.invariant.3 i u w) (le_or_lt l.q i),
+    let aq : c.args.a ≤ c.loop-q.q = omega (arith, c.requires.a_le_from.0) in
+    let says : Says (LeadsOn c.args.lists.now c.args.figures.now c.args.r c.args.a c.args.b c.loop-q.q) c.attains.result =
+    attains_says (square_pads c.args.lists.now c.requires.square) c.requires.table c.args.r c.args.a c.args.b c.requires.full c.loop-q.q aq c.loop-q-test.true _ c.loop-q.below _ refl c.loop-q.invariant.0
+    (omega (arith, c.corner-base.ensures.0)) _ (ap (λ (i : ℕ). get_or c.args.table.now.totals.now (i + c.args.a) 0) c.corner.ensures.0 ∙ table_best (square_pads c.args.lists.now c.requires.square) c.requires.table c.args.r c.args.a c.args.b c.requires.full) c.if-best.false c.attains.result (rw c.trial_of-trial.ensures at c.attains.ensures) in (
+      omega (arith, c.loop-q.invariant.0, corner_step c.loop-q.q),
+      λ i u v. below_more (λ i. c.args.from ≤ i → LeadsOn c.args.lists.now c.args.figures.now c.args.r c.args.a c.args.b i → ⊥) c.loop-q.q
+          (λ k v w. c.loop-q.invariant.1 k w v) (λ w. says.no c.if-attains.false) i v u,
     )
 
 pub returns : goal.returns
 returns c = record {
-  start = omega arith;
+  start = c.requires.a_le_from.1;
   within = omega arith;
-  passed = λ i u v. c.loop-q.invariant.3 i u (omega arith);
-  found = λ u. absurd
-      (omega arith);
+  passed = λ i u v. c.loop-q.invariant.1 i u (omega arith);
+  found = λ u. absurd (omega arith);
 }

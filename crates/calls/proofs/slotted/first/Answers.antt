@@ -1,39 +1,55 @@
 -- `calls::slotted::first` meets its contract. Assumes nothing.
-use mathlib.Core.Path.{refl}
+use mathlib.Core.Path.{refl, subst}
 use lib.ListN.{length}
-use Rattle.paper.specs.declared.Work.TheVariants.{Lent}
+use Rattle.std.specs.Prelude.{Some}
+use Rattle.std.proofs.lemmas.Result.{err_from_is_err_and}
 use Rattle.paper.specs.Job.{slots}
 use Rattle.paper.specs.Layouts.{by_weights}
-use Rattle.paper.specs.Refusals.{Passed, sound_trials}
+use Rattle.paper.specs.Problem.{labeling_of}
+use Rattle.paper.specs.Refusals.{sound_trials}
 use Rattle.paper.proofs.laws.Accepted.{sound_accepted, sound_working, sound_refused}
+use Rattle.layouts.specs.Replies.{FirstOn}
 use Rattle.checks.specs.Judged.{Judged, judged_sound, judged_refused, sound_judged}
-use Rattle.calls.proofs.Facts.{first_answers, work_open}
+use Rattle.calls.proofs.Facts.{first_answers, first_refuses, work_open, work_told}
 use Rattle.calls.proofs.slotted.first.Goals as goal
+
+pub returns-in_err-of_first : goal.returns-in_err-of_first
+returns-in_err-of_first c =
+    let judged : Judged c.of_first.result (sound_trials (slots c.args.pads.now c.args.ports.now) (by_weights c.args.weights.length c.args.weights.bend) (Some (length c.args.work.now)) (length c.args.list.now)) = rw (c.of_first.ensures, c.of_slots-job.ensures) (sound_judged (slots c.args.pads.now c.args.ports.now) (by_weights c.args.weights.length c.args.weights.bend) (Some (length c.args.work.now)) (length c.args.list.now)) in
+    let refused = judged_refused _ _ _ judged c.in_err-of_first.was in
+    let p = err_from_is_err_and c.from_residual.result c.from_residual.ensures.1 in
+    rw (p.1, p.2) (record {
+      first_answers = (sound_refused (slots c.args.pads.now c.args.ports.now) (by_weights c.args.weights.length c.args.weights.bend) (Some (length c.args.work.now)) (length c.args.list.now) _ refused, refl);
+      work_after = λ _ _. refl;
+    })
 
 pub first_on-requires : goal.first_on-requires
 first_on-requires c =
-    let judged : Judged c.of_first-v.result (sound_trials (slots c.args.pads.now c.args.ports.now) (by_weights c.args.lw c.args.bw) (Lent (length c.args.work.now)) (length c.args.list.now)) = rw (c.of_first-v.ensures, c.of_weights.ensures) (sound_judged (slots c.args.pads.now c.args.ports.now) (by_weights c.args.lw c.args.bw) (Lent (length c.args.work.now)) (length c.args.list.now)) in
-    let passed : Passed (sound_trials (slots c.args.pads.now c.args.ports.now) (by_weights c.args.lw c.args.bw) (Lent (length c.args.work.now)) (length c.args.list.now)) = judged_sound _ _ judged c.in-Sound.is in
-    let numbers = length c.args.work.now in
-    let room = length c.args.list.now in
-    let f = sound_accepted (slots c.args.pads.now c.args.ports.now) (by_weights c.args.lw c.args.bw) (Lent numbers) room passed in record {
-      workable = (f.0, f.1.0, f.1.1, sound_working (slots c.args.pads.now c.args.ports.now) (by_weights c.args.lw c.args.bw) numbers room passed);
-      pads_in_bounds = f.2;
-    }
-
-pub returns-in-Sound : goal.returns-in-Sound
-returns-in-Sound c =
-    let judged : Judged c.of_first-v.result (sound_trials (slots c.args.pads.now c.args.ports.now) (by_weights c.args.lw c.args.bw) (Lent (length c.args.work.now)) (length c.args.list.now)) = rw (c.of_first-v.ensures, c.of_weights.ensures) (sound_judged (slots c.args.pads.now c.args.ports.now) (by_weights c.args.lw c.args.bw) (Lent (length c.args.work.now)) (length c.args.list.now)) in
-    let passed : Passed (sound_trials (slots c.args.pads.now c.args.ports.now) (by_weights c.args.lw c.args.bw) (Lent (length c.args.work.now)) (length c.args.list.now)) = judged_sound _ _ judged c.in-Sound.is in
-    rw c.answer_of.ensures (record {
-      first_answers = first_answers (slots c.args.pads.now c.args.ports.now) (by_weights c.args.lw c.args.bw) (Lent (length c.args.work.now)) c.args.list.now _ c.first_on.result passed c.first_on.ensures;
-      work_after = work_open c.first_on.result _ _;
+    let judged : Judged c.of_first.result (sound_trials (slots c.args.pads.now c.args.ports.now) (by_weights c.args.weights.length c.args.weights.bend) (Some (length c.args.work.now)) (length c.args.list.now)) = rw (c.of_first.ensures, c.of_slots-job.ensures) (sound_judged (slots c.args.pads.now c.args.ports.now) (by_weights c.args.weights.length c.args.weights.bend) (Some (length c.args.work.now)) (length c.args.list.now)) in
+    let passed = judged_sound _ _ judged c.in_ok-of_first.was in
+    let f = sound_accepted (slots c.args.pads.now c.args.ports.now) (by_weights c.args.weights.length c.args.weights.bend) (Some (length c.args.work.now)) (length c.args.list.now) passed in
+    rw c.of_slots-job.ensures (record {
+      workable = (f.0, f.1, sound_working (slots c.args.pads.now c.args.ports.now) (by_weights c.args.weights.length c.args.weights.bend) (length c.args.work.now) (length c.args.list.now) passed);
+      room = f.2;
     })
 
-pub returns-in-Refused : goal.returns-in-Refused
-returns-in-Refused c =
-    let judged : Judged c.of_first-v.result (sound_trials (slots c.args.pads.now c.args.ports.now) (by_weights c.args.lw c.args.bw) (Lent (length c.args.work.now)) (length c.args.list.now)) = rw (c.of_first-v.ensures, c.of_weights.ensures) (sound_judged (slots c.args.pads.now c.args.ports.now) (by_weights c.args.lw c.args.bw) (Lent (length c.args.work.now)) (length c.args.list.now)) in
-    let refused = judged_refused _ _ _ judged c.in-Refused.is in record {
-      first_answers = (sound_refused (slots c.args.pads.now c.args.ports.now) (by_weights c.args.lw c.args.bw) (Lent (length c.args.work.now)) (length c.args.list.now) _ refused, refl);
-      work_after = λ _ _. refl;
+pub returns-in_err-total : goal.returns-in_err-total
+returns-in_err-total c =
+    let judged : Judged c.of_first.result (sound_trials (slots c.args.pads.now c.args.ports.now) (by_weights c.args.weights.length c.args.weights.bend) (Some (length c.args.work.now)) (length c.args.list.now)) = rw (c.of_first.ensures, c.of_slots-job.ensures) (sound_judged (slots c.args.pads.now c.args.ports.now) (by_weights c.args.weights.length c.args.weights.bend) (Some (length c.args.work.now)) (length c.args.list.now)) in
+    let passed = judged_sound _ _ judged c.in_ok-of_first.was in
+    let known : FirstOn (labeling_of (slots c.args.pads.now c.args.ports.now) (by_weights c.args.weights.length c.args.weights.bend)) c.args.list.now c.first_on.new.layout c.first_on.result = rw c.of_slots-job.ensures at c.first_on.ensures in
+    let q = err_from_is_err_and c.from_residual-in_err-total.result c.from_residual-in_err-total.ensures.1 in
+    rw (q.1, q.2) (record {
+      first_answers = first_refuses (slots c.args.pads.now c.args.ports.now) (by_weights c.args.weights.length c.args.weights.bend) (Some (length c.args.work.now)) c.args.list.now passed _ _ (subst (FirstOn _ _ _) c.in_err-total.was known);
+      work_after = work_open _ _ _;
+    })
+
+pub returns : goal.returns
+returns c =
+    let judged : Judged c.of_first.result (sound_trials (slots c.args.pads.now c.args.ports.now) (by_weights c.args.weights.length c.args.weights.bend) (Some (length c.args.work.now)) (length c.args.list.now)) = rw (c.of_first.ensures, c.of_slots-job.ensures) (sound_judged (slots c.args.pads.now c.args.ports.now) (by_weights c.args.weights.length c.args.weights.bend) (Some (length c.args.work.now)) (length c.args.list.now)) in
+    let passed = judged_sound _ _ judged c.in_ok-of_first.was in
+    let known : FirstOn (labeling_of (slots c.args.pads.now c.args.ports.now) (by_weights c.args.weights.length c.args.weights.bend)) c.args.list.now c.first_on.new.layout c.first_on.result = rw c.of_slots-job.ensures at c.first_on.ensures in
+    record {
+      first_answers = first_answers (slots c.args.pads.now c.args.ports.now) (by_weights c.args.weights.length c.args.weights.bend) (Some (length c.args.work.now)) c.args.list.now passed _ _ (subst (FirstOn _ _ _) c.in_ok-total.was known);
+      work_after = work_told (Some c.in_ok-total.total) c.args.work.now c.first_on.new.work;
     }

@@ -1,26 +1,59 @@
 -- `checks::verdicts::of_first` meets its contract. Assumes nothing.
-use mathlib.Core.Path.{◌≡◌, sym, ◌∙◌}
-use Rattle.paper.specs.laws.Tests.{sound_tests, room_tests}
-use Rattle.checks.specs.declared.Verdict.TheVariants.{Sound}
-use Rattle.checks.specs.Verdicts.{given_test, after_append, Few}
-use Rattle.checks.specs.Sound.{was_sound, after_sound, sizes_sound}
+use Rattle.std.proofs.Common.{sym, ◌∙◌, ◌++◌, ◌∷◌}
+use Rattle.std.proofs.lemmas.Result.{err_from_is_err_and}
+use Rattle.paper.specs.Given.{badness_of}
+use Rattle.paper.specs.laws.Tests.{size_tests, room_tests, job_tests, badness_test, sound_tests}
+use Rattle.job.specs.Board.{board_on}
+use Rattle.checks.specs.Verdicts.{on_job, refuses, passes, stops, goes_on}
+use Rattle.checks.specs.Sound.{sizes_sound}
 use Rattle.checks.proofs.verdicts.of_first.Goals as goal
 
-pub of_room-v3-requires : goal.of_room-v3-requires
-of_room-v3-requires c =
-    let small : c.try_whole-v2.result ≡ Sound → Few c.args.form c.args.job.now c.args.ports.now = λ sound. let one = (was_sound _ _ (given_test c.args.given) c.try_whole-v2.ensures sound).0 in
-    sizes_sound c.args.form c.args.job.now c.args.ports.now c.requires (sym c.of_sizes-v1.ensures ∙ one) in
-    small
+pub returns-in_err-of_sizes : goal.returns-in_err-of_sizes
+unfolding sound_tests
+returns-in_err-of_sizes c =
+    let p = err_from_is_err_and c.from_residual.result c.from_residual.ensures.1 in
+    rw (p.1, p.2) (sym (stops (on_job size_tests c.args.job.now) _ _ (sym c.in_err-of_sizes.ensures)))
+
+pub of_badness-requires : goal.of_badness-requires
+of_badness-requires c = sizes_sound c.args.job.now c.requires (sym c.in_ok-of_sizes.ensures)
+
+pub returns-in_err-of_badness : goal.returns-in_err-of_badness
+unfolding sound_tests
+returns-in_err-of_badness c =
+    let p = err_from_is_err_and c.from_residual-in_err-of_badness.result c.from_residual-in_err-of_badness.ensures.1 in
+    let job = c.args.job.now in
+    let given = badness_test (board_on job) (badness_of c.args.bad.now) in
+    let rest = on_job room_tests job c.args.work c.args.room ++ on_job job_tests job in
+    rw (p.1, p.2)
+    (sym (goes_on (on_job size_tests job) (given ∷ rest) (sym c.in_ok-of_sizes.ensures) ∙ refuses given rest _ (sym c.in_err-of_badness.ensures)))
+
+pub of_room-requires : goal.of_room-requires
+of_room-requires c = sizes_sound c.args.job.now c.requires (sym c.in_ok-of_sizes.ensures)
+
+pub returns-in_err-of_room : goal.returns-in_err-of_room
+unfolding sound_tests
+returns-in_err-of_room c =
+    let p = err_from_is_err_and c.from_residual-in_err-of_room.result c.from_residual-in_err-of_room.ensures.1 in
+    let job = c.args.job.now in
+    let given = badness_test (board_on job) (badness_of c.args.bad.now) in
+    let room = on_job room_tests job c.args.work c.args.room in
+    rw (p.1, p.2)
+    (sym (
+    goes_on (on_job size_tests job) (given ∷ (room ++ on_job job_tests job)) (sym c.in_ok-of_sizes.ensures)
+    ∙ passes given (room ++ on_job job_tests job) (sym c.in_ok-of_badness.ensures)
+    ∙ stops room (on_job job_tests job) _ (sym c.in_err-of_room.ensures)))
 
 pub of_job-requires : goal.of_job-requires
-of_job-requires c =
-    let small : c.try_whole-v2.result ≡ Sound → Few c.args.form c.args.job.now c.args.ports.now = λ sound. let one = (was_sound _ _ (given_test c.args.given) c.try_whole-v2.ensures sound).0 in
-    sizes_sound c.args.form c.args.job.now c.args.ports.now c.requires (sym c.of_sizes-v1.ensures ∙ one) in
-    λ sound.
-    let tests = room_tests c.args.form c.args.job.now c.args.ports.now c.args.work c.args.room in
-    (small (after_sound c.try_whole-v2.result tests (sym c.of_room-v3.ensures ∙ sound))).short
+of_job-requires c = (sizes_sound c.args.job.now c.requires (sym c.in_ok-of_sizes.ensures)).short
 
 pub returns : goal.returns
 unfolding sound_tests
 returns c =
-    rw (after_append, after_append, c.of_job.ensures, c.of_room-v3.ensures, c.try_whole-v2.ensures, c.of_sizes-v1.ensures)
+    let job = c.args.job.now in
+    let given = badness_test (board_on job) (badness_of c.args.bad.now) in
+    let room = on_job room_tests job c.args.work c.args.room in
+    c.of_job.ensures
+    ∙ sym (
+    goes_on (on_job size_tests job) (given ∷ (room ++ on_job job_tests job)) (sym c.in_ok-of_sizes.ensures)
+    ∙ passes given (room ++ on_job job_tests job) (sym c.in_ok-of_badness.ensures)
+    ∙ goes_on room (on_job job_tests job) (sym c.in_ok-of_room.ensures))

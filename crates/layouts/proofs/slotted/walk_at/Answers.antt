@@ -1,30 +1,29 @@
 -- `layouts::slotted::walk_at` meets its contract. Assumes nothing.
-use mathlib.Core.Path.{refl}
-use mathlib.Core.List.{[]}
-use native.Mathlib.Omega.{arith}
-use Rattle.paper.specs.Job.{slots}
-use Rattle.paper.specs.Layouts.{board_of}
-use Rattle.layouts.proofs.Translated.{working_on, startable_on, walks_on, lent_costs, lent_right, lent_least}
+use mathlib.Core.Path.{◌∙◌}
+use Rattle.job.specs.Board.{board_on}
+use Rattle.layouts.proofs.Translated.{lists_pads, startable_on, walks_on, lent_costs, lent_least}
 use Rattle.layouts.proofs.slotted.walk_at.Goals as goal
 
-pub fill-least-requires : goal.fill-least-requires
-fill-least-requires c =
-    record {
-      workable = c.requires.workable;
-      room_for = c.requires.room_for.0;
-      bars_len = c.requires.bars_len;
-    }
+pub invariant_of-lists : goal.invariant_of-lists
+invariant_of-lists c = record {
+  proper = lists_pads (c.from-ports.ensures ∙ c.port_count.ensures) (record {
+    proper = c.requires.workable.0.proper;
+    few = c.requires.workable.0.few;
+    slots_few = c.requires.workable.0.slots_few;
+    listed = c.prepare.ensures.order_of;
+    sides = c.prepare.ensures.sides_of;
+  });
+}
 
-pub ports-p-requires : goal.ports-p-requires
-ports-p-requires c = omega (arith, c.requires.workable.0.port_size)
-
-pub walk-requires : goal.walk-requires
-walk-requires c =
-    let costs = lent_costs (board_of (slots c.args.pads.now c.args.ports.now)) c.fill-least.ensures [] [] c.fill-least.new.bars refl c.ports-p.ensures in record {
-      order_nonzero = working_on (board_of (slots c.args.pads.now c.args.ports.now)) c.fill-least.ensures.lists costs (lent_right (board_of (slots c.args.pads.now c.args.ports.now)) c.fill-least.ensures [] [] c.fill-least.new.bars refl c.ports-p.ensures) c.args.start c.args.w.now c.requires.workable.0.some c.requires.room_for.1;
-      least = (lent_least (board_of (slots c.args.pads.now c.args.ports.now)) c.fill-least.ensures [] [] c.fill-least.new.bars refl c.ports-p.ensures, startable_on (board_of (slots c.args.pads.now c.args.ports.now)) c.fill-least.ensures.lists costs c.args.start c.args.w.now c.requires.room_for.1);
-    }
+pub walk-requires-clause-least : goal.walk-requires-clause-least
+walk-requires-clause-least c =
+    let b = board_on c.args.job.now in
+    let M = c.fill-least.ensures in
+    let same = c.from-ports.ensures ∙ c.port_count.ensures in
+    (lent_least b M same, startable_on b M.lists (lent_costs b M same) c.args.start c.args.w.now c.requires.room_for.1)
 
 pub returns : goal.returns
 returns c =
-    walks_on (board_of (slots c.args.pads.now c.args.ports.now)) c.fill-least.ensures.lists (lent_costs (board_of (slots c.args.pads.now c.args.ports.now)) c.fill-least.ensures [] [] c.fill-least.new.bars refl c.ports-p.ensures) c.args.start c.args.w.now c.args.page.now _ _ c.walk.result c.walk.ensures
+    let b = board_on c.args.job.now in
+    let M = c.fill-least.ensures in
+    walks_on b M.lists (lent_costs b M (c.from-ports.ensures ∙ c.port_count.ensures)) c.args.start c.args.w.now c.args.page.now _ _ c.walk.result c.walk.ensures

@@ -1,0 +1,2 @@
+-- After: the verdict as that after each test in turn.
+pub mod After

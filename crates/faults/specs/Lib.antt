@@ -1,0 +1,2 @@
+-- What the code's leaders stand for.
+pub mod Drawn
