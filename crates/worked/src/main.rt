@@ -7,29 +7,39 @@
 // Next and Measure on slots, whose heights stand in place of SIZE.
 #![tactic(auto)]
 
-ghost use Rattle.std.specs.Prelude.{◌*◌, ◌≤◌, length};
+ghost use Rattle.std.specs.Prelude.{◌*◌, ◌<◌, ◌≤◌, length, IfOk};
 
 use paper::{Answer, Badness, Polyline, Refusal, Weights};
 use std::io::Write;
 use std::{fmt, io};
 
-// A number of 32 bits, in two's complement if negative.
-fn number(word: &str) -> Option<u32> {
-    match word.parse::<u32>() {
-        Ok(n) => Some(n),
-        Err(_) => word.parse::<i32>().ok().map(|n| n.cast_unsigned()),
+// The number that digits are, of 32 bits: those above them are lost.
+fn number(digits: &[u8]) -> u32 {
+    let mut n: u32 = 0;
+    for d in digits {
+        n = n
+            .wrapping_mul(10)
+            .wrapping_add(u32::from(d.wrapping_sub(b'0')));
     }
+    n
 }
 
-// The numbers of a part of a case, as many as there is room for.
-fn read_numbers<'a>(part: &str, out: &'a mut [u32]) -> &'a [u32]
+// The numbers of a part of a case, as many as there is room for: digits, perhaps none after a minus, which makes it negative, in two's complement. What is
+// neither stands between numbers.
+fn read_numbers<'a>(part: &[u8], out: &'a mut [u32]) -> &'a [u32]
     ensures { length result.now ≤ length out.entry.now }
 {
     let mut count = 0;
-    for n in part.split([' ', ',', '\n']).filter_map(number) {
-        if count < out.len() {
-            out[count] = n;
-            count += 1;
+    for word in part.split(|b| !b.is_ascii_digit() && *b != b'-') {
+        for (minuses, digits) in word.split(|b| *b == b'-').enumerate() {
+            if minuses == 0 && digits.is_empty() {
+                continue;
+            }
+            if count < out.len() {
+                let n = number(digits);
+                out[count] = if minuses == 0 { n } else { n.wrapping_neg() };
+                count += 1;
+            }
         }
     }
     &out[..count]
@@ -51,7 +61,7 @@ fn narrow(words: &[u32], list: &mut [u16]) {
     }
 }
 
-// A refusal in words: 9 has two records.
+// A refusal in words: 9 has two records. Each piece of what is printed is a write, so no word stands alone.
 #[derive(Clone, Copy)]
 struct Refused(Refusal);
 
@@ -62,7 +72,7 @@ impl fmt::Display for Refused {
             at,
             earlier,
         } = self.0;
-        write!(f, "refused {reason} record {at}")?;
+        write!(f, " = refused {reason} record {at}")?;
         if reason == 9 {
             write!(f, " with {earlier}")?;
         }
@@ -70,18 +80,21 @@ impl fmt::Display for Refused {
     }
 }
 
-// Drawn numbers in brackets. -0 would show as such.
+// Entries or drawn numbers in brackets, and the line's end. -0 would show as such.
 #[derive(Clone, Copy)]
-struct Points<'a>(&'a [f32]);
+struct Row<'a, T>(&'a [T]);
 
-impl fmt::Display for Points<'_> {
+impl<T: fmt::Display> fmt::Display for Row<'_, T> {
     fn fmt<W: fmt::Write>(&self, f: &mut fmt::Formatter<W>) -> fmt::Result {
-        let mut between = "[";
-        for x in self.0 {
-            write!(f, "{between}{x}")?;
-            between = ", ";
+        write!(f, " [")?;
+        let mut rest = self.0.iter();
+        if let Some(x) = rest.next() {
+            write!(f, "{x}")?;
         }
-        write!(f, "]")
+        for x in rest {
+            write!(f, ", {x}")?;
+        }
+        write!(f, "]\n")
     }
 }
 
@@ -89,9 +102,9 @@ fn say_answer<W: Write>(out: &mut W, answer: Answer, list: &[u16]) -> io::Result
     match answer {
         Ok(Some(total)) => write!(out, " = total {total}")?,
         Ok(None) => write!(out, " = end")?,
-        Err(refusal) => write!(out, " = {}", Refused(refusal))?,
+        Err(refusal) => write!(out, "{}", Refused(refusal))?,
     }
-    writeln!(out, " {list:?}")
+    write!(out, "{}", Row(list))
 }
 
 // Page, with its layouts and the entries after them.
@@ -99,9 +112,9 @@ fn paged<W: Write>(out: &mut W, job: &[u8], bad: Badness, list: &[u16]) -> io::R
     let mut page = [9u16; 8];
     match calls::page(job, bad, list, &mut page) {
         Ok(count) => write!(out, " = layouts {count}")?,
-        Err(refusal) => write!(out, " = {}", Refused(refusal))?,
+        Err(refusal) => write!(out, "{}", Refused(refusal))?,
     }
-    writeln!(out, " {page:?}")
+    write!(out, "{}", Row(&page))
 }
 
 // Draw, with its points and the places after them.
@@ -110,9 +123,9 @@ fn drawn<W: Write>(out: &mut W, job: &[u8], i: u32, q: u32) -> io::Result<()> {
     match calls::draw(job, i, q, &mut points) {
         Ok(Polyline::Straight { .. }) => write!(out, " = 2 points")?,
         Ok(Polyline::Bent { .. }) => write!(out, " = 3 points")?,
-        Err(refusal) => write!(out, " = {}", Refused(refusal))?,
+        Err(refusal) => write!(out, "{}", Refused(refusal))?,
     }
-    writeln!(out, " {}", Points(&points))
+    write!(out, "{}", Row(&points))
 }
 
 fn printed<W: Write>(out: &mut W, job: &[u8]) -> io::Result<()> {
@@ -161,15 +174,16 @@ fn run<W: Write>(
         [] => (0, 0),
     };
     let weights = Weights { length: a, bend: b };
-    let bad = if call.is_ascii_lowercase() {
-        Badness::Table(numbers)
-    } else {
-        Badness::Weights(weights)
+    let bad = match call {
+        b'f' | b'n' | b'm' => Badness::Table(numbers),
+        _ => Badness::Weights(weights),
     };
     let answer = match call {
         b's' | b't' | b'u' => {
-            let heights = numbers.get(2..).unwrap_or(&[]);
-            return slotted(out, call, job, weights, heights, list);
+            return match numbers.get(2..) {
+                Some(heights) => slotted(out, call, job, weights, heights, list),
+                None => Ok(()),
+            };
         }
         b'D' => return drawn(out, job, a, b),
         b'P' => return printed(out, job),
@@ -187,43 +201,68 @@ fn size_of(call: u8, said: Option<&u32>, words: usize) -> usize
     ensures { result ≤ 16384 }
 {
     match said {
-        Some(size) if call.is_ascii_uppercase() && *size <= 16384 => *size as usize,
+        Some(size) if call <= b'Z' && *size <= 16384 => *size as usize,
         _ => 4 * words,
     }
 }
 
-// A part of a text up to a mark, and what follows the mark.
-fn part(text: &str, mark: char) -> (&str, &str) {
-    text.split_once(mark).unwrap_or((text, ""))
-}
-
-// Runs a case.
-fn case<W: Write>(out: &mut W, text: &str) -> io::Result<()> {
-    let call = text.as_bytes().first().copied().unwrap_or(b'F');
-    let (_, parts) = part(text, ':');
-    let (numbers, parts) = part(parts, '|');
-    let (records, entries) = part(parts, '|');
-    let mut room = [0u32; 10];
-    let numbers = read_numbers(numbers, &mut room);
-    let mut words = [0u32; 280];
-    let records = read_numbers(records, &mut words);
-    let mut words = [0u32; 80];
-    let entries = read_numbers(entries, &mut words);
+// The call on a job of these words and a list of these entries. Its room is made before all else: what stands before a list is made would have it cleared twice.
+fn run_on<W: Write>(
+    out: &mut W,
+    call: u8,
+    numbers: &[u32],
+    records: &[u32],
+    entries: &[u32],
+) -> io::Result<()>
+    requires { (length numbers.now ≤ 10) × (length records.now ≤ 280) × (length entries.now ≤ 80) }
+{
     let mut job = [0u8; 16384];
-    pack(records, &mut job);
     let mut list = [0u16; 80];
+    pack(records, &mut job);
     narrow(entries, &mut list);
     let size = size_of(call, numbers.get(2), records.len());
-    write!(out, "{text}")?;
     run(out, call, &job[..size], numbers, &mut list[..entries.len()])
 }
 
-fn run_all<W: Write>(out: &mut W, text: &str) -> io::Result<()> {
-    for text in text.split(';') {
-        let text = text.trim_start();
-        if !text.is_empty() {
-            case(out, text)?;
-        }
+// A part of a text up to a mark, and what follows the mark.
+fn part(text: &[u8], mark: u8) -> (&[u8], &[u8])
+    ensures { (length result.1.now ≤ length text.now) × (0 < length text.now → length result.1.now < length text.now) }
+{
+    match text.iter().position(|b| *b == mark) {
+        Some(end) => (&text[..end], &text[end + 1..]),
+        None => (text, &[]),
+    }
+}
+
+// Runs the case that a text begins with, and answers what follows it. Of a last one with no mark at its end a byte is not printed.
+fn case<'a, W: Write>(out: &mut W, text: &'a [u8]) -> io::Result<&'a [u8]>
+    requires { 1 ≤ length text.now }
+    ensures { IfOk result (λ rest. length rest.now < length text.now) }
+{
+    let mut room = [0u32; 10];
+    let mut words = [0u32; 280];
+    let mut list = [0u32; 80];
+    let (_, parts) = part(text, b':');
+    let (numbers, parts) = part(parts, b'|');
+    let (records, parts) = part(parts, b'|');
+    let (entries, rest) = part(parts, b';');
+    let numbers = read_numbers(numbers, &mut room);
+    let records = read_numbers(records, &mut words);
+    let entries = read_numbers(entries, &mut list);
+    out.write_all(&text[..text.len() - rest.len() - 1])?;
+    run_on(out, text[0], numbers, records, entries)?;
+    Ok(rest)
+}
+
+// Stays: where a case ends is known once it is read, so no iterator cuts the text.
+fn run_all<W: Write>(out: &mut W, text: &[u8]) -> io::Result<()> {
+    let mut rest = text;
+    while let [first, after @ ..] = rest {
+        rest = if *first <= b' ' {
+            after
+        } else {
+            case(out, rest)?
+        };
     }
     Ok(())
 }
@@ -231,8 +270,5 @@ fn run_all<W: Write>(out: &mut W, text: &str) -> io::Result<()> {
 fn main(rt: HostRuntime) -> io::Result<()> {
     let mut text = [0u8; 16384];
     let n = streams::read_full(&mut rt.reader(), &mut text)?;
-    run_all(
-        &mut io::writer(&rt),
-        str::from_utf8(&text[..n]).unwrap_or(""),
-    )
+    run_all(&mut io::writer(&rt), &text[..n])
 }
