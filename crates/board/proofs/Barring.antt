@@ -23,7 +23,7 @@ use Rattle.paper.proofs.laws.Squares.{meets_cases}
 use Rattle.slots.specs.Slots.{Shut}
 use Rattle.slots.specs.Marks.{mark_in, mark_out}
 use Rattle.board.specs.declared.bars.Square.{Square}
-use Rattle.board.specs.Bars.{BarsTo, Unbarred, SquareOf}
+use Rattle.board.specs.Bars.{BarsOf, BarsTo, Unbarred, Clear, SquareOf}
 
 -- ---- the ports that a square bars for a pad
 
@@ -137,6 +137,14 @@ open_more b k i q n = ((λ o j l. go o j l (dec_lt j k)), (λ o j l. o j (omega 
     go o j l (yes d) = o j d
     go o j l (no d) = let e : j ≡ k = omega arith in rw e n
 
+-- At first no square has been looked at;
+pub bars_none : (b : Board) {bars : List ℕ} → length bars ≡ b.pads * b.ports → Clear bars → BarsTo b 0 0 bars
+bars_none b e zeros = record {
+  long = e;
+  passed = λ i q h l m. absurd (omega arith);
+  rest = λ i q h l m. ((λ z j n. absurd (omega arith)), (λ o. zeros (i * b.ports + q)));
+}
+
 module _ (b : Board) (k m : ℕ) {w : List ℕ} (B : BarsTo b k m w) where
   -- for a pad of which no leader meets the square nothing changes;
   pub bars_skip : ((q : ℕ) → q < b.ports → k ≢ m → 0 < b.half k → ¬ Meets (leader b m q) (square b k)) → BarsTo b k (m + 1) w
@@ -180,3 +188,19 @@ module _ (b : Board) (k m : ℕ) {w : List ℕ} (B : BarsTo b k m w) where
       go : (i q : ℕ) → i < b.pads → q < b.ports → i < m + 1 → Dec (i < m) → Unbarred b v i q ↔ OpenTo b (k + 1) i q
       go i q h l t (yes d) = rw (kept i q h l (λ e. omega arith)) (B.passed i q h l d)
       go i q h l t (no d) = let e : i ≡ m = omega arith in rw e (own q l (dec_le a q) (dec_lt q c))
+
+  -- and when no pad is left the square has been looked at.
+  pub bars_square : b.pads ≤ m → BarsTo b (k + 1) 0 w
+  bars_square all = record { long = B.long; passed = λ i q h l t. absurd (omega arith); rest = λ i q h l t. B.passed i q h l (omega arith) }
+
+-- A square of half-side 0 bars nothing.
+pub bars_point : (b : Board) (k : ℕ) {w : List ℕ} → b.half k ≡ 0 → BarsTo b k 0 w → BarsTo b (k + 1) 0 w
+bars_point b k z B = record {
+  long = B.long;
+  passed = λ i q h l t. absurd (omega arith);
+  rest = λ i q h l t. Iff.trans (B.rest i q h l t) (open_more b k i q (λ n large. absurd (omega arith)));
+}
+
+-- When no square is left these are the bars.
+pub bars_done : (b : Board) (n : ℕ) {w : List ℕ} → n ≡ b.pads → BarsTo b n 0 w → BarsOf b w
+bars_done b n e B = record { long = B.long; at = λ i q h l. rw e at (B.rest i q h l (omega arith)) }

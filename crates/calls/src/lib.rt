@@ -102,9 +102,9 @@ pub fn draw(job: &[u8], i: u32, q: u32, points: &mut [f32]) -> Drawn
     ensures { DrawAnswers job.now i q points.old result points.new }
 {
     verdicts::of_draw(job, i, q, points.len())?;
-    let line = lead(job, i, q, points.len());
+    let line = Ok(lead(job, i, q, points.len()));
     draw::put(line, points);
-    Ok(line)
+    line
 }
 
 // Svg: the leaders of an untouching layout, best or not, as text in the first bytes of `text`. Its checks are Measure's, and weights 0 and 0 pass.

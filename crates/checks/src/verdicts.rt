@@ -25,15 +25,12 @@ fn of_sizes(job: &Job) -> Result<(), Refusal>
 
 // 2, of weights; 13, of a table.
 fn of_badness(job: &Job, bad: &Badness) -> Result<(), Refusal>
-    requires { Few job.now }
     ensures { result ≡ outcome (badness_test (board_on job.now) (badness_of bad.now)) }
 {
     match bad {
         Badness::Weights(w) => whole(Reason::BadWeight, faults::bad_weight(*w)),
         Badness::Table(figures) => {
-            let n = usize::from(job.count());
-            let p = usize::from(job.port_count());
-            whole(Reason::BadTable, figures.len() != n * p)
+            whole(Reason::BadTable, faults::bad_table(job, figures.len()))
         }
     }
 }
@@ -98,8 +95,8 @@ fn of_shared(job: &Job) -> Result<(), Refusal>
     ensures { result ≡ verdict (shared_tests job.now.pads.now) }
 {
     let n = job.count();
-    stood(Reason::NameTwice, n, |i, j| job.name(i) == job.name(j))?;
-    stood(Reason::XTwice, n, |i, j| job.x(i) == job.x(j))
+    stood(Reason::NameTwice, n, |i, j| faults::same_name(job, i, j))?;
+    stood(Reason::XTwice, n, |i, j| faults::same_x(job, i, j))
 }
 
 // 5 and 12 of the ports, 6 and 7 of the pads.
@@ -113,7 +110,8 @@ fn of_board(job: &Job) -> Result<(), Refusal>
     of_shared(job)
 }
 
-// 4 to 7, and 12 directly after 5.
+// 4 to 7, and 12 directly after 5. It goes into its callers, since Draw's stack has no room for a job in memory.
+#[inline(always)]
 pub fn of_job(job: &Job) -> Result<(), Refusal>
     requires { Short job.now }
     ensures { result ≡ verdict (on_job job_tests job.now) }

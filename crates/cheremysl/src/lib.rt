@@ -4,6 +4,7 @@
 
 ghost use Rattle.std.specs.Prelude.{◌≡◌, ℤ, length};
 ghost use Rattle.paper.specs.Job.{records, slots};
+ghost use Rattle.paper.specs.Given.{badness_of};
 ghost use Rattle.paper.specs.Layouts.{by_weights, by_table};
 ghost use Rattle.paper.specs.Promises.{refusal_number, number, counted_number, drawn_number};
 ghost use Rattle.paper.specs.Promises.{FirstPromise, NextPromise, PagePromise, MeasurePromise, DrawPromise, WorkPromise};
@@ -79,6 +80,19 @@ impl ForC for Drawn {
     }
 }
 
+// Two weights, as C passes them; and what a leader costs by them.
+fn pair(length: u32, bend: u32) -> Weights
+    ensures { result ≡ record { length = length; bend = bend } }
+{
+    Weights { length, bend }
+}
+
+fn cost(length: u32, bend: u32) -> Badness<'static>
+    ensures { badness_of result ≡ by_weights length bend }
+{
+    Badness::Weights(pair(length, bend))
+}
+
 #[unsafe(no_mangle)]
 pub extern "C" fn cheremysl_first(
     job: &[u8],
@@ -88,11 +102,7 @@ pub extern "C" fn cheremysl_first(
 ) -> i64
     ensures { FirstPromise (records job.now) (by_weights length_weight bend_weight) None layout.old result layout.new }
 {
-    let weights = Weights {
-        length: length_weight,
-        bend: bend_weight,
-    };
-    calls::first(job, Badness::Weights(weights), layout).for_c()
+    calls::first(job, cost(length_weight, bend_weight), layout).for_c()
 }
 
 #[unsafe(no_mangle)]
@@ -104,11 +114,7 @@ pub extern "C" fn cheremysl_next(
 ) -> i64
     ensures { NextPromise (records job.now) (by_weights length_weight bend_weight) None layout.old result layout.new }
 {
-    let weights = Weights {
-        length: length_weight,
-        bend: bend_weight,
-    };
-    calls::next(job, Badness::Weights(weights), layout).for_c()
+    calls::next(job, cost(length_weight, bend_weight), layout).for_c()
 }
 
 #[unsafe(no_mangle)]
@@ -121,11 +127,7 @@ pub extern "C" fn cheremysl_page(
 ) -> i64
     ensures { PagePromise (records job.now) (by_weights length_weight bend_weight) None layout.now page.old result page.new }
 {
-    let weights = Weights {
-        length: length_weight,
-        bend: bend_weight,
-    };
-    calls::page(job, Badness::Weights(weights), layout, page).for_c()
+    calls::page(job, cost(length_weight, bend_weight), layout, page).for_c()
 }
 
 #[unsafe(no_mangle)]
@@ -137,11 +139,7 @@ pub extern "C" fn cheremysl_measure(
 ) -> i64
     ensures { MeasurePromise (records job.now) (by_weights length_weight bend_weight) layout.now result }
 {
-    let weights = Weights {
-        length: length_weight,
-        bend: bend_weight,
-    };
-    calls::measure(job, Badness::Weights(weights), layout).for_c()
+    calls::measure(job, cost(length_weight, bend_weight), layout).for_c()
 }
 
 #[unsafe(no_mangle)]
@@ -154,11 +152,7 @@ pub extern "C" fn cheremysl_count(
     ensures count_promise { CountPromise (records job.now) (by_weights length_weight bend_weight) (length buffer.old) result }
     ensures buffer_promise { BufferPromise result buffer.old buffer.new }
 {
-    let weights = Weights {
-        length: length_weight,
-        bend: bend_weight,
-    };
-    calls::count(job, Badness::Weights(weights), buffer).for_c()
+    calls::count(job, cost(length_weight, bend_weight), buffer).for_c()
 }
 
 #[unsafe(no_mangle)]
@@ -174,11 +168,7 @@ pub extern "C" fn cheremysl_place(
         result layout.new }
     ensures buffer_promise { BufferPromise result buffer.old buffer.new }
 {
-    let weights = Weights {
-        length: length_weight,
-        bend: bend_weight,
-    };
-    calls::place(job, Badness::Weights(weights), place, layout, buffer).for_c()
+    calls::place(job, cost(length_weight, bend_weight), place, layout, buffer).for_c()
 }
 
 #[unsafe(no_mangle)]
@@ -215,11 +205,7 @@ pub extern "C" fn cheremysl_slots_first(
         layout.old result layout.new }
     ensures work_promise { WorkPromise result work.old work.new }
 {
-    let weights = Weights {
-        length: length_weight,
-        bend: bend_weight,
-    };
-    calls::slotted::first(pads, ports, weights, layout, work).for_c()
+    calls::slotted::first(pads, ports, pair(length_weight, bend_weight), layout, work).for_c()
 }
 
 #[unsafe(no_mangle)]
@@ -235,11 +221,7 @@ pub extern "C" fn cheremysl_slots_next(
         layout.old result layout.new }
     ensures work_promise { WorkPromise result work.old work.new }
 {
-    let weights = Weights {
-        length: length_weight,
-        bend: bend_weight,
-    };
-    calls::slotted::next(pads, ports, weights, layout, work).for_c()
+    calls::slotted::next(pads, ports, pair(length_weight, bend_weight), layout, work).for_c()
 }
 
 #[unsafe(no_mangle)]
@@ -252,11 +234,7 @@ pub extern "C" fn cheremysl_slots_measure(
 ) -> i64
     ensures { MeasurePromise (slots pads.now ports.now) (by_weights length_weight bend_weight) layout.now result }
 {
-    let weights = Weights {
-        length: length_weight,
-        bend: bend_weight,
-    };
-    calls::slotted::measure(pads, ports, weights, layout).for_c()
+    calls::slotted::measure(pads, ports, pair(length_weight, bend_weight), layout).for_c()
 }
 
 #[unsafe(no_mangle)]

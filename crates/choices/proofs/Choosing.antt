@@ -40,22 +40,33 @@ strip_ready {order} {T} {lo} {hi} {w = w} W m inside E = record {
 
 -- What `choose` finds in a strip a .. b - 1.
 module _ (B : Grid) (order : List ℕ) (m a b from : ℕ) where
-  pub choose_next : b ≤ 128 → (r : Option ℕ)
-      → MatchOption r (NextPort (Leads B order m a b) (max a from) b b) (λ q. NextPort (Leads B order m a b) (max a from) b q × (q < b))
-      → Choice (Leads B order m a b) from r
-  choose_next few None N = record {
+  pub choose_past : b ≤ max a from → Chosen (Leads B order m a b) from 128
+  choose_past h = record {
     start = λ u. absurd (omega arith);
     found = λ u. absurd (omega arith);
-    passed = λ i u v l. N.passed i (omega (arith, l.low)) (omega (arith, l.high)) l;
+    passed = λ i u v l. absurd (omega (arith, l.low, l.high));
   }
-  choose_next few (Some q) (N, h) = (
-    record {
+
+  module _ (q : ℕ) (N : NextPort (Leads B order m a b) (max a from) b q) where
+    pub choose_none : b ≤ q → Chosen (Leads B order m a b) from 128
+    choose_none h = record {
+      start = λ u. absurd (omega arith);
+      found = λ u. absurd (omega arith);
+      passed = λ i u v l. N.passed i (omega (arith, l.low)) (omega (arith, l.high)) l;
+    }
+
+    pub choose_found : q < b → Chosen (Leads B order m a b) from q
+    choose_found h = record {
       start = λ u. omega (arith, N.start);
       found = λ u. N.found h;
       passed = λ i u v l. N.passed i (omega (arith, l.low)) v l;
-    },
-    omega arith,
-  )
+    }
+
+  pub choose_next : b ≤ 128 → (r : Option ℕ)
+      → MatchOption r (NextPort (Leads B order m a b) (max a from) b b) (λ q. NextPort (Leads B order m a b) (max a from) b q × (q < b))
+      → Choice (Leads B order m a b) from r
+  choose_next few None N = choose_none b N (omega arith)
+  choose_next few (Some q) (N, h) = (choose_found q N h, omega arith)
 
 -- An answer that is none.
 pub choice_none : (Q : ℕ → Type 0) (from : ℕ) (r : Option ℕ) → is_some r ≡ false → Choice Q from r → Chosen Q from 128

@@ -1,5 +1,5 @@
 -- Laws of what a walk remembers: what each search leaves is true, and current where it was.
-use mathlib.Core.Path.{◌≡◌, ◌∙◌}
+use mathlib.Core.Path.{◌≡◌, refl, ◌∙◌}
 use mathlib.Core.List.{List}
 use Prim.Native.Nat.{ℕ, ◌+◌, ◌-◌, ◌≤◌, ◌<◌}
 use native.Mathlib.Omega.{arith}
@@ -26,6 +26,9 @@ alike_set xs i x k p q r s = record {
   most = get_or-set_other xs i (192 + k) x 0 s;
 }
 
+alike_trans : {xs ys zs : List ℕ} {k : ℕ} → Alike xs ys k → Alike ys zs k → Alike xs zs k
+alike_trans A B = record { start = B.start ∙ A.start; stop = B.stop ∙ A.stop; least = B.least ∙ A.least; most = B.most ∙ A.most }
+
 module _ {order : List ℕ} {T : Source} {lo hi xs ys : List ℕ} (K : Known order T lo hi xs) (k : ℕ) (few : k < 64) (A : Alike xs ys k) where
   least_alike : 0 < least_at ys k → Chosen (LeadsAt order T lo hi ys k) 0 (least_at ys k - 1)
   least_alike h = rw (A.start, A.stop, A.least) (K.least k few (rw A.least at h))
@@ -35,6 +38,54 @@ module _ {order : List ℕ} {T : Source} {lo hi xs ys : List ℕ} (K : Known ord
 
 current_alike : {p : ℕ} {order lo hi xs ys : List ℕ} (w : List ℕ) {k : ℕ} → Alike xs ys k → Current p order lo hi w xs k → Current p order lo hi w ys k
 current_alike w A f h = let s = f (rw A.most at h) in record { start = A.start ∙ s.start; stop = A.stop ∙ s.stop }
+
+-- ---- noting a strip
+
+pub noted_same : (xs : List ℕ) (m a b : ℕ) → start_at xs m ≡ a → stop_at xs m ≡ b → Noted m a b xs xs
+noted_same xs m a b p q = record {
+  long = refl;
+  start = p;
+  stop = q;
+  least = λ h. refl;
+  most = λ h. refl;
+  others = λ k l n. record { start = refl; stop = refl; least = refl; most = refl };
+}
+
+module _ (xs : List ℕ) (m a b : ℕ) (long : length xs ≡ 256) (few : m < 64) where
+  abbrev one : List ℕ
+  one = set xs m a
+
+  abbrev two : List ℕ
+  two = set one (64 + m) b
+
+  abbrev three : List ℕ
+  three = set two (128 + m) 0
+
+  abbrev four : List ℕ
+  four = set three (192 + m) 0
+
+  pub noted_set : Noted m a b xs four
+  noted_set =
+      record {
+        long = length-set three (192 + m) 0 ∙ length-set two (128 + m) 0 ∙ length-set one (64 + m) b ∙ length-set xs m a;
+        start = get_or-set_other three (192 + m) m 0 0 (λ e. omega arith) ∙ get_or-set_other two (128 + m) m 0 0 (λ e. omega arith)
+            ∙ get_or-set_other one (64 + m) m b 0 (λ e. omega arith) ∙ get_or-set_same xs m a 0 (omega arith);
+        stop = get_or-set_other three (192 + m) (64 + m) 0 0 (λ e. omega arith) ∙ get_or-set_other two (128 + m) (64 + m) 0 0 (λ e. omega arith)
+            ∙ get_or-set_same one (64 + m) b 0 (omega (arith, length-set xs m a));
+        least = λ h. absurd (omega (arith, no_least));
+        most = λ h. absurd (omega (arith, no_most));
+        others = λ k l n. alike_trans (alike_set xs m a k n (λ e. omega arith) (λ e. omega arith) (λ e. omega arith))
+            (alike_trans (alike_set one (64 + m) b k (λ e. omega arith) (λ e. n (omega arith)) (λ e. omega arith) (λ e. omega arith))
+            (alike_trans (alike_set two (128 + m) 0 k (λ e. omega arith) (λ e. omega arith) (λ e. n (omega arith)) (λ e. omega arith))
+            (alike_set three (192 + m) 0 k (λ e. omega arith) (λ e. omega arith) (λ e. omega arith) (λ e. n (omega arith)))));
+      }
+    where
+      no_least : least_at four m ≡ 0
+      no_least = get_or-set_other three (192 + m) (128 + m) 0 0 (λ e. omega arith)
+          ∙ get_or-set_same two (128 + m) 0 0 (omega (arith, length-set xs m a, length-set one (64 + m) b))
+
+      no_most : most_at four m ≡ 0
+      no_most = get_or-set_same three (192 + m) 0 0 (omega (arith, length-set xs m a, length-set one (64 + m) b, length-set two (128 + m) 0))
 
 -- ---- what a search at place m has, and what it leaves
 
@@ -97,6 +148,9 @@ strip_below {order} {lo} {hi} {w} T m from q few S C none r l = go (dec_lt r fro
 
 -- Nothing is looked for where the pad's port is remembered as the largest.
 module _ {order : List ℕ} {T : Source} {lo hi w xs : List ℕ} (m : ℕ) (K : Known order T lo hi xs) (c : Current T.ports order lo hi w xs m) where
+  pub learnt_same : Learnt order T lo hi w m xs xs
+  learnt_same = record { facts = K; here = c; others = λ k l f. f }
+
   pub most_chosen : (from : ℕ) → m < 64 → most_at xs m ≡ from → 0 < from → Chosen (At (grid_on order T lo hi) T.ports order (port_in w) m) from 128
   most_chosen from few e h = strip_chosen T m from 128 (c some) (record {
     start = λ u. absurd (omega arith);
@@ -188,6 +242,10 @@ module _ {order : List ℕ} {T : Source} {lo hi w xs ys : List ℕ} (m : ℕ) (f
 pub memory_again : {order : List ℕ} {T : Source} {lo hi w xs ys : List ℕ} (u m : ℕ) → u ≤ 64 → Memory order T lo hi w u xs → Learnt order T lo hi w m xs ys
     → Memory order T lo hi w u ys
 memory_again u m few M L = record { facts = L.facts; current = λ k l. L.others k (omega arith) (M.current k l) }
+
+-- .. for fewer places, ..
+pub memory_part : {order : List ℕ} {T : Source} {lo hi w xs : List ℕ} (u m : ℕ) → m ≤ u → Memory order T lo hi w u xs → Memory order T lo hi w m xs
+memory_part u m h M = record { facts = M.facts; current = λ k l. M.current k (omega arith) }
 
 -- .. for one place more, ..
 pub memory_more : {order : List ℕ} {T : Source} {lo hi w xs ys : List ℕ} (m : ℕ) → m < 64 → Memory order T lo hi w m xs → Learnt order T lo hi w m xs ys

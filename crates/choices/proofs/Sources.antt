@@ -13,19 +13,37 @@ use Rattle.strips.specs.Least as least
 use Rattle.strips.specs.Grid.{Grid, best}
 use Rattle.pads.specs.Pads.{Pads}
 use Rattle.pads.specs.Counts.{le_or_lt}
-use Rattle.totals.specs.Cell.{figures, grid_of, Leads, NextPort}
+use Rattle.totals.specs.Cell.{figures, grid_of, FullFrom, Leads, NextPort}
 use Rattle.totals.specs.Totals.{Capped}
 use Rattle.totals.proofs.Cells.{figures_cheap}
-use Rattle.slots.specs.Slots.{figures_in, slot_grid, stored}
+use Rattle.slots.specs.Slots.{figures_in, slot_grid, stored, Inside}
 use Rattle.slots.proofs.Values.{figure_cheap}
 use Rattle.slots.proofs.Layers.{whole_none}
 use Rattle.choices.specs.Source.{Source, figures_on, grid_on, Full, Right, slots_grid, full_grid}
+use Rattle.choices.specs.Choices.{Ready}
 
 -- What the search of either table answers.
 abbrev Answers : Grid → List ℕ → ℕ → ℕ → ℕ → ℕ → Option ℕ → Type 0
 Answers B order m a b from r = MatchOption r (NextPort (Leads B order m a b) from b b) (λ q. NextPort (Leads B order m a b) from b q × (q < b))
 
 module _ (order : List ℕ) (T : Source) (lo hi : List ℕ) where
+  -- What each of the two asks for.
+  module _ (none : length T.heads ≡ 0) where
+    pub slots_inside : (m a b : ℕ) → Ready (grid_on order T lo hi) order T.ports m a b
+        → Inside (slot_grid order lo hi T.ports T.totals) order T.ports m a b
+    slots_inside m a b R = record { ports = R.ports; listed = R.listed; here = record { low = R.here.low; high = R.here.high } }
+
+  pub full_pads : Full order T lo hi → Pads order lo hi T.ports → Pads order lo hi (length order)
+  full_pads F P = subst (Pads order lo hi) F.ports P
+
+  module _ (some : length T.heads ≡ 0 → ⊥) where
+    pub full_ready : (m a b : ℕ) → Full order T lo hi → Ready (grid_on order T lo hi) order T.ports m a b
+        → FullFrom (grid_of order T.costs T.bars lo hi) order m a b
+    full_ready m a b F R =
+        let S = subst (λ (B : Grid). Ready B order T.ports m a b) (full_grid order T lo hi some) R in
+        record { ports = omega (arith, S.ports, F.ports); listed = S.listed; here = S.here; full = S.full (sym F.ports) }
+
+  -- What each answers.
   module _ (none : length T.heads ≡ 0) (m a b : ℕ) where
     pub slots_next : (from : ℕ) (r : Option ℕ) → Answers (slot_grid order lo hi T.ports T.totals) order m a b from r
         → Answers (grid_on order T lo hi) order m a b from r

@@ -10,7 +10,7 @@ use lib.Seq.{get_or-set_same, get_or-set_other}
 use Rattle.strips.specs.Grid.{Grid}
 use Rattle.totals.specs.Cell.{corner_of, place}
 use Rattle.totals.proofs.Corners.{corner_step, corner_twice, corner_mono, corner_top, place-listed, place_end, place_start}
-use Rattle.counting.specs.Counting.{limit, not_yet, Solved, SetsOf, CountOf, Countable, Numbers, EmptyKept}
+use Rattle.counting.specs.Counting.{limit, not_yet, Solved, Marked, SetsOf, CountOf, Countable, Numbers, EmptyKept}
 use Rattle.counting.proofs.Sums.{empty_count}
 
 -- The lent room is enough.
@@ -36,6 +36,14 @@ ports_few n h = go (dec_le n 64)
     go (no l) = let m = corner_mono 66 (n + 1) (omega arith) in absurd (omega arith)
 
 -- ---- the sets
+
+-- Lists with the same sets mark the same boards.
+pub marked_same : {x y : List ℕ} {B : Grid} {order : List ℕ} → ((i : ℕ) → i < corner_of (length order + 1) → get_or y i 0 ≡ get_or x i 0)
+    → Marked B order x → Marked B order y
+marked_same {order = order} same M = record {
+  listed = M.listed;
+  led = λ a b l O. rw (same (place a b) (place-listed a b (length order) O.low O.high)) (M.led a b l O);
+}
 
 module _ {B : Grid} {order ms : List ℕ} (S : SetsOf B order ms) where
   pub sets_few : length ms ≤ 2145 → length order ≤ 64

@@ -18,8 +18,8 @@ use Rattle.numbers.specs.Arrangement.{Arrangement}
 use Rattle.pads.specs.Pads.{Pads, sides_of}
 use Rattle.totals.specs.Strip.{grid}
 use Rattle.pads.specs.declared.Lists.{Lists}
-use Rattle.totals.specs.Cell.{corner_of, place}
-use Rattle.totals.proofs.Corners.{place-listed}
+use Rattle.totals.specs.Cell.{corner_of}
+use Rattle.counting.proofs.Buffers.{marked_same}
 use Rattle.choices.specs.Lists.{distinct}
 use Rattle.counting.specs.Counting.{limit, capped, costed, SetsOf, CountOf, Countable, Ready, Solvable, pads_from, Solved, StripCount, CountIs, Walkable, Placeable, WalkIs, FoundIs, PastIs, AboveIs}
 
@@ -61,13 +61,7 @@ module _ {B : Grid} {order : List ℕ} (L : Listed B (length order) order) (S : 
 -- The front of a lent buffer that is ready has the board's sets: ..
 pub ready_sets : {l : Lists} {C : ℕ → ℕ → Least} {bf ms : List ℕ} → Ready l C bf → length ms ≡ corner_of (length l.order.now + 1)
     → ((i : ℕ) → i < corner_of (length l.order.now + 1) → get_or ms i 0 ≡ get_or bf i 0) → SetsOf (costed l C) l.order.now ms
-ready_sets {l} R long same = record {
-  long = long;
-  marked = record {
-    listed = R.marked.listed;
-    led = λ a b h O. rw (same (place a b) (place-listed a b (length l.order.now) O.low O.high)) (R.marked.led a b h O);
-  };
-}
+ready_sets R long same = record { long = long; marked = marked_same same R.marked }
 
 -- .. the whole can be counted, and its number is the count.
 module _ {l : Lists} {C : ℕ → ℕ → Least} {bf ms : List ℕ} (R : Ready l C bf) (S : SetsOf (costed l C) l.order.now ms) where

@@ -1,2 +1,3 @@
 -- Laws that several proofs of `draw` cite.
 pub mod Bits
+pub mod Setting

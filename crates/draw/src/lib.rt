@@ -7,7 +7,7 @@ ghost use Rattle.paper.specs.Promises.{overwritten};
 ghost use Rattle.paper.specs.laws.Quarter.{quarter};
 ghost use Rattle.paper.specs.laws.Drawn.{OnSheet, canvas, leader_drawn};
 
-use paper::{Point, Polyline};
+use paper::{Drawn, Point, Polyline};
 
 // A quarter of a whole number: a quarter of a canvas unit is one job unit. Exact below 2^24. The number has 32 bits, and is
 // cast and multiplied alone: beside another the machine would multiply what the caller left in the register as well, which
@@ -57,17 +57,18 @@ pub fn lead(x: u32, y: i64, q: i64) -> Polyline
     }
 }
 
-// Writes the points' coordinates, x before y.
-pub fn put(line: Polyline, out: &mut [f32])
-    requires { length (coordinates (Ok line)) ≤ length out.old }
-    ensures { out.new ≡ overwritten (coordinates (Ok line)) out.old }
+// Writes the points' coordinates, x before y. A refusal has none.
+pub fn put(drawn: Drawn, out: &mut [f32])
+    requires { length (coordinates drawn) ≤ length out.old }
+    ensures { out.new ≡ overwritten (coordinates drawn) out.old }
 {
-    match line {
-        Polyline::Straight { pad, port } => {
+    match drawn {
+        Ok(Polyline::Straight { pad, port }) => {
             out[..4].copy_from_slice(&[pad.x, pad.y, port.x, port.y]);
         }
-        Polyline::Bent { pad, bend, port } => {
+        Ok(Polyline::Bent { pad, bend, port }) => {
             out[..6].copy_from_slice(&[pad.x, pad.y, bend.x, bend.y, port.x, port.y]);
         }
+        Err(_) => {}
     }
 }

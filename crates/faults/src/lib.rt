@@ -8,7 +8,7 @@ ghost use Rattle.std.specs.Int.Signed.{mag, lt_z};
 ghost use Rattle.paper.specs.Job.{count, last_of, port_of};
 ghost use Rattle.paper.specs.Layouts.{held, leader};
 ghost use Rattle.paper.specs.Refusals.{work_needed, buffer_needed};
-ghost use Rattle.paper.specs.laws.Tests.{bad_size, bad_weight, outside, bad_last, bad_field, bad_height, not_above, too_close, between, leaders_touch, meets, meets_large, records_touch, bad_number};
+ghost use Rattle.paper.specs.laws.Tests.{bad_size, bad_weight, bad_table, outside, bad_last, bad_field, bad_height, not_above, too_close, same_name, same_x, between, leaders_touch, meets, meets_large, records_touch, bad_number};
 ghost use Rattle.job.specs.Board.{board_on, pads_on, ports_on};
 ghost use Rattle.faults.specs.Drawn.{leader_of, square_of};
 
@@ -45,6 +45,22 @@ pub fn bad_weight(w: Weights) -> bool
     ensures { result ≡ bad_weight w.length w.bend }
 {
     (1000 < w.length) | (1000 < w.bend)
+}
+
+// 13: the table's length. Of a job of any size the product n * p could wrap, a quotient and a remainder cannot.
+pub fn bad_table(job: &Job, figures: usize) -> bool
+    ensures { result ≡ bad_table (pads_on job.now) (ports_on job.now) figures }
+{
+    let n = job.pads.len() / 16;
+    let p = match job.form {
+        Form::Records => job.ports.len() / 16,
+        Form::Slots => job.ports.len() / 4,
+    };
+    if n == 0 {
+        figures != 0
+    } else {
+        (figures / n != p) | (figures % n != 0)
+    }
 }
 
 // 4: the fields of record i.
@@ -109,6 +125,21 @@ pub fn too_close(job: &Job, q: u16) -> bool
     ensures { result ≡ too_close job.now.form job.now.ports.now q }
 {
     rises_less(job, q, 8)
+}
+
+// 6, 7: records i and j.
+pub fn same_name(job: &Job, i: u16, j: u16) -> bool
+    requires { (i < pads_on job.now) × (j < pads_on job.now) }
+    ensures { result ≡ same_name job.now.pads.now i j }
+{
+    job.name(i) == job.name(j)
+}
+
+pub fn same_x(job: &Job, i: u16, j: u16) -> bool
+    requires { (i < pads_on job.now) × (j < pads_on job.now) }
+    ensures { result ≡ same_x job.now.pads.now i j }
+{
+    job.x(i) == job.x(j)
 }
 
 // 9: the leader of record i, to the port that the list has for it.

@@ -1,10 +1,13 @@
 -- What a step of laws/Parsing comes to at a place of a text, which stands for what follows it there. An answer may be such a place, as it may be the rest.
-use Rattle.std.specs.Prelude.{◌≡◌, ◌↔◌, true, false, List, ◌∷◌, ℕ, ◌+◌, ◌*◌, ◌-◌, ◌≤◌, ◌<◌, length, get_or, drop, Option, Some, None, IfSome}
+use Rattle.std.specs.Prelude.{◌≡◌, ◌↔◌, Bool, true, false, cond, List, [], ◌∷◌, ℕ, ◌+◌, ◌*◌, ◌-◌, ◌≤◌, ◌<◌, eqb, length, get_or, drop, Option, Some, None, IfSome}
 use Rattle.std.specs.Borrow.{Bor}
-use Rattle.std.proofs.Common.{◌∙◌, add-one, arith, drop_of_length-le, drop-cons, length-drop}
+use Rattle.std.proofs.Common.{◌∙◌, refl, sym, add-one, arith, drop_of_length-le, drop-cons, length-drop}
+use Rattle.std.proofs.lemmas.List.{drop-drop}
 use borrow.Author.Tests.{eq-eqb, ne_eqb}
-use Rattle.paper.specs.laws.Parsing.{Front, got, none, skip, word_front, is_digit, cap, digits_front, natural_front, end_front, onto}
-use Rattle.fields.specs.Fronts.{rest_front, Reads}
+use Rattle.paper.specs.laws.Parsing.{Front, got, none, skip, word_front, is_digit, cap, digits_front, natural_front, below, after_minus, signed_front, quoted_front, field_front, end_front, onto}
+use Rattle.fields.specs.declared.Kind.{Kind}
+use Rattle.fields.specs.declared.Kind.TheVariants.{Name, X, Y, Natural, Signed}
+use Rattle.fields.specs.Fronts.{content_of, rest_front, Reads}
 
 -- ---- what an answer stands for: no value, or a number, and the place after it
 
@@ -162,3 +165,145 @@ reads_placed front text at (Some (v, k)) (Some said) h w = (
 reads_placed front text at None None h w = ((λ a. record { is = a.front; inside = tt }), (λ n. record { front = n.is; shorter = tt }))
 reads_placed front text at (Some p) None h w = absurd w
 reads_placed front text at None (Some r) h w = absurd w
+
+-- ---- what a step leaves is the text from a place on
+
+abbrev pub LeftOf : List ℕ → List ℕ → Type 0
+LeftOf s r = (j : ℕ) × (j ≤ length s) × (r ≡ drop j s)
+
+abbrev pub Leaves : {A : Type 0} → List ℕ → Front A → Type 0
+Leaves s (got a r) = LeftOf s r
+Leaves s none = Unit {0}
+
+left_all : (s : List ℕ) → LeftOf s s
+left_all s = (0, omega arith, refl)
+
+left_then : (s t r : List ℕ) → LeftOf s t → LeftOf t r → LeftOf s r
+left_then s t r (j, h, e) (i, k, f) = (
+  j + i,
+  omega (arith, length-drop j s, (rw e at k)),
+  f ∙ rw e (drop-drop i j s),
+)
+
+left_more : (c : ℕ) (s : List ℕ) → LeftOf (c ∷ s) s
+left_more c s = (1, omega arith, refl)
+
+leaves_then : {A : Type 0} (s t : List ℕ) (f : Front A) → LeftOf s t → Leaves t f → Leaves s f
+leaves_then s t (got a r) l m = left_then s t r l m
+leaves_then s t none l m = tt
+
+onto_leaves : {A B : Type 0} (s : List ℕ) (f : Front A) (g : A → List ℕ → Front B) → Leaves s f → ((a : A) (t : List ℕ) → Leaves t (g a t)) → Leaves s (onto f g)
+onto_leaves s (got a t) g l k = leaves_then s t (g a t) l (k a t)
+onto_leaves s none g l k = tt
+
+pub skip_leaves : (b : ℕ) (s : List ℕ) → Leaves s (skip b s)
+skip_leaves b [] = tt
+skip_leaves b (c ∷ s) = go (eqb c b)
+  where
+    go : (x : Bool) → Leaves {A = Unit {0}} (c ∷ s) (cond x (got tt s) none)
+    go true = left_more c s
+    go false = tt
+
+pub word_leaves : (w s : List ℕ) → Leaves s (word_front w s)
+unfolding word_front
+word_leaves [] s = left_all s
+word_leaves (b ∷ w) s = onto_leaves s (skip b s) (λ u t. word_front w t) (skip_leaves b s) (λ u t. word_leaves w t)
+
+pub digits_leaves : (v : ℕ) (s : List ℕ) → Leaves s (digits_front v s)
+unfolding digits_front
+digits_leaves v [] = left_all []
+digits_leaves v (c ∷ s) = go (is_digit c) (digits_leaves (cap (10 * v + (c - 48))) s)
+  where
+    go : (x : Bool) → Leaves s (digits_front (cap (10 * v + (c - 48))) s) → Leaves (c ∷ s) (cond x (digits_front (cap (10 * v + (c - 48))) s) (got v (c ∷ s)))
+    go true l = leaves_then (c ∷ s) s (digits_front (cap (10 * v + (c - 48))) s) (left_more c s) l
+    go false l = left_all (c ∷ s)
+
+pub natural_leaves : (s : List ℕ) → Leaves s (natural_front s)
+unfolding natural_front
+natural_leaves [] = tt
+natural_leaves (c ∷ s) = go (eqb c 48) (is_digit c)
+  where
+    go : (x y : Bool) → Leaves (c ∷ s) (cond x (got 0 s) (cond y (digits_front (c - 48) s) none))
+    go true y = left_more c s
+    go false true = leaves_then (c ∷ s) s (digits_front (c - 48) s) (left_more c s) (digits_leaves (c - 48) s)
+    go false false = tt
+
+below_leaves : (n : ℕ) (s : List ℕ) → Leaves s (below n s)
+below_leaves n s = go (eqb n 0)
+  where
+    go : (x : Bool) → Leaves s (cond x none (got (4294967296 - n) s))
+    go true = tt
+    go false = left_all s
+
+pub signed_leaves : (s : List ℕ) → Leaves s (signed_front s)
+unfolding signed_front
+signed_leaves s = go (skip 45 s) (skip_leaves 45 s)
+  where
+    go : (f : Front (Unit {0})) → Leaves s f → Leaves s (after_minus f s)
+    go (got u t) l = leaves_then s t (onto (natural_front t) below) l (onto_leaves t (natural_front t) below (natural_leaves t) below_leaves)
+    go none l = natural_leaves s
+
+pub content_leaves : (kind : Kind) (s : List ℕ) → Leaves s (content_of kind s)
+content_leaves Name s = word_leaves _ s
+content_leaves X s = word_leaves _ s
+content_leaves Y s = word_leaves _ s
+content_leaves Natural s = natural_leaves s
+content_leaves Signed s = signed_leaves s
+
+pub field_leaves : (f : List ℕ → Front ℕ) → ((s : List ℕ) → Leaves s (f s)) → (s : List ℕ) → Leaves s (field_front f s)
+unfolding field_front
+field_leaves f k s = go (skip 34 s) (skip_leaves 34 s)
+  where
+    go : (o : Front (Unit {0})) → Leaves s o → Leaves s (quoted_front f o s)
+    go (got u t) l = leaves_then s t (onto (f t) (λ v w. onto (skip 34 w) (λ _ r. got v r))) l
+        (onto_leaves t (f t) (λ v w. onto (skip 34 w) (λ _ r. got v r)) (k t)
+        (λ v w. onto_leaves w (skip 34 w) (λ _ r. got v r) (skip_leaves 34 w) (λ _ r. left_all r)))
+    go none l = k s
+
+pub end_leaves : (s : List ℕ) → Leaves s (end_front s)
+end_leaves [] = left_all []
+end_leaves (c ∷ s) = onto_leaves (c ∷ s) (skip 13 (c ∷ s)) (λ u t. skip 10 t) (skip_leaves 13 (c ∷ s)) (λ u t. skip_leaves 10 t)
+
+-- ---- so a clause on the rest is one on a place
+
+left_at : (text : List ℕ) (at : ℕ) (r : List ℕ) → at ≤ length text → LeftOf (drop at text) r → (k : ℕ) × (k ≤ length text) × (drop k text ≡ r)
+left_at text at r h (j, k, e) = (at + j, omega (arith, length-drop at text, k), sym (e ∙ drop-drop j at text))
+
+pub rest_placed : (front : Front (Unit {0})) (text : List ℕ) (at : ℕ) (r : Option (Bor (List ℕ))) → at ≤ length text → Leaves (drop at text) front
+    → front ≡ rest_front r → (p : Option ℕ) × RestAt text p r
+rest_placed front text at (Some rest) h l e = let (k, inside, is) = left_at text at rest.now h (rw e at l) in (Some k, (inside, is))
+rest_placed front text at None h l e = (None, tt)
+
+pub number_placed : (front : List ℕ → Front ℕ) (text : List ℕ) (at : ℕ) (r : Option (ℕ × Bor (List ℕ))) → at ≤ length text → Leaves (drop at text) (front (drop at text))
+    → Reads front (drop at text) r → (p : Option (ℕ × ℕ)) × NumberAt text p r
+number_placed front text at (Some said) h l e = let (k, inside, is) = left_at text at said.1.now h (rw e.front at l) in (Some (said.0, k), (refl, inside, is))
+number_placed front text at None h l e = (None, tt)
+
+-- A byte, a field and the end of a line, from a place on.
+pub byte_at : (b : ℕ) (text : List ℕ) (at : ℕ) (r : Option (Bor (List ℕ))) → at ≤ length text → skip b (drop at text) ≡ rest_front r
+    → IfSome r (λ rest. length rest.now + 1 ≤ length (drop at text)) → (p : Option ℕ) × RestAt text p r × Steps text (at + 1) (skip b (drop at text)) p
+byte_at b text at r h e s =
+    let (p, w) = rest_placed (skip b (drop at text)) text at r h (skip_leaves b (drop at text)) e in
+    (p, w, (steps_placed (skip b (drop at text)) text at 1 p r h w).0 (e, s))
+
+pub numbers_at : (front : List ℕ → Front ℕ) → ((s : List ℕ) → Leaves s (front s)) → (text : List ℕ) (at : ℕ) (r : Option (ℕ × Bor (List ℕ))) → at ≤ length text
+    → Reads front (drop at text) r → (p : Option (ℕ × ℕ)) × NumberAt text p r × Numbers text at (front (drop at text)) p
+numbers_at front leaves text at r h e =
+    let (p, w) = number_placed front text at r h (leaves (drop at text)) e in (p, w, (reads_placed front text at p r h w).0 e)
+
+pub field_at : (kind : Kind) (text : List ℕ) (at : ℕ) (r : Option (ℕ × Bor (List ℕ))) → at ≤ length text → Reads (field_front (content_of kind)) (drop at text) r
+    → (p : Option (ℕ × ℕ)) × NumberAt text p r × Numbers text at (field_front (content_of kind) (drop at text)) p
+field_at kind = numbers_at (field_front (content_of kind)) (field_leaves (content_of kind) (content_leaves kind))
+
+pub end_at : (text : List ℕ) (at : ℕ) (r : Option (Bor (List ℕ))) → at ≤ length text → end_front (drop at text) ≡ rest_front r
+    → IfSome r (λ rest. length rest.now ≤ length (drop at text)) → (p : Option ℕ) × RestAt text p r × Steps text at (end_front (drop at text)) p
+end_at text at r h e s =
+    let (p, w) = rest_placed (end_front (drop at text)) text at r h (end_leaves (drop at text)) e in
+    (p, w, whole p w)
+  where
+    shorter : (r : Option (Bor (List ℕ))) → IfSome r (λ rest. length rest.now ≤ length (drop at text)) → IfSome r (λ rest. length rest.now + 0 ≤ length (drop at text))
+    shorter (Some rest) l = omega arith
+    shorter None l = tt
+
+    whole : (p : Option ℕ) → RestAt text p r → Steps text at (end_front (drop at text)) p
+    whole p w = let n = (steps_placed (end_front (drop at text)) text at 0 p r h w).0 (e, shorter r s) in steps_from (omega arith) refl n

@@ -14,7 +14,8 @@ use Rattle.totals.specs.Cell as totals
 use Rattle.pads.specs.Pads.{Pads}
 use Rattle.slots.specs.Slots.{figure_of, figures_at, figures_in, Room, SlotTable, TellsLeast}
 use Rattle.slots.specs.Lending.{room_lent, figure_some}
-use Rattle.choices.specs.Source.{Source, source}
+use Rattle.choices.specs.Source.{Source, source, Right}
+use Rattle.choices.specs.Choices.{Working}
 use Rattle.steps.specs.Steps.{IsLeast}
 use Rattle.steps.specs.Totals.{best_total, slots_least, full_least}
 use Rattle.weights.specs.Rows.{lent_figure, FiguresFrom}
@@ -50,7 +51,15 @@ module _ (b : Board) {order lo hi : List ℕ} {T : Source} {cost : ℕ → ℕ �
   same_n : length order ≡ b.pads
   same_n = W.listed.arranged.long
 
-  -- An untouching layout is one to the search.
+  -- A walk on the board can start over its lists if the table is right; ..
+  pub working_on : Right order T lo hi → (start : Start) (w : List ℕ) → 0 < b.pads → StartOn start b w → (0 < length order) × Working order T lo hi w
+  working_on right start w pads s = (omega (arith, same_n), record { proper = proper W C; table = right; room = room start s })
+    where
+      room : (start : Start) → StartOn start b w → length order ≤ length w
+      room First s = omega (arith, same_n)
+      room Given s = omega (arith, same_n, s.0)
+
+  -- .. an untouching layout is one to the search.
   pub startable_on : (start : Start) (w : List ℕ) → StartOn start b w → Startable start order T lo hi w
   startable_on First w s = tt
   startable_on Given w s = untouching_sol W C (held w) s.1
@@ -89,6 +98,9 @@ module _ (b : Board) {order lo hi cs bs hs ts : List ℕ} (W : ListsOf b order l
     shut = λ j q h k o. let some : get_or bs (j * b.ports + q) 0 ≢ 0 = λ e. o ((bars.at j q h k).0 e) in rw (ne_eqb (length hs) 0 some_heads, ← even, ne_eqb (get_or bs (j * b.ports + q) 0) 0 some) refl;
   }
 
+  pub stacked_right : Right order stacked lo hi
+  stacked_right = record { full = λ h. record { ports = refl; table = made }; slotted = λ e. absurd (some_heads e) }
+
   pub stacked_least : (t : ℕ) → t ≡ least_of order cs bs lo hi → IsLeast order stacked lo hi t
   stacked_least t e = full_least order stacked lo hi t some_heads refl e
 
@@ -107,7 +119,12 @@ module _ (b : Board) (cost : ℕ → ℕ → ℕ) {bs w v : List ℕ} (bars : Ba
   unfolding figure_of
   figures_shut o = lent_as ∙ rw (ne_eqb (get_or bs (i * b.ports + q) 0) 0 (λ e. o ((bars.at i q h k).0 e))) refl
 
--- What the table then comes to.
+-- What the table asks for, of p ports and a list of so many numbers as the code has them; ..
+pub fillable : (b : Board) {order lo hi : List ℕ} (p size long : ℕ) → p ≡ b.ports → long ≡ size → ListsOf b order lo hi → Room b.pads b.ports size
+    → Pads order lo hi p × Room (length order) p long
+fillable b p size long same e W R = (rw same (pads W), rw (same, e, W.listed.arranged.long) R)
+
+-- .. and what it then comes to.
 pub tabled : (b : Board) (cost : ℕ → ℕ → ℕ) {order lo hi w v : List ℕ} (p base t : ℕ) → p ≡ b.ports → base ≡ figures_at b.pads b.ports → ListsOf b order lo hi
     → (bs : List ℕ) → BarsOf b bs → FiguresFrom b cost bs base w → ((i q : ℕ) → i < b.pads → q < b.ports → cost i q < 2 ^ 32)
     → KeptFrom (figures_at (length order) p) w v → SlotTable order lo hi p v → TellsLeast order lo hi p v t → Tabled b cost order lo hi v t
@@ -130,6 +147,10 @@ module _ (b : Board) {cost : ℕ → ℕ → ℕ} {order lo hi work : List ℕ} 
     at = λ j q h k o. rw same (M.figures j q h k o);
     shut = λ j q h k o. rw same (M.shut j q h k o);
   }
+
+  -- No table on the stack is read, whatever its figures.
+  pub lent_right : (hs cs bs : List ℕ) → length hs ≡ 0 → Right order (source hs work cs bs p) lo hi
+  lent_right hs cs bs empty = record { full = λ h. absurd (omega (arith, empty)); slotted = λ e. rw same M.table }
 
   pub lent_least : IsLeast order lent lo hi t
   lent_least = slots_least order lent lo hi t refl (rw same M.least)

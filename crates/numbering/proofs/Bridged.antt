@@ -31,9 +31,10 @@ use Rattle.paper.specs.Refusals.{NoLayout, limit, buffer_needed}
 use Rattle.board.specs.Lists.{ListsOf, SidesOf, CostsOn}
 use Rattle.board.specs.Bars.{BarsOf}
 use Rattle.board.specs.Bridge.{even_pads, proper, untouching_sol, sol_untouching, first_best, next_best, last_best}
-use Rattle.layouts.proofs.Translated.{says, stacked_costs, stacked_least}
+use Rattle.layouts.proofs.Translated.{says, stacked_costs, stacked_right, stacked_least}
 use Rattle.numbering.specs.declared.Lent.{Lent}
-use Rattle.numbering.specs.declared.Why.TheVariants.{TooMany}
+use Rattle.numbering.specs.declared.Why.{Why}
+use Rattle.numbering.specs.declared.Why.TheVariants.{NoLayout as NothingCounts, Short, TooMany, Past}
 use Rattle.numbering.specs.Outcomes.{Stacked, LentOn, why_of, CountOn, PlaceOn}
 
 module _ (b : Board) {cs bs order lo hi : List ℕ} {t : ℕ} (even : b.ports ≡ b.pads) (K : Stacked b cs bs order lo hi t) where
@@ -46,6 +47,10 @@ module _ (b : Board) {cs bs order lo hi : List ℕ} {t : ℕ} (even : b.ports �
   pub many_pads : length order ≡ b.pads
   many_pads = K.lists.listed.arranged.long
 
+  -- The lists are those of a proper board.
+  pub proper_lists : Pads order lo hi (length order) × Arrangement (length order) order
+  proper_lists = (even_pads K.lists even, rw many_pads K.lists.listed.arranged)
+
   costs : CostsOn b (figure b cs) T
   costs = stacked_costs b K.lists even K.bars K.table
 
@@ -53,7 +58,7 @@ module _ (b : Board) {cs bs order lo hi : List ℕ} {t : ℕ} (even : b.ports �
   some_heads e = omega (arith, K.table.sizes.heads)
 
   right : Right order T lo hi
-  right = record { full = λ h. record { ports = refl; table = K.table }; slotted = λ e. absurd (some_heads e) }
+  right = stacked_right b K.lists even K.bars K.table
 
   -- The board of the table is that of the search.
   abbrev grid : grid_on order T lo hi ≡ grid_of order cs bs lo hi
@@ -219,3 +224,23 @@ module _ (b : Board) (even : b.ports ≡ b.pads) (cs lent left : List ℕ) {p : 
         → PlaceOn (labeling b (figure b cs)) k before after lent used (Err (why_of e))
     not_placed NotBelow all = let F = all costs_lent ready in (M.0, (F.number, count_is b even K F.number F.is, F.few, F.past), F.same)
     not_placed Above all = let F = all costs_lent ready in (M.0, (F.number, count_is b even K F.number F.is, F.above), F.same)
+
+-- Where nothing is lent, nothing is told.
+module _ (b : Board) (cs lent left : List ℕ) (w : Why) (N : LentOn b cs lent left (Err w)) where
+  pub not_counted : CountOn (labeling b (figure b cs)) lent left (Err w)
+  not_counted = go w N
+    where
+      go : (w : Why) → LentOn b cs lent left (Err w) → CountOn (labeling b (figure b cs)) lent left (Err w)
+      go NothingCounts l = l
+      go Short l = l
+      go TooMany l = absurd l
+      go Past l = absurd l
+
+  pub not_lent : (k : ℕ) (list : List ℕ) → PlaceOn (labeling b (figure b cs)) k list list lent left (Err w)
+  not_lent k list = go w N
+    where
+      go : (w : Why) → LentOn b cs lent left (Err w) → PlaceOn (labeling b (figure b cs)) k list list lent left (Err w)
+      go NothingCounts l = (l.0, refl, l.1)
+      go Short l = (l.0, refl, l.1)
+      go TooMany l = absurd l
+      go Past l = absurd l

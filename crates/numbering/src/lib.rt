@@ -72,13 +72,11 @@ struct Lent<'a> {
 }
 
 impl Room {
-    fn empty() -> Room {
-        Room {
-            order: [0; 64],
-            lo: [0; 64],
-            hi: [0; 64],
-        }
-    }
+    const EMPTY: Room = Room {
+        order: [0; 64],
+        lo: [0; 64],
+        hi: [0; 64],
+    };
 
     // Lends the lists of a job's board, and the buffer has the ports that lead each strip. Where there is no layout, or the buffer
     // is too short, that is told, and the buffer is as it was: the bars, the table of least totals and these ports are worked out
@@ -134,7 +132,7 @@ pub fn count(job: &[u8], figures: &[u32], buffer: &mut [u64]) -> Result<u64, Why
     requires { AcceptedJob (records job.now) × Fair (board_of (records job.now)) (by_table figures.now) }
     ensures { CountOn (labeling_of (records job.now) (by_table figures.now)) buffer.old buffer.new result }
 {
-    let mut room = Room::empty();
+    let mut room = Room::EMPTY;
     let lent = room.lend(job, figures, buffer)?;
     let c = counting::count(&lent.lists, buffer);
     if LIMIT < c {
@@ -155,7 +153,7 @@ pub fn place(
     ensures { PlaceOn (labeling_of (records job.now) (by_table figures.now)) k layout.old layout.new
         buffer.old buffer.new result }
 {
-    let mut room = Room::empty();
+    let mut room = Room::EMPTY;
     let lent = room.lend(job, figures, buffer)?;
     counting::place(&lent.lists, buffer, layout, k)?;
     Ok(lent.least)

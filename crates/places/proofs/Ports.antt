@@ -79,6 +79,22 @@ module _ {order w at : List ℕ} (m : ℕ) (P : Placed order w m at) (inside : m
           let n = mem_take order m (get_or at b 0) s inside in
           omega (arith, e, ceil-below (port_in w) h (take m order) p (get_or order (get_or at b 0) 0) n (omega (arith, H.over)))
 
+-- ---- the walks to a strip's ends: a port more is free
+
+pub free_down : (at : List ℕ) (m l a : ℕ) → m ≤ get_or at (a - 1) 0 → ((q : ℕ) → a ≤ q → q < l → m ≤ get_or at q 0) → (q : ℕ) → a - 1 ≤ q → q < l → m ≤ get_or at q 0
+free_down at m l a h F q u v = go (dec_lt q a)
+  where
+    go : Dec (q < a) → m ≤ get_or at q 0
+    go (no d) = F q (omega arith) v
+    go (yes d) = let e : q ≡ a - 1 = omega arith in rw e h
+
+pub free_up : (at : List ℕ) (m h b : ℕ) → m ≤ get_or at b 0 → ((q : ℕ) → h ≤ q → q < b → m ≤ get_or at q 0) → (q : ℕ) → h ≤ q → q < b + 1 → m ≤ get_or at q 0
+free_up at m h b k F q u v = go (dec_lt q b)
+  where
+    go : Dec (q < b) → m ≤ get_or at q 0
+    go (yes d) = F q u d
+    go (no d) = let e : q ≡ b = omega arith in rw e k
+
 -- ---- entering places
 
 pub entered_none : (order w : List ℕ) → Entered order w 0 (replicate {A = ℕ} 128 64)

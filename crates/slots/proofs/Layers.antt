@@ -168,6 +168,9 @@ module _ (S : Sides) (C : ℕ → ℕ → Least) (sided : (j : ℕ) → S.lo j �
         (le_or_lt a' a);
   }
 
+  pub to_all : (k : ℕ) (w v : List ℕ) (here a : ℕ) → S.lo (get_or order k 0) < a → LayerTo S C order p k w v here a → Layer S C (drop k order) p v here
+  to_all k w v here a h T a' b' ab bp = T.cells a' b' ab bp (λ s t i. absurd (omega arith))
+
 -- ---- all layers
 
 -- the layers from that of place k on are right

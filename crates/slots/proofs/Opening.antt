@@ -14,7 +14,7 @@ use Rattle.numbers.proofs.Kept.{kept_all, kept_later, kept_twice}
 use Rattle.strips.specs.Least.{Least}
 use Rattle.pads.specs.Pads.{Sides}
 use Rattle.pads.specs.Counts.{le_or_lt, drop_at}
-use Rattle.slots.specs.Slots.{stored, opens_at, figures_at, figures_in, level, barred, open_figure, opened_of, opened_from, Written, Shuts}
+use Rattle.slots.specs.Slots.{stored, opens_at, figures_at, figures_in, level, barred, open_figure, opened_of, opened_from, Written, Shuts, Opens}
 use Rattle.slots.proofs.Spots.{row_in}
 
 -- the marks say which ports are at the height of a pad from place k on
@@ -72,3 +72,6 @@ module _ (S : Sides) (order : List ℕ) (p : ℕ) (w : List ℕ) where
           ap (λ (i : ℕ). get_or u i 0) e ∙ W.run q qp
           ∙ ap (opened_of (get_or shut q false)) (O.kept.rest (figures_at (length order) p + get_or order k 0 * p + q) (omega arith) ∙ ap (λ (i : ℕ). get_or w i 0) f)
           ∙ ap (λ (x : Bool). opened_of x (get_or w (figures_at (length order) p + (get_or order k 0 * p + q)) 0)) (M.mark q qp)
+
+  pub open_all : (v : List ℕ) → OpenFrom S (figures_in w (length order) p) order p w v 0 → Opens S (figures_in w (length order) p) order p v
+  open_all v O k q h u = O.opens k q (omega arith) h u

@@ -1,5 +1,5 @@
 -- Totals as the work list holds them: what sums and least ones of them are.
-use mathlib.Core.Path.{◌≡◌, refl, sym, ap, ◌∙◌}
+use mathlib.Core.Path.{◌≡◌, refl, sym, ap, ap₂, ◌∙◌}
 use mathlib.Core.Bool.{Bool, true, false, cond, ◌&&◌, ◌||◌, not}
 use mathlib.Core.List.{List, [], ◌∷◌}
 use Prim.Native.Nat.{ℕ, zero, suc, ◌+◌, ◌-◌, ◌^◌, ◌≤◌, ◌<◌, min, zero-le}
@@ -39,6 +39,33 @@ lowest_more f a q h =
 pub lowest_start : (f : ℕ → ℕ) (a : ℕ) → no_sum ≡ lowest f a (a - a)
 unfolding lowest
 lowest_start f a = let e : a - a ≡ 0 = omega arith in ap (λ (i : ℕ). lowest f a i) (sym e)
+
+-- The smallest of v and f q, .., f (q + 3).
+abbrev pub with_four : (ℕ → ℕ) → ℕ → ℕ → ℕ
+with_four f v q = min (min (min (min v (f q)) (f (q + 1))) (f (q + 2))) (f (q + 3))
+
+-- four ports more
+pub lowest_four : (f : ℕ → ℕ) (a q v : ℕ) → a ≤ q → v ≡ lowest f a (q - a) → with_four f v q ≡ lowest f a (q + 4 - a)
+lowest_four f a q v h e =
+    let one = lowest_more f a q h in
+    let two = lowest_more f a (q + 1) (omega arith) in
+    let three = lowest_more f a (q + 2) (omega arith) in
+    let four = lowest_more f a (q + 3) (omega arith) in
+    let b : q + 1 + 1 - a ≡ q + 2 - a = omega arith in
+    let c : q + 2 + 1 - a ≡ q + 3 - a = omega arith in
+    let d : q + 3 + 1 - a ≡ q + 4 - a = omega arith in
+    ap (λ (x : ℕ). min (min (min (min x (f q)) (f (q + 1))) (f (q + 2))) (f (q + 3))) e
+    ∙ ap (λ (x : ℕ). min (min (min x (f (q + 1))) (f (q + 2))) (f (q + 3))) one
+    ∙ ap (λ (x : ℕ). min (min x (f (q + 2))) (f (q + 3))) (two ∙ ap (λ (i : ℕ). lowest f a i) b)
+    ∙ ap (λ (x : ℕ). min x (f (q + 3))) (three ∙ ap (λ (i : ℕ). lowest f a i) c)
+    ∙ four ∙ ap (λ (i : ℕ). lowest f a i) d
+
+-- four ports, one after the other
+pub in_four : (f : ℕ → ℕ) (v q s t u w i j k : ℕ) → s ≡ min v (f q) → t ≡ min s (f i) → u ≡ min t (f j) → w ≡ min u (f k) → i ≡ q + 1 → j ≡ q + 2 → k ≡ q + 3
+    → w ≡ with_four f v q
+in_four f v q s t u w i j k one two three four x y z =
+    let least : ℕ → ℕ → ℕ = λ n m. min n (f m) in
+    four ∙ ap₂ least (three ∙ ap₂ least (two ∙ ap₂ least one x) y) z
 
 -- 0 stays the least
 lowest_drops : (f : ℕ → ℕ) (a k m : ℕ) → lowest f a (k + m) ≤ lowest f a k

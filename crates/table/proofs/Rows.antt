@@ -16,7 +16,7 @@ use Rattle.strips.specs.Grid.{Grid}
 use Rattle.strips.specs.Grid as strip
 use Rattle.pads.specs.Pads.{Sides, fits, bit, pads_in, sides_of, Pads, head_of}
 use Rattle.totals.specs.Strip.{best_within}
-use Rattle.totals.specs.Cell.{no_total, figures, grid_of, corner_of, place, coded, Cell, Rows, CopiedRow, Table, Marks, MarkedFrom}
+use Rattle.totals.specs.Cell.{no_total, figures, grid_of, corner_of, place, coded, Sizes, Cell, Rows, Parts, CopiedRow, Table, Marks, MarkedFrom}
 use Rattle.pads.specs.Counts.{le_or_lt, spans_by}
 use Rattle.totals.proofs.Corners.{corner_mono, corner_top, place-listed, place_start, place_end}
 use Rattle.totals.proofs.Cells.{cell_right}
@@ -32,7 +32,18 @@ pub long_enough : (n l : ℕ) → n ≤ 64 → l ≡ 2145 → corner_of (n + 1) 
 unfolding corner_of
 long_enough n l few e = omega (arith, corner_mono (n + 1) 65 (omega arith))
 
+-- other tables of the same length
+pub sizes_with : {hs ts hs' ts' order cs bs : List ℕ} → Sizes hs ts order cs bs → length hs' ≡ 2145 → corner_of (length order + 1) ≤ length ts'
+    → Sizes hs' ts' order cs bs
+sizes_with Z h t = record { heads = h; totals = t; square = Z.square; bars = Z.bars; cheap = Z.cheap }
+
 module _ (S : Sides) (C : ℕ → ℕ → Least) (order : List ℕ) where
+  pub row_start : (hs ts : List ℕ) (a : ℕ) → Rows S C order hs ts (a + 1) → Row S C order hs ts a a
+  row_start hs ts a R = record { after = R; done = λ b' u v. absurd (omega arith) }
+
+  pub row_parts : (hs ts : List ℕ) (a b : ℕ) → b ≤ length order → Row S C order hs ts a b → Parts S C order hs ts a b
+  row_parts hs ts a b bn R q aq qb = (R.done q aq qb, R.after (q + 1) b (omega arith) (omega arith) bn)
+
   -- a cell elsewhere is as it was
   cell_kept : (hs ts : List ℕ) (p h v a b : ℕ) → place a b ≢ p → Cell S C order a b (get_or hs (place a b) 0) (get_or ts (place a b) 0)
       → Cell S C order a b (get_or (set hs p h) (place a b) 0) (get_or (set ts p v) (place a b) 0)
@@ -51,7 +62,18 @@ module _ (S : Sides) (C : ℕ → ℕ → Least) (order : List ℕ) where
         (le_or_lt b b');
   })
 
+  pub row_end : (hs ts : List ℕ) (a b : ℕ) → length order < b → Row S C order hs ts a b → Rows S C order hs ts a
+  row_end hs ts a b h R a' b' u v w =
+      ⊎_elim
+      (λ (x : a' ≤ a). let e : a ≡ a' = omega arith in
+      subst (λ (k : ℕ). Cell S C order k b' (get_or hs (place k b') 0) (get_or ts (place k b') 0)) e (R.done b' (omega arith) (omega arith)))
+      (λ (x : a < a'). R.after a' b' (omega arith) v w)
+      (le_or_lt a' a)
+
 -- the row's short lists get each cell that the tables get
+pub copied_start : (rh rt hs ts : List ℕ) (a : ℕ) → length rh ≡ 65 → length rt ≡ 65 → CopiedRow rh rt hs ts a a
+copied_start rh rt hs ts a lh lt = record { heads = lh; totals = lt; same = λ q u v. absurd (omega arith) }
+
 same_after : (rs hs : List ℕ) (a b h p q : ℕ) → p ≡ place a b → length rs ≡ 65 → place a b < length hs → a ≤ b → b ≤ 64 → a ≤ q → q < b + 1
     → (q < b → get_or rs q 0 ≡ get_or hs (place a q) 0) → get_or (set rs b h) q 0 ≡ get_or (set hs p h) (place a q) 0
 same_after rs hs a b h p q e lr lh ab b64 aq qb was = rw e (⊎_elim
@@ -106,6 +128,9 @@ module _ (order cs bs lo hi : List ℕ) where
     pub done : (b' : ℕ) → a < b' → b' < b → place a b' < length ms → 0 < get_or hs (place a b') 0
         → Marks B order (get_or hs (place a b') 0 - 1) a b' (get_or ms (place a b') 0)
 
+  pub marked_start : (hs ms : List ℕ) (a : ℕ) → MarkedFrom order cs bs lo hi hs ms (a + 1) → MarkedRow hs ms a a
+  marked_start hs ms a R = record { after = R; done = λ b' u v. absurd (omega arith) }
+
   -- a strip elsewhere is as it was
   marks_kept : (hs ms ms' : List ℕ) (p h m a b : ℕ) → place a b ≢ p → Stored ms ms' p m
       → (place a b < length ms → 0 < get_or hs (place a b) 0 → Marks B order (get_or hs (place a b) 0 - 1) a b (get_or ms (place a b) 0))
@@ -127,6 +152,15 @@ module _ (order cs bs lo hi : List ℕ) where
       here : a < b → place a b < length ms' → 0 < get_or (set hs p h) (place a b) 0 → Marks B order (get_or (set hs p h) (place a b) 0 - 1) a b (get_or ms' (place a b) 0)
       here u l = let t = corner_top b (omega arith) in
           rw (sym e, get_or-set_same hs p h 0 (omega arith), N.here (omega (arith, N.long))) (λ w. marks (omega (arith, N.long)) u w)
+
+  pub marked_end : (hs ms : List ℕ) (a b : ℕ) → length order < b → MarkedRow hs ms a b → MarkedFrom order cs bs lo hi hs ms a
+  marked_end hs ms a b h R a' b' u v w =
+      ⊎_elim
+      (λ (x : a' ≤ a). let e : a ≡ a' = omega arith in
+      subst (λ (k : ℕ). place k b' < length ms → 0 < get_or hs (place k b') 0 → Marks B order (get_or hs (place k b') 0 - 1) k b' (get_or ms (place k b') 0)) e
+      (R.done b' (omega arith) (omega arith)))
+      (λ (x : a < a'). R.after a' b' (omega arith) v w)
+      (le_or_lt a' a)
 
 -- ---- the whole board
 

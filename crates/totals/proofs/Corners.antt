@@ -44,3 +44,10 @@ place_end a b a' b' h h' e =
 
 pub place_start : (a b a' b' : ℕ) → a ≤ b → a' ≤ b' → place a b ≡ place a' b' → a ≡ a'
 place_start a b a' b' h h' e = let n = place_end a b a' b' h h' e in let m : corner_of b ≡ corner_of b' = rw n refl in omega arith
+
+-- of two strips that start together the narrower has the earlier place
+pub place-before : (a q b : ℕ) → place a q < place a b → q < b
+place-before a q b h = ⊎_elim (λ (u : b ≤ q). absurd (let m = corner_mono b q u in omega arith)) (λ (u : q < b). u) (le_or_lt b q)
+
+pub place_after : (a q b : ℕ) → place a b ≤ place a q → b ≤ q
+place_after a q b h = ⊎_elim (λ (u : b ≤ q). u) (λ (u : q < b). absurd (let n = corner_next q b u in omega arith)) (le_or_lt b q)

@@ -36,12 +36,25 @@ with_digit m q h l =
     let f : 1 * 2 ^ q ≡ 2 ^ q = omega arith in let g : 2 ^ q + m ≡ m + 2 ^ q = omega arith in
     ap (bit_or m) (digit q h ∙ sym f) ∙ or_shifted_r 1 q m l ∙ ap (λ (k : ℕ). k + m) f ∙ g
 
--- ---- a case of `joined`: the same total
+-- ---- the three cases of `joined`
 
 module _ (v : Best) (q : ℕ) where
+  -- t is less
+  pub joined_less : (s t m : ℕ) → s < v.total → t ≡ s → m ≡ 2 ^ q → ◌≡◌ {A = Best} (record { total = s; ports = m }) (joined v t q)
+  joined_less s t m u e f = rw (e, f, lt-ltb s v.total u) refl
+
+  -- the same
   pub joined_same : (s t m : ℕ) → s ≡ v.total → s < no_total → t ≡ s → m ≡ v.ports + 2 ^ q
       → ◌≡◌ {A = Best} (record { total = v.total; ports = m }) (joined v t q)
   joined_same s t m u n e f = rw (e, f, le-ltb s v.total (omega arith), eq-eqb s v.total u, lt-ltb s no_total n) refl
+
+  -- more, or none
+  pub joined_not : (t : ℕ) → v.total ≤ t → (t ≡ v.total → t < no_total → ⊥) → v ≡ joined v t q
+  joined_not t u n = rw (le-ltb t v.total u) (go (eqb t v.total && ltb t no_total) refl)
+    where
+      go : (x : Bool) → (eqb t v.total && ltb t no_total) ≡ x → v ≡ cond x (record { total = v.total; ports = v.ports + 2 ^ q }) v
+      go true e = let w = both (eqb t v.total) (ltb t no_total) e in absurd (n (eqb-true t v.total w.0) (ltb-true t no_total w.1))
+      go false e = refl
 
 -- ---- one port more
 

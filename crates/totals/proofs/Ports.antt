@@ -1,12 +1,14 @@
 -- Laws of one port's total, as the code reads it.
-use mathlib.Core.Path.{◌≡◌, refl, ap, ◌∙◌}
-use mathlib.Core.Bool.{true, cond}
+use mathlib.Core.Path.{◌≡◌, refl, sym, ap, ◌∙◌}
+use mathlib.Core.Bool.{Bool, true, false, cond}
 use mathlib.Core.List.{List}
-use Prim.Native.Nat.{ℕ, ◌+◌, ◌≤◌, ◌<◌}
+use Prim.Native.Nat.{ℕ, ◌+◌, ◌*◌, ◌^◌, ◌≤◌, ◌<◌}
 use native.Mathlib.Omega.{arith}
-use lib.Dec.{eqb}
+use native.Mathlib.Nat.{mul-le-mul}
+use lib.Dec.{ltb, eqb}
 use lib.ListN.{length, get_or}
-use borrow.Author.Tests.{eq-eqb}
+use borrow.Author.Tests.{ltb-true, eqb-true, eqb-false, eq-eqb, ne_eqb}
+use Rattle.strips.proofs.Lists.{both}
 use Rattle.totals.specs.Cell.{no_total, place, Sizes, CopiedRow, Port, opens, sum_at, port_total}
 use Rattle.totals.proofs.Corners.{corner_top, place-listed}
 
@@ -35,6 +37,13 @@ in_row a b q K aq qb b64 = record {
 }
 
 module _ {hb tb hs ts cs bs : List ℕ} {past row q below above : ℕ} (P : Port hb tb hs ts cs bs past row q below above) where
+  -- what `sum_at` asks
+  pub port_sum_lem : opens hb hs past below above ≡ true
+      → ((below < length tb) × (above < length ts) × (row + q < length cs)) × ((get_or tb below 0 ≤ 2 ^ 38) × (get_or ts above 0 ≤ 2 ^ 38))
+  port_sum_lem e =
+      let t = both (ltb past (get_or hb below 0)) (ltb past (get_or hs above 0)) e in
+      ((P.low_total, P.high_total, P.listed), P.small (ltb-true past (get_or hb below 0) t.0) (ltb-true past (get_or hs above 0) t.1))
+
   abbrev bar : ℕ
   bar = get_or bs (row + q) 0
 
@@ -48,3 +57,46 @@ module _ {hb tb hs ts cs bs : List ℕ} {past row q below above : ℕ} (P : Port
 
     pub port_free : bar ≡ 0 → total ≡ s
     port_free z = port_by ∙ rw (eq-eqb bar 0 z) refl
+
+    pub port_barred : (bar ≡ 0 → ⊥) → total ≡ no_total
+    port_barred n = port_by ∙ rw (ne_eqb bar 0 n) refl
+
+    -- s is more than v
+    pub port_more : (v : ℕ) → v < s → v ≤ no_total → v ≤ total
+    port_more v h k = go (eqb bar 0) refl
+      where
+        go : (z : Bool) → eqb bar 0 ≡ z → v ≤ total
+        go true e = omega (arith, port_free (eqb-true bar 0 e))
+        go false e = omega (arith, port_barred (eqb-false bar 0 e))
+
+    pub port_apart : (v : ℕ) → v < s → total ≡ v → total < no_total → ⊥
+    port_apart v h = go (eqb bar 0) refl
+      where
+        go : (z : Bool) → eqb bar 0 ≡ z → total ≡ v → total < no_total → ⊥
+        go true e w x = let f = port_free (eqb-true bar 0 e) in omega arith
+        go false e w x = let f = port_barred (eqb-false bar 0 e) in omega arith
+
+    -- s is v, or not
+    pub port_equal : (v : ℕ) → (v ≡ no_total → ⊥) → s ≡ v → eqb bar 0 ≡ eqb total v
+    port_equal v ne e = go (eqb bar 0) refl
+      where
+        go : (z : Bool) → eqb bar 0 ≡ z → z ≡ eqb total v
+        go true k = sym (eq-eqb total v (port_free (eqb-true bar 0 k) ∙ e))
+        go false k = sym (ne_eqb total v (λ w. ne (sym w ∙ port_barred (eqb-false bar 0 k))))
+
+    pub port_other : (v : ℕ) → (v ≡ no_total → ⊥) → (s ≡ v → ⊥) → false ≡ eqb total v
+    port_other v ne n = sym (ne_eqb total v (go (eqb bar 0) refl))
+      where
+        go : (z : Bool) → eqb bar 0 ≡ z → total ≡ v → ⊥
+        go true k w = n (sym (port_free (eqb-true bar 0 k)) ∙ w)
+        go false k w = ne (sym w ∙ port_barred (eqb-false bar 0 k))
+
+  pub port_shut : opens hb hs past below above ≡ false → total ≡ no_total
+  port_shut e = rw e refl
+
+  pub port_unequal : (v : ℕ) → (v ≡ no_total → ⊥) → opens hb hs past below above ≡ false → false ≡ eqb total v
+  port_unequal v ne e = sym (ne_eqb total v (λ w. ne (sym w ∙ port_shut e)))
+
+-- a pad's row of figures starts early
+pub row_small : (n j : ℕ) → j < n → n ≤ 64 → j * n ≤ 4096
+row_small n j h l = mul-le-mul (let u : j ≤ 64 = omega arith in u) l

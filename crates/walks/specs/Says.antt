@@ -43,4 +43,10 @@ module _ {R S : Rules} (says : Says R S) where
   pub walks_said : (n : ℕ) (start : Start) (w page v after : List ℕ) (r : Option Walked) → Walks R n start w page v after r
       → Walks S n start w page v after r
   walks_said n start w page v after r W =
-      record { from = W.from; begins = begins_said start w W.from (is_some r) W.begins; turns = turns_said n W.from page v after r W.turns }
+      record {
+        from = W.from;
+        begins = begins_said start w W.from (is_some r) W.begins;
+        turns = turns_said n W.from page v after r W.turns;
+        total = W.total;
+        least = says.least W.total W.least;
+      }

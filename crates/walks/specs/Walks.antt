@@ -57,8 +57,10 @@ abbrev pub Turns : Rules → ℕ → List ℕ → List ℕ → List ℕ → List
 Turns R n w page v after (Some r) = Turned R n w page v after r.count × R.Least r.total
 Turns R n w page v after None = (v ≡ w) × (after ≡ page)
 
--- A walk, with its first layout.
+-- A walk, with its first layout, and the least total, also where there is no layout to start at.
 pub record Walks (R : Rules) (n : ℕ) (start : Start) (w page v after : List ℕ) (r : Option Walked) : Type 0 where
   pub from : List ℕ
   pub begins : Begins R start w from (is_some r)
   pub turns : Turns R n from page v after r
+  pub total : ℕ
+  pub least : R.Least total

@@ -1,7 +1,8 @@
 // A walk from best layout to best layout, over plain lists: those of a search of the crate `choices`, and their least total.
 #![tactic(auto)]
 
-ghost use Rattle.std.specs.Prelude.{◌≤◌, ◌<◌, length};
+ghost use Rattle.std.specs.Prelude.{◌+◌, ◌≤◌, ◌<◌, length};
+ghost use Rattle.numbers.specs.Copies.{Copied};
 ghost use Rattle.choices.specs.Over.{on};
 ghost use Rattle.steps.specs.Steps.{IsLeast, BestLayout};
 ghost use Rattle.walks.specs.Walks.{list_rules, Startable, Begins, Turned, Walks};
@@ -45,6 +46,17 @@ fn begin(start: Start, search: &Search, w: &mut [u16], least: u64) -> bool
     }
 }
 
+// The first n entries of `from`, to `to` from place `at` on.
+// Stays: `copy_from_slice` of two lists that C lends would have the archive ask for memmove.
+pub fn copy(from: &[u16], n: usize, to: &mut [u16], at: usize)
+    requires { (n ≤ length from.now) × (at + n ≤ length to.old) }
+    ensures { Copied n at from.now to.old to.new }
+{
+    for i in 0..n {
+        to[at + i] = from[i];
+    }
+}
+
 // Goes on from the best layout in w: each next one goes to the page, as many as fit, or fewer where the end comes.
 fn turn(search: &Search, w: &mut [u16], page: &mut [u16]) -> u64
     requires order_nonzero { (0 < length search.now.lists.order.now) × (length search.now.lists.order.now ≤ length w.old) }
@@ -58,7 +70,7 @@ fn turn(search: &Search, w: &mut [u16], page: &mut [u16]) -> u64
         if !steps::step(search, w, &mut known) {
             return k as u64;
         }
-        page[k * n..(k + 1) * n].copy_from_slice(&w[..n]);
+        copy(w, n, page, k * n);
     }
     most as u64
 }

@@ -20,8 +20,8 @@ returns-in_err-of_draw c =
     let p = err_from_is_err_and c.from_residual.result c.from_residual.ensures.1 in
     rw (p.1, p.2) (judged_refused _ _ _ judged c.in_err-of_draw.was, refl)
 
-pub lead-line-requires : goal.lead-line-requires
-lead-line-requires c =
+pub lead-requires : goal.lead-requires
+lead-requires c =
     let judged : Judged c.of_draw.result (draw_trials c.args.job.now c.args.i c.args.q (length c.args.points.now)) = rw c.of_draw.ensures (draw_judged c.args.job.now c.args.i c.args.q (length c.args.points.now)) in
     judged_sound _ _ judged c.in_ok-of_draw.was
 
@@ -29,13 +29,13 @@ pub put-requires : goal.put-requires
 put-requires c =
     let judged : Judged c.of_draw.result (draw_trials c.args.job.now c.args.i c.args.q (length c.args.points.now)) = rw c.of_draw.ensures (draw_judged c.args.job.now c.args.i c.args.q (length c.args.points.now)) in
     let p = judged_sound _ _ judged c.in_ok-of_draw.was in
-    omega (arith, coordinates_few (Ok c.lead-line.result), (draw_accepted c.args.job.now c.args.i c.args.q (length c.args.points.now) p).1)
+    omega (arith, coordinates_few (Ok c.lead.result), (draw_accepted c.args.job.now c.args.i c.args.q (length c.args.points.now) p).1)
 
 pub returns : goal.returns
 returns c =
     let judged : Judged c.of_draw.result (draw_trials c.args.job.now c.args.i c.args.q (length c.args.points.now)) = rw c.of_draw.ensures (draw_judged c.args.job.now c.args.i c.args.q (length c.args.points.now)) in
     let p = judged_sound _ _ judged c.in_ok-of_draw.was in
     let l = leader (board_of (records c.args.job.now)) c.args.i c.args.q in
-    let drawn : Drawn = Ok c.lead-line.result in
-    let is : Draws l drawn = subst (λ (d : Drawn). Draws l d) (sym c.lead-line.ensures) (drawn_is l (passed_on_sheet c.args.job.now c.args.i c.args.q (length c.args.points.now) p)) in
+    let drawn : Drawn = Ok c.lead.result in
+    let is : Draws l drawn = subst (λ (d : Drawn). Draws l d) (sym c.lead.ensures) (drawn_is l (passed_on_sheet c.args.job.now c.args.i c.args.q (length c.args.points.now) p)) in
     rw c.put.ensures (draw_answers c.args.job.now c.args.i c.args.q c.args.points.now drawn p is)

@@ -2,10 +2,10 @@
 use native.Mathlib.Omega.{arith}
 use Rattle.std.specs.Prelude.{None}
 use Rattle.paper.specs.Job.{records}
-use Rattle.paper.specs.Layouts.{by_weights}
+use Rattle.paper.specs.Given.{badness_of}
 use Rattle.paper.proofs.laws.Bounds.{page_counted}
 use Rattle.cheremysl.proofs.cheremysl_page.Goals as goal
 
 pub for_c-requires : goal.for_c-requires
 for_c-requires c =
-    page_counted (records c.args.job.now) (by_weights c.args.length_weight c.args.bend_weight) None c.args.layout.now c.args.page.now c.page.result _ (omega (arith, c.well_formed.1.1.1.1.0.1)) c.page.ensures
+    page_counted (records c.args.job.now) (badness_of c.cost.result) None c.args.layout.now c.args.page.now c.page.result _ (omega (arith, c.well_formed.1.1.1.1.0.1)) c.page.ensures

@@ -14,9 +14,6 @@ returns-in_err-of_sizes c =
     let p = err_from_is_err_and c.from_residual.result c.from_residual.ensures.1 in
     rw (p.1, p.2) (sym (stops (on_job size_tests c.args.job.now) _ _ (sym c.in_err-of_sizes.ensures)))
 
-pub of_badness-requires : goal.of_badness-requires
-of_badness-requires c = sizes_sound c.args.job.now c.requires (sym c.in_ok-of_sizes.ensures)
-
 pub returns-in_err-of_badness : goal.returns-in_err-of_badness
 unfolding sound_tests
 returns-in_err-of_badness c =
