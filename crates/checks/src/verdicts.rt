@@ -110,7 +110,7 @@ fn of_board(job: &Job) -> Result<(), Refusal>
     of_shared(job)
 }
 
-// 4 to 7, and 12 directly after 5. It goes into its callers, since Draw's stack has no room for a job in memory.
+// 4 to 7, and 12 directly after 5. It goes into its callers: as a call of its own it takes 16 bytes of stack more than Draw is stated to.
 #[inline(always)]
 pub fn of_job(job: &Job) -> Result<(), Refusal>
     requires { Short job.now }
