@@ -80,17 +80,17 @@ impl ForC for Drawn {
     }
 }
 
-// Two weights, as C passes them; and what a leader costs by them.
-fn pair(length: u32, bend: u32) -> Weights
+// The two weights that C passes: as weights, and as what a leader costs by.
+fn of_c(length: u32, bend: u32) -> Weights
     ensures { result ≡ record { length = length; bend = bend } }
 {
     Weights { length, bend }
 }
 
-fn cost(length: u32, bend: u32) -> Badness<'static>
+fn by_c(length: u32, bend: u32) -> Badness<'static>
     ensures { badness_of result ≡ by_weights length bend }
 {
-    Badness::Weights(pair(length, bend))
+    Badness::Weights(of_c(length, bend))
 }
 
 #[unsafe(no_mangle)]
@@ -102,7 +102,7 @@ pub extern "C" fn cheremysl_first(
 ) -> i64
     ensures { FirstPromise (records job.now) (by_weights length_weight bend_weight) None layout.old result layout.new }
 {
-    calls::first(job, cost(length_weight, bend_weight), layout).for_c()
+    calls::first(job, by_c(length_weight, bend_weight), layout).for_c()
 }
 
 #[unsafe(no_mangle)]
@@ -114,7 +114,7 @@ pub extern "C" fn cheremysl_next(
 ) -> i64
     ensures { NextPromise (records job.now) (by_weights length_weight bend_weight) None layout.old result layout.new }
 {
-    calls::next(job, cost(length_weight, bend_weight), layout).for_c()
+    calls::next(job, by_c(length_weight, bend_weight), layout).for_c()
 }
 
 #[unsafe(no_mangle)]
@@ -127,7 +127,7 @@ pub extern "C" fn cheremysl_page(
 ) -> i64
     ensures { PagePromise (records job.now) (by_weights length_weight bend_weight) None layout.now page.old result page.new }
 {
-    calls::page(job, cost(length_weight, bend_weight), layout, page).for_c()
+    calls::page(job, by_c(length_weight, bend_weight), layout, page).for_c()
 }
 
 #[unsafe(no_mangle)]
@@ -139,7 +139,7 @@ pub extern "C" fn cheremysl_measure(
 ) -> i64
     ensures { MeasurePromise (records job.now) (by_weights length_weight bend_weight) layout.now result }
 {
-    calls::measure(job, cost(length_weight, bend_weight), layout).for_c()
+    calls::measure(job, by_c(length_weight, bend_weight), layout).for_c()
 }
 
 #[unsafe(no_mangle)]
@@ -152,7 +152,7 @@ pub extern "C" fn cheremysl_count(
     ensures count_promise { CountPromise (records job.now) (by_weights length_weight bend_weight) (length buffer.old) result }
     ensures buffer_promise { BufferPromise result buffer.old buffer.new }
 {
-    calls::count(job, cost(length_weight, bend_weight), buffer).for_c()
+    calls::count(job, by_c(length_weight, bend_weight), buffer).for_c()
 }
 
 #[unsafe(no_mangle)]
@@ -168,7 +168,7 @@ pub extern "C" fn cheremysl_place(
         result layout.new }
     ensures buffer_promise { BufferPromise result buffer.old buffer.new }
 {
-    calls::place(job, cost(length_weight, bend_weight), place, layout, buffer).for_c()
+    calls::place(job, by_c(length_weight, bend_weight), place, layout, buffer).for_c()
 }
 
 #[unsafe(no_mangle)]
@@ -205,7 +205,7 @@ pub extern "C" fn cheremysl_slots_first(
         layout.old result layout.new }
     ensures work_promise { WorkPromise result work.old work.new }
 {
-    calls::slotted::first(pads, ports, pair(length_weight, bend_weight), layout, work).for_c()
+    calls::slotted::first(pads, ports, of_c(length_weight, bend_weight), layout, work).for_c()
 }
 
 #[unsafe(no_mangle)]
@@ -221,7 +221,7 @@ pub extern "C" fn cheremysl_slots_next(
         layout.old result layout.new }
     ensures work_promise { WorkPromise result work.old work.new }
 {
-    calls::slotted::next(pads, ports, pair(length_weight, bend_weight), layout, work).for_c()
+    calls::slotted::next(pads, ports, of_c(length_weight, bend_weight), layout, work).for_c()
 }
 
 #[unsafe(no_mangle)]
@@ -234,7 +234,7 @@ pub extern "C" fn cheremysl_slots_measure(
 ) -> i64
     ensures { MeasurePromise (slots pads.now ports.now) (by_weights length_weight bend_weight) layout.now result }
 {
-    calls::slotted::measure(pads, ports, pair(length_weight, bend_weight), layout).for_c()
+    calls::slotted::measure(pads, ports, of_c(length_weight, bend_weight), layout).for_c()
 }
 
 #[unsafe(no_mangle)]

@@ -1,4 +1,4 @@
--- Where a height stands; and a difference of heights in code: a cast to u64 takes it without its sign.
+-- Where a height stands; and the size of a difference of heights that is below 0, which needs no sign.
 use mathlib.Core.Path.{◌≡◌}
 use mathlib.Core.List.{List}
 use Prim.Native.Nat.{ℕ, ◌+◌, ◌*◌, ◌<◌}

@@ -7,4 +7,4 @@ use Rattle.cheremysl.proofs.cheremysl_count.Goals as goal
 
 pub for_c-requires : goal.for_c-requires
 for_c-requires c =
-    count_bounded (records c.args.job.now) (badness_of c.cost.result) (length c.args.buffer.now) c.count.result c.count.ensures.count_answers
+    count_bounded (records c.args.job.now) (badness_of c.by_c.result) (length c.args.buffer.now) c.count.result c.count.ensures.count_answers

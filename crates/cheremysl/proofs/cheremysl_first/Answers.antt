@@ -7,4 +7,4 @@ use Rattle.cheremysl.proofs.cheremysl_first.Goals as goal
 
 pub for_c-requires : goal.for_c-requires
 for_c-requires c =
-    first_bounded (records c.args.job.now) (badness_of c.cost.result) None (rw c.cost.ensures tt) c.args.layout.now c.first.result _ c.first.ensures
+    first_bounded (records c.args.job.now) (badness_of c.by_c.result) None (rw c.by_c.ensures tt) c.args.layout.now c.first.result _ c.first.ensures

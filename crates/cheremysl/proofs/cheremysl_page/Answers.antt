@@ -8,4 +8,4 @@ use Rattle.cheremysl.proofs.cheremysl_page.Goals as goal
 
 pub for_c-requires : goal.for_c-requires
 for_c-requires c =
-    page_counted (records c.args.job.now) (badness_of c.cost.result) None c.args.layout.now c.args.page.now c.page.result _ (omega (arith, c.well_formed.1.1.1.1.0.1)) c.page.ensures
+    page_counted (records c.args.job.now) (badness_of c.by_c.result) None c.args.layout.now c.args.page.now c.page.result _ (omega (arith, c.well_formed.1.1.1.1.0.1)) c.page.ensures

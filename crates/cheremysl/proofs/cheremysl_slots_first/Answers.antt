@@ -8,4 +8,4 @@ use Rattle.cheremysl.proofs.cheremysl_slots_first.Goals as goal
 
 pub for_c-requires : goal.for_c-requires
 for_c-requires c =
-    first_bounded (slots c.args.pads.now c.args.ports.now) (by_weights c.pair.result.length c.pair.result.bend) (Some (length c.args.work.now)) tt c.args.layout.now c.first.result _ c.first.ensures.first_answers
+    first_bounded (slots c.args.pads.now c.args.ports.now) (by_weights c.of_c.result.length c.of_c.result.bend) (Some (length c.args.work.now)) tt c.args.layout.now c.first.result _ c.first.ensures.first_answers

@@ -7,4 +7,4 @@ use Rattle.cheremysl.proofs.cheremysl_slots_measure.Goals as goal
 
 pub for_c-requires : goal.for_c-requires
 for_c-requires c =
-    measure_bounded (slots c.args.pads.now c.args.ports.now) (by_weights c.pair.result.length c.pair.result.bend) None tt c.args.layout.now c.measure.result c.measure.ensures
+    measure_bounded (slots c.args.pads.now c.args.ports.now) (by_weights c.of_c.result.length c.of_c.result.bend) None tt c.args.layout.now c.measure.result c.measure.ensures

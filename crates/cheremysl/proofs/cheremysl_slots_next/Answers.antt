@@ -8,4 +8,4 @@ use Rattle.cheremysl.proofs.cheremysl_slots_next.Goals as goal
 
 pub for_c-requires : goal.for_c-requires
 for_c-requires c =
-    next_bounded (slots c.args.pads.now c.args.ports.now) (by_weights c.pair.result.length c.pair.result.bend) (Some (length c.args.work.now)) tt c.args.layout.now c.next.result _ c.next.ensures.next_answers
+    next_bounded (slots c.args.pads.now c.args.ports.now) (by_weights c.of_c.result.length c.of_c.result.bend) (Some (length c.args.work.now)) tt c.args.layout.now c.next.result _ c.next.ensures.next_answers
